@@ -1,0 +1,67 @@
+-- A worked case: a text is loaded into empty tables, a list of calls follows, and what is then seen is compared in one equation, so that everything is computed once. Or a text goes through the program.
+-- Assumes nothing: these are definitions.
+use Prim.Native.Nat.{ℕ}
+use Prim.Native.String.{String, [] as nil, _∷_ as cons}
+use Prim.Native.Char.{code}
+use mathlib.Core.Path.{_≡_}
+use mathlib.Core.Bool.{Bool}
+use mathlib.Core.List.{List, [], _∷_, map}
+use lib.ListN.{length, take}
+use lib.IntN.{ℤ}
+use Rattle.state.specs.Answers.{Reply}
+use Rattle.state.specs.declared.State.{State}
+use Rattle.tables.specs.Calls.{After}
+use Rattle.load.specs.Load.{loadCall}
+use Rattle.write.specs.Write.{writeText}
+use Rattle.unhiding.specs.Texts.{emptyTables, emptyState, unhideText}
+use Rattle.unhiding.specs.Lists.{Call, Lent, Step, Trail, stepsOn}
+
+abbrev pub bytes : String → List ℕ
+bytes nil = []
+bytes (cons c s) = code c ∷ bytes s
+
+-- every table is lent as stated
+abbrev pub whole : Call → Step
+whole c = record { call = c; lent = record { clauses = 12288; literals = 16384; variables = 2048; times = 4096; links = 4096 } }
+
+-- what is seen after the calls: the replies of the load and of each call, the state, the fronts of the tables, and what Write gives
+pub record Seen : Type 0 where
+  pub replies : List Reply
+  pub mark : Bool
+  pub clauses : List ℕ
+  pub literals : List ℤ
+  pub variables : List ℤ
+  pub times : List ℕ
+  pub links : List ℤ
+  pub written : List ℕ
+
+-- as much of each table as the expectation has
+abbrev pub see : Seen → Reply → Trail → Seen
+see e first trail =
+    record {
+      replies = first ∷ trail .replies;
+      mark = trail .state .mark;
+      clauses = take (length (e .clauses)) (trail .tables .clauses);
+      literals = take (length (e .literals)) (trail .tables .literals);
+      variables = take (length (e .variables)) (trail .tables .variables);
+      times = take (length (e .times)) (trail .tables .times);
+      links = take (length (e .links)) (trail .tables .links);
+      written = writeText (trail .tables) (trail .state);
+    }
+
+abbrev pub seeFrom : Seen → List Call → After → Seen
+seeFrom e calls a = see e (a .reply) (stepsOn (map whole calls) (a .tables) (a .state))
+
+pub data Case : Type 0 where
+  -- a text, the calls, what is seen
+  calls : String → List Call → Seen → Case
+  -- an input of the program, what it prints
+  prints : String → String → Case
+
+abbrev pub Holds : Case → Type 0
+Holds (calls text cs e) = seeFrom e cs (loadCall (bytes text) emptyTables emptyState) ≡ e
+Holds (prints input output) = unhideText (bytes input) ≡ bytes output
+
+abbrev pub All : List Case → Type 0
+All [] = Unit {0}
+All (c ∷ cs) = Holds c × All cs

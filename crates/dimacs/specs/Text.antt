@@ -1,0 +1,74 @@
+-- A whole text: judged from left to right up to the first violation; if there is none, its clauses as written. Assumes nothing.
+use Prim.Native.Nat.{ℕ, zero, suc, _+_, _-_}
+use mathlib.Core.Bool.{Bool, true, false, _&&_}
+use mathlib.Core.List.{List, [], _∷_, _++_}
+use lib.ListN.{length, drop}
+use lib.Dec.{leb, ltb, eqb}
+use lib.IntN.{ℤ, pos, negℤ}
+use Rattle.dimacs.specs.Words.{Word, wordsAt}
+use Rattle.dimacs.specs.Tokens.{Meaning, bad, nought, literal, meaning}
+use Rattle.dimacs.specs.Header.{header}
+use Rattle.state.specs.declared.Refusal.{Refusal}
+use Rattle.state.specs.declared.Refusal.the-variants.{Grammar, Limit}
+use Rattle.dimacs.specs.declared.Header.{Header}
+use Rattle.dimacs.specs.declared.Header.the-variants.{NoHeader, Fields}
+use Rattle.dimacs.specs.declared.Verdict.{Verdict}
+use Rattle.dimacs.specs.declared.Verdict.the-variants.{Refused, Fits}
+
+-- what is left to a text: clauses and literals; and whether a clause has begun
+pub record Left : Type 0 where
+  pub clauses : ℕ
+  pub literals : ℕ
+  pub unfinished : Bool
+
+abbrev pub left : ℕ → ℕ → Bool → Left
+left clauses literals unfinished = record { clauses = clauses; literals = literals; unfinished = unfinished }
+
+-- the text's end
+abbrev pub judgeEnd : Left → ℕ → Verdict → Verdict
+judgeEnd l end ok = elim (l .unfinished) [ true ↦ Refused (Grammar end) | false ↦ elim (l .clauses) [ zero ↦ ok | suc _ ↦ Refused (Limit end) ] ]
+
+-- the words from left to right; `end` is the text's length, `ok` the verdict where nothing is wrong
+unfoldable pub judge : ℕ → Left → List Word → ℕ → Verdict → Verdict
+judge v l [] end ok = judgeEnd l end ok
+judge v l (w ∷ ws) end ok =
+    elim (meaning (w .bytes)) [
+      | bad ↦ Refused (Grammar (w .at))
+      | nought ↦ elim (ltb 0 (l .clauses)) [
+        | true ↦ judge v (left (l .clauses - 1) (l .literals) false) ws end ok
+        | false ↦ Refused (Limit (w .at))
+      ]
+      | literal _ n ↦ elim (ltb 0 (l .clauses) && (leb n v && ltb 0 (l .literals))) [
+        | true ↦ judge v (left (l .clauses) (l .literals - 1) true) ws end ok
+        | false ↦ Refused (Limit (w .at))
+      ]
+    ]
+
+abbrev pub judgeBody : List ℕ → Header → Verdict
+judgeBody text (NoHeader r) = Refused r
+judgeBody text (Fields v n at) = judge v (left n 16384 false) (wordsAt (drop at text) at) (length text) (Fits v n at)
+
+unfoldable pub judgeText : List ℕ → Verdict
+judgeText text = judgeBody text (header text)
+
+abbrev pub signed : Bool → ℕ → ℤ
+signed true n = negℤ (pos n)
+signed false n = pos n
+
+-- the clauses that the words spell, behind the literals of one that has begun
+unfoldable pub clausesOf : List ℤ → List Word → List (List ℤ)
+clausesOf begun [] = []
+clausesOf begun (w ∷ ws) =
+    elim (meaning (w .bytes)) [
+      | bad ↦ []
+      | nought ↦ begun ∷ clausesOf [] ws
+      | literal negative n ↦ clausesOf (begun ++ (signed negative n ∷ [])) ws
+    ]
+
+-- the text's clauses as written
+abbrev pub bodyOf : List ℕ → Verdict → List (List ℤ)
+bodyOf text (Refused r) = []
+bodyOf text (Fits v n at) = clausesOf [] (wordsAt (drop at text) at)
+
+abbrev pub textClauses : List ℕ → List (List ℤ)
+textClauses text = bodyOf text (judgeText text)

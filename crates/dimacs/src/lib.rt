@@ -1,0 +1,376 @@
+// DIMACS text: bytes, words, tokens, the header, and the judgement of a whole text. Each function is tied to its
+// definition in specs/ by one equation.
+ghost use mathlib.Core.Path.{_≡_};
+ghost use mathlib.Core.Bool.{true, false};
+ghost use Prim.Native.Nat.{_+_, _*_, _-_, _<_, _≤_, min};
+ghost use lib.ListN.{length, drop};
+ghost use Rattle.dimacs.specs.Words.{isSep, isWordByte, isDigit, span, wordsAt};
+ghost use Rattle.dimacs.specs.Tokens.{decimal, numeral, meaning, tokenBy, tokenOf};
+ghost use Rattle.dimacs.specs.Header.{comments, expect, number, lineEnd, headerRest, header};
+ghost use Rattle.dimacs.specs.Text.{judge, judgeText, left};
+use state::Refusal;
+
+// What stands at an offset of the text's body: `start` is its first byte, `next` the byte after it. A magnitude above 65,535
+// is given as 65,535.
+pub enum Token {
+    End,
+    Zero {
+        start: usize,
+        next: usize,
+    },
+    Literal {
+        negative: bool,
+        magnitude: u32,
+        start: usize,
+        next: usize,
+    },
+    Bad(usize),
+}
+
+// A piece of the header: its value (0 where it has none) and the offset after it.
+pub enum Piece {
+    Wrong(Refusal),
+    Got { value: u32, next: usize },
+}
+
+pub enum Header {
+    NoHeader(Refusal),
+    Fields { v: u32, n: u32, next: usize },
+}
+
+// The judgement of a text: refused, or what its header says.
+pub enum Verdict {
+    Refused(Refusal),
+    Fits { v: u32, n: u32, body: usize },
+}
+
+pub fn is_separator(b: u8) -> bool
+    ensures { λ r. ⌜ r ≡ isSep b ⌝ }
+{
+    if b == b' ' {
+        return true;
+    }
+    if b == b'\t' {
+        return true;
+    }
+    if b == b'\r' {
+        return true;
+    }
+    b == b'\n'
+}
+
+pub fn is_digit(b: u8) -> bool
+    ensures { λ r. ⌜ r ≡ isDigit b ⌝ }
+{
+    if b < b'0' { false } else { b <= b'9' }
+}
+
+// ---- runs of bytes
+
+pub fn separators_end(text: &[u8], at: usize) -> usize
+    ensures { λ r. ⌜ r ≡ at + span isSep (drop at (now (text .entry))) ⌝ }
+{
+    let mut i = at;
+    while i < text.len() {
+        if !is_separator(text[i]) {
+            return i;
+        }
+        i += 1;
+    }
+    i
+}
+
+pub fn word_end(text: &[u8], at: usize) -> usize
+    ensures { λ r. ⌜ r ≡ at + span isWordByte (drop at (now (text .entry))) ⌝ }
+{
+    let mut i = at;
+    while i < text.len() {
+        if is_separator(text[i]) {
+            return i;
+        }
+        i += 1;
+    }
+    i
+}
+
+pub fn digits_end(text: &[u8], at: usize) -> usize
+    ensures { λ r. ⌜ r ≡ at + span isDigit (drop at (now (text .entry))) ⌝ }
+{
+    let mut i = at;
+    while i < text.len() {
+        if !is_digit(text[i]) {
+            return i;
+        }
+        i += 1;
+    }
+    i
+}
+
+// ---- numbers
+
+// One digit more; above 65,535 the number stays there.
+fn with_digit(n: u32, b: u8) -> u32
+    requires { ⌜ n ≤ 65535 ⌝ }
+    ensures { λ r. ⌜ r ≡ min (n * 10 + (b - 48)) 65535 ⌝ }
+{
+    let d = if b < b'0' { 0 } else { (b - b'0') as u32 };
+    let m = n * 10 + d;
+    if m < 65535 { m } else { 65535 }
+}
+
+// The decimal value of some digits, or 65,535 if it is larger.
+pub fn decimal_value(part: &[u8]) -> u32
+    ensures { λ r. ⌜ r ≡ min (decimal (now (part .entry))) 65535 ⌝ }
+{
+    let mut n: u32 = 0;
+    let mut i = 0;
+    while i < part.len() {
+        n = with_digit(n, part[i]);
+        i += 1;
+    }
+    n
+}
+
+// ---- tokens
+
+fn numeral_token(part: &[u8], negative: bool, start: usize, next: usize) -> Token
+    ensures { λ r. ⌜ r ≡ tokenBy (numeral negative (now (part .entry))) start next ⌝ }
+{
+    if part.len() == 0 {
+        return Token::Bad(start);
+    }
+    if part[0] == b'0' {
+        return Token::Bad(start);
+    }
+    if digits_end(part, 0) != part.len() {
+        return Token::Bad(start);
+    }
+    Token::Literal {
+        negative,
+        magnitude: decimal_value(part),
+        start,
+        next,
+    }
+}
+
+fn word_token(part: &[u8], start: usize, next: usize) -> Token
+    ensures { λ r. ⌜ r ≡ tokenBy (meaning (now (part .entry))) start next ⌝ }
+{
+    if part.len() == 0 {
+        return Token::Bad(start);
+    }
+    if part[0] == b'-' {
+        return numeral_token(&part[1..], true, start, next);
+    }
+    if part[0] == b'0' {
+        if part.len() == 1 {
+            return Token::Zero { start, next };
+        }
+    }
+    numeral_token(part, false, start, next)
+}
+
+pub fn token_at(text: &[u8], at: usize) -> Token
+    ensures { λ r. ⌜ r ≡ tokenOf (wordsAt (drop at (now (text .entry))) at) ⌝ }
+{
+    let start = separators_end(text, at);
+    if text.len() <= start {
+        return Token::End;
+    }
+    let next = word_end(text, start);
+    word_token(&text[start..next], start, next)
+}
+
+// ---- the header
+
+// Past the comment lines.
+fn comments_end(text: &[u8]) -> Piece
+    ensures { λ r. ⌜ r ≡ comments false (now (text .entry)) 0 ⌝ }
+{
+    let mut at = 0;
+    let mut inside = false;
+    while at < text.len() {
+        let b = text[at];
+        at += 1;
+        if inside {
+            inside = b != b'\n';
+        } else {
+            if b != b'c' {
+                return Piece::Got {
+                    value: 0,
+                    next: at - 1,
+                };
+            }
+            inside = true;
+        }
+    }
+    if inside {
+        return Piece::Wrong(Refusal::Grammar(at));
+    }
+    Piece::Got { value: 0, next: at }
+}
+
+// Past the bytes `wanted`, which must stand there.
+fn expect_bytes(text: &[u8], at: usize, wanted: &[u8]) -> Piece
+    ensures { λ r. ⌜ r ≡ expect (now (wanted .entry)) (drop at (now (text .entry))) at ⌝ }
+{
+    let mut i = at;
+    let mut k = 0;
+    while k < wanted.len() {
+        if text.len() <= i {
+            return Piece::Wrong(Refusal::Grammar(i));
+        }
+        if text[i] != wanted[k] {
+            return Piece::Wrong(Refusal::Grammar(i));
+        }
+        i += 1;
+        k += 1;
+    }
+    Piece::Got { value: 0, next: i }
+}
+
+// Past a number of at most `limit`.
+fn number_at(text: &[u8], at: usize, limit: u32) -> Piece
+    requires { ⌜ limit < 65535 ⌝ }
+    ensures { λ r. ⌜ r ≡ number limit (drop at (now (text .entry))) at ⌝ }
+{
+    if text.len() <= at {
+        return Piece::Wrong(Refusal::Grammar(at));
+    }
+    let b = text[at];
+    if b == b'0' {
+        return Piece::Got {
+            value: 0,
+            next: at + 1,
+        };
+    }
+    if !is_digit(b) {
+        return Piece::Wrong(Refusal::Grammar(at));
+    }
+    let next = digits_end(text, at);
+    let value = decimal_value(&text[at..next]);
+    if limit < value {
+        return Piece::Wrong(Refusal::Limit(at));
+    }
+    Piece::Got { value, next }
+}
+
+// Past the LF of the header, or at the text's end.
+fn line_end(text: &[u8], at: usize) -> Piece
+    ensures { λ r. ⌜ r ≡ lineEnd (drop at (now (text .entry))) at ⌝ }
+{
+    if text.len() <= at {
+        return Piece::Got { value: 0, next: at };
+    }
+    if text[at] == b'\n' {
+        return Piece::Got {
+            value: 0,
+            next: at + 1,
+        };
+    }
+    Piece::Wrong(Refusal::Grammar(at))
+}
+
+// The rest of the header, behind V.
+fn read_clause_count(text: &[u8], v: u32, at: usize) -> Header
+    ensures { λ r. ⌜ r ≡ headerRest v (now (text .entry)) at ⌝ }
+{
+    let space = match expect_bytes(text, at, b" ") {
+        Piece::Wrong(r) => return Header::NoHeader(r),
+        Piece::Got { value: _, next } => next,
+    };
+    match number_at(text, space, 4096) {
+        Piece::Wrong(r) => Header::NoHeader(r),
+        Piece::Got { value, next } => match line_end(text, next) {
+            Piece::Wrong(r) => Header::NoHeader(r),
+            Piece::Got {
+                value: _,
+                next: body,
+            } => Header::Fields {
+                v,
+                n: value,
+                next: body,
+            },
+        },
+    }
+}
+
+pub fn read_header(text: &[u8]) -> Header
+    ensures { λ r. ⌜ r ≡ header (now (text .entry)) ⌝ }
+{
+    let begin = match comments_end(text) {
+        Piece::Wrong(r) => return Header::NoHeader(r),
+        Piece::Got { value: _, next } => next,
+    };
+    let p_cnf = match expect_bytes(text, begin, b"p cnf ") {
+        Piece::Wrong(r) => return Header::NoHeader(r),
+        Piece::Got { value: _, next } => next,
+    };
+    match number_at(text, p_cnf, 1024) {
+        Piece::Wrong(r) => Header::NoHeader(r),
+        Piece::Got { value, next } => read_clause_count(text, value, next),
+    }
+}
+
+// ---- the whole text
+
+// The tokens from `body` on, against what is left to the text.
+fn judge_words(text: &[u8], v: u32, n: u32, body: usize) -> Verdict
+    requires { ⌜ v < 65535 ⌝ }
+    ensures { λ r. ⌜ r ≡ judge v (left n 16384 false) (wordsAt (drop body (now (text .entry))) body) (length (now (text .entry))) (Verdict.Fits v n body) ⌝ }
+{
+    let mut at = body;
+    let mut clauses = n;
+    let mut literals: u32 = 16384;
+    let mut unfinished = false;
+    loop {
+        match token_at(text, at) {
+            Token::End => {
+                if unfinished {
+                    return Verdict::Refused(Refusal::Grammar(text.len()));
+                }
+                if clauses == 0 {
+                    return Verdict::Fits { v, n, body };
+                }
+                return Verdict::Refused(Refusal::Limit(text.len()));
+            }
+            Token::Bad(start) => return Verdict::Refused(Refusal::Grammar(start)),
+            Token::Zero { start, next } => {
+                if clauses == 0 {
+                    return Verdict::Refused(Refusal::Limit(start));
+                }
+                clauses -= 1;
+                unfinished = false;
+                at = next;
+            }
+            Token::Literal {
+                negative: _,
+                magnitude,
+                start,
+                next,
+            } => {
+                if clauses == 0 {
+                    return Verdict::Refused(Refusal::Limit(start));
+                }
+                if v < magnitude {
+                    return Verdict::Refused(Refusal::Limit(start));
+                }
+                if literals == 0 {
+                    return Verdict::Refused(Refusal::Limit(start));
+                }
+                literals -= 1;
+                unfinished = true;
+                at = next;
+            }
+        }
+    }
+}
+
+pub fn judge_text(text: &[u8]) -> Verdict
+    ensures { λ r. ⌜ r ≡ judgeText (now (text .entry)) ⌝ }
+{
+    match read_header(text) {
+        Header::NoHeader(r) => Verdict::Refused(r),
+        Header::Fields { v, n, next } => judge_words(text, v, n, next),
+    }
+}

@@ -1,0 +1,67 @@
+-- Document 01: "Failed is whole in one call. For each variable in rising order whose two literals have the same start: the literal whose interval holds both and which holds no other such literal has failed, and its complement's value is set.
+-- The opposite value already there sets the mark and ends the call. It answers how many values it set." A value that is there already with the same sign is not counted. Assumes nothing: these are definitions.
+use Prim.Native.Nat.{ℕ, zero, suc, _*_}
+use mathlib.Core.Bool.{Bool, true, false}
+use mathlib.Core.List.{List}
+use lib.IntN.{ℤ}
+use Rattle.literal.specs.Literals.{litAt, twin}
+use Rattle.walk.specs.Walk.{Stamps}
+use Rattle.stamps.specs.Columns.{columns}
+use Rattle.hidden.specs.Failed.{sameStart, failedSlot}
+use Rattle.state.specs.declared.State.{State}
+use Rattle.state.specs.declared.Pass.the-variants.{Idle}
+use Rattle.state.specs.declared.Refusal.the-variants.{Stale}
+use Rattle.state.specs.declared.Answer.the-variants.{Failed}
+use Rattle.tables.specs.Tables.{Tables, tables}
+use Rattle.tables.specs.Values.{isTrue, isFalse, setTrue}
+use Rattle.tables.specs.Calls.{After, answered, refuse, state, marked}
+use Rattle.shape.specs.Entry.{entryOf}
+use Rattle.shape.specs.declared.Entry.{Entry}
+use Rattle.shape.specs.declared.Entry.the-variants.{No, Opens, Resumes}
+
+-- the variable table, how many values were set, and whether the opposite value was met
+pub record Found : Type 0 where
+  pub variables : List ℤ
+  pub set : ℕ
+  pub opposite : Bool
+
+abbrev pub found : List ℤ → ℕ → Bool → Found
+found variables set opposite = record { variables = variables; set = set; opposite = opposite }
+
+-- the literal l is to be true: it is already; it is false; or its value is set
+abbrev pub assert : ℤ → List ℤ → ℕ → Found
+assert l variables n = elim (isTrue variables l) [ true ↦ found variables n false | false ↦ elim (isFalse variables l) [ true ↦ found variables n true | false ↦ found (setTrue variables l) (suc n) false ] ]
+
+-- variable w + 1, of slots 2w and 2w + 1
+unfoldable pub failedAt : Stamps → ℕ → ℕ → List ℤ → ℕ → Found
+failedAt σ size w variables n = elim (sameStart σ (2 * w)) [ true ↦ assert (litAt (twin (failedSlot σ size (2 * w)))) variables n | false ↦ found variables n false ]
+
+-- m variables from w on; the opposite value ends it
+unfoldable pub failedFrom : Stamps → ℕ → ℕ → ℕ → Found → Found
+failedFrom σ size zero w f = f
+failedFrom σ size (suc m) w f = elim (f .opposite) [ true ↦ f | false ↦ failedFrom σ size m (suc w) (failedAt σ size w (f .variables) (f .set)) ]
+
+-- ---- the call
+
+abbrev pub withVariables : List ℤ → Tables → Tables
+withVariables variables t = tables (t .clauses) (t .literals) variables (t .times) (t .links)
+
+abbrev pub failedReply : Found → Tables → State → After
+failedReply f t st =
+    answered (Failed (f .set)) (elim (f .opposite) [ true ↦ marked st | false ↦ state (st .v) (st .n) Idle true false ]) (withVariables (f .variables) t)
+
+unfoldable pub failedFresh : Tables → State → After
+failedFresh t st = failedReply (failedFrom (columns (t .times) (t .links)) (2 * st .v) (st .v) 0 (found (t .variables) 0 false)) t st
+
+abbrev pub unlessStale : Bool → Tables → State → After
+unlessStale true t st = failedFresh t st
+unlessStale false t st = refuse Stale st t
+
+abbrev pub failedBy : Entry → Tables → State → After
+failedBy (No r) t st = refuse r st t
+failedBy Opens t st = unlessStale (st .fresh) t st
+failedBy Resumes t st = unlessStale (st .fresh) t st
+
+-- Failed resumes no pass
+unfoldable pub failedCall : Tables → State → After
+failedCall t st = failedBy (entryOf 0 t st) t st

@@ -1,0 +1,29 @@
+-- Document 01: "An assignment makes each of 1 to V true or false. .. an assignment satisfies it if each has a literal that is true under it." Assumes nothing: these are definitions.
+use Prim.Native.Nat.{ℕ}
+use mathlib.Core.Path.{_≡_}
+use mathlib.Core.Bool.{Bool, true, false, not, _||_}
+use mathlib.Core.List.{List, [], _∷_}
+use lib.IntN.{ℤ, natAbs}
+use lib.Signed.{nonNeg}
+
+-- what an assignment of the variables makes each of them
+abbrev pub Assignment : Type 0
+Assignment = ℕ → Bool
+
+abbrev pub signed : Bool → Bool → Bool
+signed true b = b
+signed false b = not b
+
+-- the truth of a literal
+abbrev pub holds : Assignment → ℤ → Bool
+holds τ l = signed (nonNeg l) (τ (natAbs l))
+
+-- some literal of the clause is true
+abbrev pub someHolds : Assignment → List ℤ → Bool
+someHolds τ [] = false
+someHolds τ (l ∷ ls) = holds τ l || someHolds τ ls
+
+-- an assignment satisfies the clauses
+unfoldable pub Satisfies : Assignment → List (List ℤ) → Type 0
+Satisfies τ [] = Unit {0}
+Satisfies τ (c ∷ cs) = (someHolds τ c ≡ true) × Satisfies τ cs

@@ -1,0 +1,94 @@
+// Literals: a variable v or its complement -v, and their slots 2v - 2 and 2v - 1.
+ghost use mathlib.Core.Path.{_≡_};
+ghost use mathlib.Core.List.{_++_};
+ghost use Prim.Native.Nat.{_<_, _≤_, _-_};
+ghost use lib.ListN.{length, take, replicate};
+ghost use lib.IntN.{natAbs, negℤ, pos};
+ghost use Rattle.literal.specs.Literals.{Small, inRange, slotOf, litAt, twin};
+ghost use Rattle.literal.specs.Clauses.{has};
+
+// Whether l is a literal of the variables 1 to v; the smallest i32 is none.
+pub fn in_range(l: i32, v: u32) -> bool
+    ensures { λ r. ⌜ r ≡ inRange l v ⌝ }
+{
+    if l == 0 {
+        return false;
+    }
+    if l == -2147483648 {
+        return false;
+    }
+    if l < 0 {
+        return (-l) as u32 <= v;
+    }
+    l as u32 <= v
+}
+
+pub fn complement(l: i32) -> i32
+    requires { ⌜ Small l ⌝ }
+    ensures { λ r. ⌜ r ≡ negℤ l ⌝ }
+{
+    -l
+}
+
+pub fn var_of(l: i32) -> usize
+    requires { ⌜ Small l ⌝ }
+    ensures { λ r. ⌜ r ≡ natAbs l ⌝ }
+{
+    if l < 0 { (-l) as usize } else { l as usize }
+}
+
+pub fn slot_of(l: i32) -> usize
+    requires { ⌜ (0 < natAbs l) × Small l ⌝ }
+    ensures { λ r. ⌜ r ≡ slotOf l ⌝ }
+{
+    if l < 0 {
+        let v = (-l) as usize;
+        2 * v - 1
+    } else {
+        let v = l as usize;
+        2 * v - 2
+    }
+}
+
+// The literal whose slot is given.
+pub fn lit_at(slot: usize) -> i32
+    requires { ⌜ slot < 4294967294 ⌝ }
+    ensures { λ r. ⌜ r ≡ litAt slot ⌝ }
+{
+    let v = (slot / 2 + 1) as i32;
+    if slot % 2 == 0 { v } else { -v }
+}
+
+// The slot of the complement.
+pub fn twin_of(slot: u32) -> u32
+    requires { ⌜ slot < 65536 ⌝ }
+    ensures { λ r. ⌜ r ≡ twin slot ⌝ }
+{
+    if slot % 2 == 0 { slot + 1 } else { slot - 1 }
+}
+
+// Whether l is in the part.
+pub fn contains(part: &[i32], l: i32) -> bool
+    ensures { λ r. ⌜ r ≡ has l (now (part .entry)) ⌝ }
+{
+    let mut i = 0;
+    while i < part.len() {
+        if part[i] == l {
+            return true;
+        }
+        i += 1;
+    }
+    false
+}
+
+// 0 from a place to the end.
+pub fn zero_from(part: &mut [i32], from: usize)
+    requires { ⌜ from ≤ length (now part) ⌝ }
+    ensures { λ _. ⌜ now (part .exit) ≡ take from (now (part .entry)) ++ replicate (length (now (part .entry)) - from) (pos 0) ⌝ }
+{
+    let mut i = from;
+    while i < part.len() {
+        part[i] = 0;
+        i += 1;
+    }
+}

@@ -1,0 +1,61 @@
+-- Document 01: "A load removes repeated literals, stores a clause with v and −v as dropped, and sets the mark for an empty clause, which stands. .. A load lays the kept literals from place 0 without gaps, a dropped clause taking none. ..
+-- a load sets to 0 whatever it does not fill, stamp records apart. .. After a load, each class is the variable itself and each value 0. .. The mark and a load close any pass" and spend the stamps.
+-- Assumes nothing: these are definitions.
+use Prim.Native.Nat.{ℕ, zero, suc, _+_, _-_}
+use mathlib.Core.Bool.{Bool, true, false, _||_}
+use mathlib.Core.List.{List, [], _∷_, _++_}
+use lib.ListN.{length, drop, replicate}
+use lib.Dec.{eqb}
+use lib.IntN.{ℤ, pos}
+use Rattle.literal.specs.Clauses.{distinct, tautology}
+use Rattle.state.specs.declared.State.{State}
+use Rattle.state.specs.declared.Pass.the-variants.{Idle}
+use Rattle.state.specs.declared.Refusal.the-variants.{Shape}
+use Rattle.state.specs.declared.Answer.the-variants.{Loaded}
+use Rattle.tables.specs.Tables.{Tables, tables}
+use Rattle.tables.specs.Long.{longOk}
+use Rattle.tables.specs.Calls.{After, answered, refuse, state}
+use Rattle.dimacs.specs.Text.{judgeText, bodyOf}
+use Rattle.dimacs.specs.declared.Verdict.{Verdict}
+use Rattle.dimacs.specs.declared.Verdict.the-variants.{Refused, Fits}
+
+-- what is kept of a clause
+abbrev pub keptOf : List ℤ → List ℤ
+keptOf c = elim (tautology c) [ true ↦ [] | false ↦ distinct c ]
+
+-- the records of the clauses (start, length, standing), the first of which starts at `at`
+unfoldable pub clauseRecords : ℕ → List (List ℤ) → List ℕ
+clauseRecords at [] = []
+clauseRecords at (c ∷ cs) = at ∷ length (keptOf c) ∷ elim (tautology c) [ true ↦ 0 | false ↦ 1 ] ∷ clauseRecords (at + length (keptOf c)) cs
+
+unfoldable pub literalPlaces : List (List ℤ) → List ℤ
+literalPlaces [] = []
+literalPlaces (c ∷ cs) = keptOf c ++ literalPlaces cs
+
+-- the records (class, value) of n variables from v on: each is its own class, with no value
+unfoldable pub variableRecords : ℕ → ℕ → List ℤ
+variableRecords v zero = []
+variableRecords v (suc n) = pos v ∷ pos 0 ∷ variableRecords (suc v) n
+
+-- a table of `size` stated places after a load: what was laid in it, zeros, and the places beyond as they were
+abbrev pub filled {ℓ} : {A : Type ℓ} → A → ℕ → List A → List A → List A
+filled nought size xs old = xs ++ (replicate (size - length xs) nought ++ drop size old)
+
+-- the empty clause is among them
+abbrev pub anyEmpty : List (List ℤ) → Bool
+anyEmpty [] = false
+anyEmpty (c ∷ cs) = eqb (length c) 0 || anyEmpty cs
+
+-- the tables that hold the clauses cs over v variables
+unfoldable pub laid : ℕ → List (List ℤ) → Tables → Tables
+laid v cs t =
+    tables (filled 0 12288 (clauseRecords 0 cs) (t .clauses)) (filled (pos 0) 16384 (literalPlaces cs) (t .literals)) (filled (pos 0) 2048 (variableRecords 1 v) (t .variables)) (t .times)
+    (t .links)
+
+abbrev pub loadBy : Verdict → List (List ℤ) → Tables → State → After
+loadBy (Refused r) cs t st = refuse r st t
+loadBy (Fits v n _) cs t st = answered Loaded (state v n Idle false (anyEmpty cs)) (laid v cs t)
+
+-- the call: a table that is shorter than stated gets 1; else the text is judged, and its clauses are laid
+unfoldable pub loadCall : List ℕ → Tables → State → After
+loadCall text t st = elim (longOk t) [ true ↦ loadBy (judgeText text) (bodyOf text (judgeText text)) t st | false ↦ refuse Shape st t ]

@@ -1,0 +1,2 @@
+// Propagate: definitions alone so far, in specs/.
+pub const PROPAGATE: u8 = 1;

@@ -1,0 +1,6 @@
+pub mod Rows
+pub mod Listing
+pub mod Clausing
+pub mod Reading
+pub mod Keeping
+pub mod Cases

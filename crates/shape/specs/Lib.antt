@@ -1,0 +1,4 @@
+pub mod Shape
+pub mod Row
+pub mod Decision
+pub mod Entry

@@ -1,0 +1,4 @@
+pub mod Fresh
+pub mod Index
+pub mod Decision
+pub mod Columns

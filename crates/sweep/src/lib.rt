@@ -1,0 +1,2 @@
+// Sweep: definitions alone so far, in specs/.
+pub const SWEEP: u8 = 3;

@@ -1,0 +1,78 @@
+-- Document 01: "Our solver, a C program, hands over text, round count and output buffer in a single call and gets the refusal number, negative, or the length written; here too a marked load is written without a run."
+-- "`unhide` reads standard input, runs one round (none if the load set the mark) and prints what Write gives into 65,536 bytes. More than 65,535 bytes of input are refused unread with 3 at 65,535. ..
+-- On a refusal it prints `refused`, the number and the place in decimal, single spaces between, LF." Assumes nothing: these are definitions.
+use Prim.Native.Nat.{ℕ, zero, suc}
+use mathlib.Core.Bool.{Bool, true, false}
+use mathlib.Core.List.{List, [], _∷_, _++_}
+use lib.ListN.{take, replicate, length}
+use lib.Dec.{ltb}
+use lib.IntN.{ℤ, pos, negsuc}
+use Rattle.state.specs.Answers.{Reply, reply}
+use Rattle.state.specs.declared.State.{State}
+use Rattle.state.specs.declared.Pass.the-variants.{Idle}
+use Rattle.tables.specs.Tables.{Tables, tables}
+use Rattle.tables.specs.Calls.{After, state}
+use Rattle.load.specs.Load.{loadCall}
+use Rattle.write.specs.Printing.{digits}
+use Rattle.write.specs.Write.{AfterWrite, writeCall}
+use Rattle.unhiding.specs.Run.{runCall}
+
+-- tables of the stated sizes that hold 0, and the state that goes with them
+abbrev pub emptyTables : Tables
+emptyTables = tables (replicate 12288 0) (replicate 16384 (pos 0)) (replicate 2048 (pos 0)) (replicate 4096 0) (replicate 4096 (pos 0))
+
+abbrev pub emptyState : State
+emptyState = state 0 0 Idle false false
+
+-- what stands is written, or the output keeps its bytes and the refusal is answered
+abbrev pub writeAfter : ℕ → After → List ℕ → AfterWrite
+writeAfter zero a out = writeCall (a .tables) (a .state) out
+writeAfter (suc number) a out = record { reply = a .reply; out = out }
+
+-- a marked load is written without a run
+abbrev pub runUnless : Bool → ℕ → After → After
+runUnless true count a = a
+runUnless false count a = runCall count (a .tables) (a .state)
+
+abbrev pub simplifyLoaded : ℕ → ℕ → After → List ℕ → AfterWrite
+simplifyLoaded zero count a out = writeAfter 0 (runUnless (a .state .mark) count a) out
+simplifyLoaded (suc number) count a out = writeAfter (suc number) a out
+
+-- load, run, write
+unfoldable pub simplifyText : List ℕ → ℕ → List ℕ → AfterWrite
+simplifyText text count out = simplifyLoaded (loadCall text emptyTables emptyState .reply .number) count (loadCall text emptyTables emptyState) out
+
+-- ---- the C call
+
+-- the refusal's number, negative, or the length written
+abbrev pub resultBy : ℕ → List ℕ → ℤ
+resultBy (suc number) values = negsuc number
+resultBy zero (written ∷ _) = pos written
+resultBy zero [] = pos 0
+
+abbrev pub resultOf : Reply → ℤ
+resultOf r = resultBy (r .number) (r .values)
+
+-- ---- the program
+
+-- "refused "
+abbrev pub refusedWord : List ℕ
+refusedWord = 114 ∷ 101 ∷ 102 ∷ 117 ∷ 115 ∷ 101 ∷ 100 ∷ 32 ∷ []
+
+abbrev pub placeIn : List ℕ → ℕ
+placeIn [] = 0
+placeIn (place ∷ _) = place
+
+abbrev pub refusedLine : ℕ → ℕ → List ℕ
+refusedLine number place = refusedWord ++ (digits number ++ (32 ∷ (digits place ++ (10 ∷ []))))
+
+abbrev pub shown : ℕ → List ℕ → List ℕ → List ℕ
+shown zero values out = take (placeIn values) out
+shown (suc number) values out = refusedLine (suc number) (placeIn values)
+
+abbrev pub shownAfter : AfterWrite → List ℕ
+shownAfter a = shown (a .reply .number) (a .reply .values) (a .out)
+
+-- what the program prints for an input
+unfoldable pub unhideText : List ℕ → List ℕ
+unhideText input = elim (ltb 65535 (length input)) [ true ↦ refusedLine 3 65535 | false ↦ shownAfter (simplifyText input 1 (replicate 65536 0)) ]

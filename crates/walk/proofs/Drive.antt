@@ -1,0 +1,96 @@
+-- The laws of the driver: a search for a slot among the targets, and a loop that starts at each slot of a list.
+-- Assumes nothing.
+use Prim.Native.Nat.{ℕ, zero, suc, _+_, _*_, _≤_, _<_}
+use native.Mathlib.Nat.{le-refl, le-trans}
+use native.Mathlib.Numerals.{add-one}
+use native.Mathlib.Omega.{arith}
+use mathlib.Core.Bool.{Bool, true, false}
+use mathlib.Core.Path.{_≡_, refl, sym, ap, subst, _∙_}
+use mathlib.Core.List.{List, [], _∷_, _++_, append-nil, List·Memᴰ, List·Memᴰ·head, List·Memᴰ·tail, List·Memᴰ·not-nil, List·Memᴰ·cases-cons}
+use mathlib.Core.Logic.{⊎-elim}
+use lib.ListN.{length, getD, set, drop, replicate, length-replicate}
+use lib.Seq.{drop-cons, drop-length}
+use lib.Dec.{eqb}
+use borrow.Author.Tests.{eq-eqb, ne-eqb}
+use Rattle.walk.specs.Walk.{Stamps, edge, edges, enters, starts, fresh, stampAll}
+use Rattle.base.specs.Lists.{absent, filter}
+use Rattle.walk.specs.Ready.{Graph, Columns, adjOf, stamps}
+use Rattle.walk.proofs.Run.{Less, less-refl, columns-less, edge-cases, edges-less, enters-less, graph-inside}
+
+-- ---- a list from an index on, where the code's next index is i + 1
+
+pub drop-step : (l : List ℕ) (i : ℕ) → i < length l → drop i l ≡ getD l i 0 ∷ drop (i + 1) l
+drop-step l i lt = drop-cons l i 0 lt ∙ ap (λ (k : ℕ). getD l i 0 ∷ drop k l) (sym (add-one i))
+
+pub drop-done : (l : List ℕ) (i : ℕ) → i ≤ length l → length l ≤ i → drop i l ≡ []
+drop-done l i a b = ap (λ (k : ℕ). drop k l) (let e : i ≡ length l = omega arith in e) ∙ drop-length l
+
+-- ---- the fill
+
+pub cleared : (d e : List ℕ) (i : ℕ) → i ≤ length d → length d ≤ i → e ≡ replicate i 0 ++ drop i d → e ≡ replicate (length d) 0
+cleared d e i a b inv =
+    let all : i ≡ length d = omega arith in
+    inv ∙ ap (λ (l : List ℕ). replicate i 0 ++ l) (drop-done d i a b) ∙ append-nil (replicate i 0) ∙ ap (λ (k : ℕ). replicate k 0) all
+
+pub fresh-all : (n : ℕ) → fresh (replicate n 0) ≡ n
+unfolding fresh
+fresh-all zero = refl
+fresh-all (suc n) = ap suc (fresh-all n)
+
+pub fresh-le : (l : List ℕ) → fresh l ≤ length l
+unfolding fresh
+fresh-le [] = le-refl _
+fresh-le (zero ∷ l) = omega (arith, fresh-le l)
+fresh-le (suc k ∷ l) = omega (arith, fresh-le l)
+
+-- ---- a loop of starts: what is left to start at, from here, is the whole
+
+pub record Starting (offsets targets rest whole : List ℕ) (size : ℕ) (σ₀ σ : Stamps) : Type 0 where
+  pub cols : Columns size σ
+  pub fewer : fresh (σ .disc) ≤ fresh (σ₀ .disc)
+  pub same : (n : ℕ) → fresh (σ₀ .disc) ≤ n → edges (starts n (adjOf offsets targets)) rest σ ≡ edges (starts n (adjOf offsets targets)) whole σ₀
+
+pub starting-none : (offsets targets whole : List ℕ) (size : ℕ) (σ : Stamps) → Columns size σ → Starting offsets targets whole whole size σ σ
+starting-none offsets targets whole size σ c = record { cols = c; fewer = le-refl _; same = λ n le. refl }
+
+pub starting-as : (offsets targets rest rest′ whole : List ℕ) (size : ℕ) (σ₀ σ : Stamps) → rest ≡ rest′ → Starting offsets targets rest whole size σ₀ σ → Starting offsets targets rest′ whole size σ₀ σ
+starting-as offsets targets rest rest′ whole size σ₀ σ e s = subst (λ (l : List ℕ). Starting offsets targets l whole size σ₀ σ) e s
+
+pub start-less : (offsets targets : List ℕ) (size n q : ℕ) (σ : Stamps) → Graph offsets targets size → length (σ .disc) ≡ size → q < size → Less σ (edge (starts n (adjOf offsets targets)) q σ)
+unfolding starts
+start-less offsets targets size n q σ g len lt =
+    edge-cases (Less σ) (starts n (adjOf offsets targets)) q σ (λ e. enters-less (adjOf offsets targets) size (graph-inside offsets targets size g) n q q q σ len lt e) (less-refl σ)
+
+pub starting-step : (offsets targets rest whole : List ℕ) (size q : ℕ) (σ₀ σ σ′ : Stamps) → Graph offsets targets size → q < size
+    → Starting offsets targets (q ∷ rest) whole size σ₀ σ
+    → ((n : ℕ) → fresh (σ .disc) ≤ n → σ′ ≡ edge (starts n (adjOf offsets targets)) q σ)
+    → Starting offsets targets rest whole size σ₀ σ′
+unfolding edges
+starting-step offsets targets rest whole size q σ₀ σ σ′ g lt s one =
+    let next : Less σ σ′ = subst (Less σ) (sym (one (fresh (σ .disc)) (le-refl _))) (start-less offsets targets size (fresh (σ .disc)) q σ g (s .cols .discs) lt) in
+    record {
+      cols = columns-less size σ σ′ next (s .cols);
+      fewer = le-trans (next .fewer) (s .fewer);
+      same = λ n le. ap (edges (starts n (adjOf offsets targets)) rest) (one n (le-trans (s .fewer) le)) ∙ s .same n le;
+    }
+
+pub starting-done : (offsets targets whole : List ℕ) (size : ℕ) (σ₀ σ : Stamps) → Starting offsets targets [] whole size σ₀ σ
+    → (n : ℕ) → fresh (σ₀ .disc) ≤ n → σ ≡ edges (starts n (adjOf offsets targets)) whole σ₀
+unfolding edges
+starting-done offsets targets whole size σ₀ σ s n le = s .same n le
+
+-- ---- the whole
+
+pub begun : (offsets targets D d f p s : List ℕ) → D ≡ replicate (length d) 0 → Graph offsets targets (length d) → length f ≡ length d → length p ≡ length d → length s ≡ length d
+    → (length D ≡ length d) × (Columns (length d) (stamps 0 D f p s))
+begun offsets targets D d f p s e g hf hp hs =
+    let n = length d in
+    let len : length D ≡ length d = ap length e ∙ length-replicate (length d) 0 in
+    (len, record { discs = len; fins = hf; pars = hp; starts = hs; room = omega (arith, g .small, ap fresh e, fresh-all (length d)) })
+
+pub starts-columns : (offsets targets l : List ℕ) (size n : ℕ) (σ σ′ : Stamps) → Graph offsets targets size → ((q : ℕ) → List·Memᴰ q l → q < size) → Columns size σ
+    → σ′ ≡ edges (starts n (adjOf offsets targets)) l σ → Columns size σ′
+unfolding starts
+starts-columns offsets targets l size n σ σ′ g all c e =
+    let inside = graph-inside offsets targets size g in
+    columns-less size σ σ′ (subst (Less σ) (sym e) (edges-less (adjOf offsets targets) size inside (starts n (adjOf offsets targets)) (λ q τ len k f. enters-less (adjOf offsets targets) size inside n q q q τ len k f) l all σ (c .discs))) c

@@ -1,0 +1,69 @@
+use Prim.Native.Nat.{ℕ, _≤_, _<_, _-_}
+use mathlib.Core.Path.{_≡_, refl, sym, ap, subst, _∙_}
+use mathlib.Core.List.{List, _++_}
+use native.Mathlib.Omega.{arith}
+use lib.ListN.{length, set, drop, replicate, length-set}
+use borrow.Author.Needs.{needs}
+use borrow.Author.Fill.{fill-none, fill-more}
+use Rattle.walk.proofs.Drive.{cleared}
+use Rattle.walk.proofs.clear.Statement.{statement}
+use Rattle.walk.proofs.clear.Tie as tie
+use Rattle.walk.proofs.clear.Reads as reads
+use Rattle.walk.proofs.clear.Lts as lts
+
+abbrev Inv-loop : tie.InvT-loop
+Inv-loop disc₀ i₀ disc i = (i ≤ length disc₀) × (length disc ≡ length disc₀) × (disc ≡ replicate i 0 ++ drop i disc₀)
+
+abbrev μ-loop : tie.MeasureT-loop
+μ-loop disc₀ i₀ disc i = length disc₀ - i
+
+-- src/lib.rt:177:5
+loop-holds : tie.Need-loop-holds Inv-loop μ-loop
+loop-holds c = search needs
+
+-- src/lib.rt:178:9
+mul-disc : tie.Need-mul-disc Inv-loop μ-loop
+mul-disc c = search needs
+
+-- src/lib.rt:178:9
+slice-write-disc : tie.Need-slice-write-disc Inv-loop μ-loop
+slice-write-disc c = search needs
+
+-- src/lib.rt:179:9
+add-i : tie.Need-add-i Inv-loop μ-loop
+add-i c = search needs
+
+-- src/lib.rt:177:5
+loop-less : tie.Need-loop-less Inv-loop μ-loop
+loop-less c = search needs
+
+-- src/lib.rt:177:5
+loop-again : tie.Need-loop-again Inv-loop μ-loop
+loop-again c = (
+  omega arith,
+  length-set (c .before .loop .disc) (c .before .loop .i) 0 ∙ c .before .loop .inv .1,
+  ap (λ (l : List ℕ). set l (c .before .loop .i) 0) (c .before .loop .inv .2) ∙ fill-more (c .before .loop .i) 0 (c .before .before .args .disc .now) (omega arith),
+)
+
+-- src/lib.rt:173:1
+same-length : tie.Need-same-length Inv-loop μ-loop
+same-length c = search needs
+
+-- src/lib.rt:173:1
+returns : tie.Need-returns Inv-loop μ-loop
+returns c = cleared (c .before .before .args .disc .now) (c .before .loop .disc) (c .before .loop .i) (omega arith) (omega arith) (c .before .loop .inv .2)
+
+pub clear-spec : {M : Type 1} → statement M
+clear-spec =
+    tie.close
+    (tie.spec
+    Inv-loop
+    μ-loop
+    loop-holds
+    mul-disc
+    slice-write-disc
+    add-i
+    loop-less
+    loop-again
+    same-length
+    returns)

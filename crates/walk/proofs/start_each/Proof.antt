@@ -1,0 +1,112 @@
+use Prim.Native.Nat.{ℕ, _≤_, _<_, _-_, _+_}
+use mathlib.Core.Path.{_≡_, refl, sym, ap, subst, _∙_}
+use native.Mathlib.Omega.{arith}
+use native.Mathlib.Nat.{le-refl, le-trans}
+use lib.ListN.{length, getD, drop}
+use borrow.Author.Needs.{needs}
+use Rattle.walk.specs.Walk.{Stamps, edge, edges, starts, fresh}
+use Rattle.walk.specs.Ready.{Graph, Columns, adjOf, stamps}
+use Rattle.walk.proofs.Drive.{Starting, starting-none, starting-as, starting-step, starting-done, drop-step, drop-done}
+use Rattle.walk.proofs.start_each.Statement.{statement}
+use Rattle.walk.proofs.start_each.Tie as tie
+use Rattle.walk.proofs.start_each.Reads as reads
+use Rattle.walk.proofs.start_each.Lts as lts
+use Rattle.walk.proofs.start_at.Reads as start-at-reads
+
+abbrev Inv-loop : tie.InvT-loop
+Inv-loop order time offsets targets disc₀ fin₀ par₀ top₀ t₀ k₀ disc fin par top t k = (k ≤ length order) × Starting offsets targets (drop k order) order (length disc₀) (stamps t₀ disc₀ fin₀ par₀ top₀) (stamps t disc fin par top)
+
+abbrev μ-loop : tie.MeasureT-loop
+μ-loop order time offsets targets disc₀ fin₀ par₀ top₀ t₀ k₀ disc fin par top t k = length order - k
+
+-- src/lib.rt:165:5
+loop-holds : tie.Need-loop-holds Inv-loop μ-loop
+loop-holds c = search needs
+
+-- src/lib.rt:166:22
+mul-start-at : tie.Need-mul-start-at Inv-loop μ-loop
+mul-start-at c = search needs
+
+-- src/lib.rt:166:22
+shared-slice-read-start-at : tie.Need-shared-slice-read-start-at Inv-loop μ-loop
+shared-slice-read-start-at c = search needs
+
+-- src/lib.rt:166:9
+start-at-requires : tie.Need-start-at-requires Inv-loop μ-loop
+start-at-requires c κs =
+    let s = c .before .before .before .before .before .before .before .before .before .before .before .before .before .before in
+    let l = c .before .before .before .before .before .before .loop in (
+      subst (Graph (s .args .offsets .now) (s .args .targets .now)) (sym (l .inv .1 .cols .discs)) (s .pre .0),
+      (
+        subst (λ (k : ℕ). Columns k (stamps (l .t) (l .disc) (l .fin) (l .par) (l .top))) (sym (l .inv .1 .cols .discs)) (l .inv .1 .cols),
+        subst (λ (k : ℕ). getD (s .args .order .now) (l .k) 0 < k) (sym (l .inv .1 .cols .discs)) (s .pre .1 .1 (l .k) (omega arith)),
+      ),
+    )
+
+-- src/lib.rt:167:9
+add-k : tie.Need-add-k Inv-loop μ-loop
+add-k c = search needs
+
+-- src/lib.rt:165:5
+loop-less : tie.Need-loop-less Inv-loop μ-loop
+loop-less c = search needs
+
+-- src/lib.rt:165:5
+loop-again : tie.Need-loop-again Inv-loop μ-loop
+loop-again c =
+    let s = c .before .before .before .before .before .before .before .before .before .before .before .before .before .before .before .before .before .before .before .before .before .before .before in
+    let a = s .args in
+    let l = c .before .before .before .before .before .before .before .before .before .before .before .before .before .before .before .loop in
+    let w = c .before .before .before .before .before .before .before .before .start-at in
+    let lt : l .k < length (a .order .now) = c .before .before .before .before .before .before .before .before .before .before .before .before .before .before .loop-test .taken in (
+      omega (arith, lt),
+      starting-step (a .offsets .now) (a .targets .now) (drop (l .k + 1) (a .order .now)) (a .order .now) (length (a .disc .now)) (getD (a .order .now) (l .k) 0)
+          (stamps (a .time) (a .disc .now) (a .fin .now) (a .par .now) (a .top .now)) (stamps (l .t) (l .disc) (l .fin) (l .par) (l .top))
+          (stamps (w .result) (w .last .1 .1 .1 .1 .0) (w .last .1 .1 .1 .1 .1 .0) (w .last .1 .1 .1 .1 .1 .1 .0) (w .last .1 .1 .1 .1 .1 .1 .1 .0))
+          (s .pre .0) (s .pre .1 .1 (l .k) lt)
+          (starting-as (a .offsets .now) (a .targets .now) _ _ (a .order .now) (length (a .disc .now)) _ _ (drop-step (a .order .now) (l .k) lt) (l .inv .1))
+          (w .ensures),
+    )
+
+-- src/lib.rt:145:1
+same-length : tie.Need-same-length Inv-loop μ-loop
+same-length c = search needs
+
+-- src/lib.rt:145:1
+same-length-2 : tie.Need-same-length-2 Inv-loop μ-loop
+same-length-2 c = search needs
+
+-- src/lib.rt:145:1
+same-length-3 : tie.Need-same-length-3 Inv-loop μ-loop
+same-length-3 c = search needs
+
+-- src/lib.rt:145:1
+same-length-4 : tie.Need-same-length-4 Inv-loop μ-loop
+same-length-4 c = search needs
+
+-- src/lib.rt:145:1
+returns : tie.Need-returns Inv-loop μ-loop
+returns c =
+    let a = c .before .before .before .before .before .before .before .before .before .args in
+    let l = c .before .loop in
+    starting-done (a .offsets .now) (a .targets .now) (a .order .now) (length (a .disc .now)) _ _
+    (starting-as (a .offsets .now) (a .targets .now) _ _ (a .order .now) (length (a .disc .now)) _ _ (drop-done (a .order .now) (l .k) (omega arith) (omega arith)) (l .inv .1))
+
+pub start-each-spec : {M : Type 1} → statement M
+start-each-spec =
+    tie.close
+    (tie.spec
+    Inv-loop
+    μ-loop
+    loop-holds
+    mul-start-at
+    shared-slice-read-start-at
+    start-at-requires
+    add-k
+    loop-less
+    loop-again
+    same-length
+    same-length-2
+    same-length-3
+    same-length-4
+    returns)
