@@ -4,3 +4,4 @@ pub mod Clausing
 pub mod Reading
 pub mod Keeping
 pub mod Cases
+pub mod Entering

@@ -1,0 +1,4 @@
+pub mod Parts
+pub mod Stores
+pub mod Forming
+pub mod Known

@@ -1,0 +1,81 @@
+-- Worked cases of document 01 on formulas of slots, by computation, with the stamps from the walk. Assumes nothing.
+use Prim.Native.Nat.{ℕ}
+use mathlib.Core.Path.{_≡_, refl}
+use mathlib.Core.Bool.{true, false}
+use mathlib.Core.List.{List, [], _∷_, map}
+use lib.ListN.{length, getD}
+use Rattle.base.specs.Lists.{any, filter, absent}
+use Rattle.literal.specs.Literals.{twin}
+use Rattle.walk.specs.Walk.{arrive, leave, edge, edges, enters, starts, stampAll}
+use Rattle.graph.specs.Edges.{outs}
+use Rattle.graph.specs.Clauses.{froms, tos}
+use Rattle.hidden.specs.Hidden.{holds, insert, byDiscovery, passes, scanAt, scan, hiddenTautology, unhidden, shorten}
+use Rattle.hidden.proofs.Cases.{columns2, columns4, columns6}
+use Rattle.stamp.specs.Stamp.{stampsOf}
+use Rattle.sound.specs.Formula.{Clause, dropped, standing, literalsIn, formulaStamps}
+use Rattle.sound.specs.Sweep.{judge, onStanding, visitFirst, sweepFirst, jumps, tautology2, sweepFirst2}
+use Rattle.sound.specs.Forward.{forward}
+
+-- 1, -1, 2, -2, .. are 0, 1, 2, 3, ..
+o2 : List ℕ
+o2 = 0 ∷ 1 ∷ 2 ∷ 3 ∷ []
+
+o3 : List ℕ
+o3 = 0 ∷ 1 ∷ 2 ∷ 3 ∷ 4 ∷ 5 ∷ []
+
+unfoldable pub o4 : List ℕ
+o4 = 0 ∷ 1 ∷ 2 ∷ 3 ∷ 4 ∷ 5 ∷ 6 ∷ 7 ∷ []
+
+swept : ℕ → List ℕ → List Clause → List Clause
+swept vars order f = sweepFirst (length f) (formulaStamps vars order f) f
+
+-- ---- P2 to P6
+
+unfoldable pub f2 : List Clause
+f2 = standing (1 ∷ 2 ∷ []) ∷ standing (3 ∷ 4 ∷ []) ∷ standing (0 ∷ 4 ∷ 6 ∷ []) ∷ []
+
+p2-stamps : formulaStamps 4 o4 f2 ≡ columns2
+unfolding o4 f2 columns2 stampsOf stampAll starts enters edges edge arrive leave filter absent twin froms tos outs literalsIn
+p2-stamps = refl
+
+p2 : (forward columns2 (froms (map literalsIn f2)) (tos (map literalsIn f2)) ≡ true) × (sweepFirst 3 columns2 f2 ≡ standing (1 ∷ 2 ∷ []) ∷ standing (3 ∷ 4 ∷ []) ∷ standing (4 ∷ 6 ∷ []) ∷ [])
+unfolding f2 columns2 froms tos literalsIn forward filter twin holds insert byDiscovery passes scanAt scan hiddenTautology any unhidden shorten judge onStanding visitFirst
+p2 = (refl, refl)
+
+p3 : swept 3 o3 (standing (1 ∷ 2 ∷ []) ∷ standing (3 ∷ 4 ∷ []) ∷ standing (1 ∷ 4 ∷ []) ∷ []) ≡ standing (1 ∷ 2 ∷ []) ∷ standing (3 ∷ 4 ∷ []) ∷ dropped ∷ []
+unfolding o3 swept stampsOf stampAll starts enters edges edge arrive leave filter absent twin froms tos outs literalsIn holds insert byDiscovery passes scanAt scan hiddenTautology any unhidden shorten judge onStanding visitFirst
+p3 = refl
+
+p4 : swept 3 o3 (standing (1 ∷ 4 ∷ []) ∷ standing (1 ∷ 2 ∷ []) ∷ standing (3 ∷ 4 ∷ []) ∷ []) ≡ standing (1 ∷ 4 ∷ []) ∷ standing (1 ∷ 2 ∷ []) ∷ standing (3 ∷ 4 ∷ []) ∷ []
+unfolding o3 swept stampsOf stampAll starts enters edges edge arrive leave filter absent twin froms tos outs literalsIn holds insert byDiscovery passes scanAt scan hiddenTautology any unhidden shorten judge onStanding visitFirst
+p4 = refl
+
+p5 : swept 4 o4 (standing (1 ∷ 2 ∷ []) ∷ standing (3 ∷ 4 ∷ []) ∷ standing (1 ∷ 4 ∷ 6 ∷ []) ∷ []) ≡ standing (1 ∷ 2 ∷ []) ∷ standing (3 ∷ 4 ∷ []) ∷ dropped ∷ []
+unfolding o4 swept stampsOf stampAll starts enters edges edge arrive leave filter absent twin froms tos outs literalsIn holds insert byDiscovery passes scanAt scan hiddenTautology any unhidden shorten judge onStanding visitFirst
+p5 = refl
+
+p6-stamps : formulaStamps 2 o2 (standing (1 ∷ 2 ∷ []) ∷ standing (1 ∷ 3 ∷ []) ∷ []) ≡ columns6
+unfolding o2 columns6 stampsOf stampAll starts enters edges edge arrive leave filter absent twin froms tos outs literalsIn
+p6-stamps = refl
+
+-- (-1 2)(-2 3)(-4 3)(1 3 5) with 4 first: 1 goes from the last clause by the second filter
+contrapositive : formulaStamps 5 (6 ∷ 7 ∷ 0 ∷ 1 ∷ 2 ∷ 3 ∷ 4 ∷ 5 ∷ 8 ∷ 9 ∷ []) (standing (1 ∷ 2 ∷ []) ∷ standing (3 ∷ 4 ∷ []) ∷ standing (7 ∷ 4 ∷ []) ∷ standing (0 ∷ 4 ∷ 8 ∷ []) ∷ []) ≡ columns4
+unfolding columns4 stampsOf stampAll starts enters edges edge arrive leave filter absent twin froms tos outs literalsIn
+contrapositive = refl
+
+-- a clause of one literal is left, though its complement holds it
+unit : sweepFirst 1 columns6 (standing (1 ∷ []) ∷ []) ≡ standing (1 ∷ []) ∷ []
+unfolding columns6 twin holds insert byDiscovery passes scanAt scan hiddenTautology judge onStanding visitFirst
+unit = refl
+
+-- ---- P9, whose graph has cycles: the test for refusal 7 fails; with -2 first the rule of change request 2 would drop (1 2) through itself
+
+f9 : List Clause
+f9 = standing (2 ∷ 4 ∷ []) ∷ standing (5 ∷ 1 ∷ []) ∷ standing (0 ∷ 2 ∷ []) ∷ standing (3 ∷ 6 ∷ []) ∷ standing (7 ∷ 0 ∷ []) ∷ []
+
+o9 : List ℕ
+o9 = 3 ∷ 0 ∷ 1 ∷ 2 ∷ 4 ∷ 5 ∷ 6 ∷ 7 ∷ []
+
+p9 : (forward (formulaStamps 4 o9 f9) (froms (map literalsIn f9)) (tos (map literalsIn f9)) ≡ false) × (getD (sweepFirst2 5 (formulaStamps 4 o9 f9) f9) 2 (standing []) ≡ dropped)
+unfolding f9 o9 stampsOf stampAll starts enters edges edge arrive leave filter absent twin froms tos outs literalsIn forward holds insert byDiscovery passes scanAt scan hiddenTautology any unhidden shorten judge onStanding visitFirst jumps tautology2
+p9 = (refl, refl)

@@ -1,0 +1,41 @@
+-- P2 as an instance of the theorems: their hypotheses can be met, and are met here by computation. Assumes nothing.
+use Prim.Native.Nat.{ℕ}
+use mathlib.Core.Path.{_≡_, refl, _∙_}
+use mathlib.Core.Bool.{false}
+use mathlib.Core.Logic.{_↔_}
+use mathlib.Core.List.{List, map}
+use Rattle.base.specs.Lists.{any, filter, absent, anyBelow}
+use Rattle.literal.specs.Literals.{twin}
+use Rattle.literal.specs.Assignments.{Assignment}
+use Rattle.walk.specs.Walk.{arrive, leave, edge, edges, enters, starts, stampAll}
+use Rattle.graph.specs.Edges.{outs}
+use Rattle.graph.specs.Clauses.{froms, tos}
+use Rattle.groups.specs.Groups.{Lists, cyclic}
+use Rattle.stamp.specs.Stamp.{stampsOf}
+use Rattle.sound.specs.Formula.{literalsIn, Models, graph, formulaStamps}
+use Rattle.sound.specs.Sweep.{sweepFirst}
+use Rattle.sound.specs.Kept.{Shaped}
+use Rattle.sound.specs.Forward.{forward}
+use Rattle.sound.proofs.Cases.{o4, f2}
+use Rattle.sound.proofs.Tests.{once?, clause?, shaped?, lists?, shaped-of, lists-of}
+use Rattle.sound.proofs.Graph.{shaped-below, shaped-once}
+use Rattle.sound.proofs.Forward.{cyclic-forward}
+use Rattle.sound.proofs.Walked.{stamps-stamped, stamp-sweep-keeps}
+
+p2-shaped : Shaped 4 f2
+unfolding f2 once? clause? shaped? any literalsIn
+p2-shaped = shaped-of 4 f2 refl
+
+p2-order : Lists 8 o4
+unfolding o4 lists? any anyBelow
+p2-order = lists-of 8 o4 refl
+
+p2-uncyclic : cyclic (graph f2) 8 ≡ false
+unfolding o4 f2 stampsOf stampAll starts enters edges edge arrive leave filter absent twin froms tos outs literalsIn graph forward
+p2-uncyclic =
+    let cs : List (List ℕ) = map literalsIn f2 in
+    cyclic-forward cs 4 (shaped-below 4 f2 p2-shaped) (shaped-once 4 f2 p2-shaped) (formulaStamps 4 o4 f2) (stamps-stamped cs 4 (shaped-below 4 f2 p2-shaped) o4 p2-order) ∙ refl
+
+-- so P2's formula has the same satisfying assignments after a sweep of any number of its clauses
+p2-keeps : (k : ℕ) (τ : Assignment) → Models τ (sweepFirst k (formulaStamps 4 o4 f2) f2) ↔ Models τ f2
+p2-keeps = stamp-sweep-keeps 4 f2 p2-shaped o4 p2-order p2-uncyclic

@@ -1,0 +1,14 @@
+pub mod Cases
+pub mod Edges
+pub mod Forward
+pub mod Truth
+pub mod Graph
+pub mod Rule
+pub mod Stamped
+pub mod Visit
+pub mod Sound
+pub mod Walked
+pub mod Fresh
+pub mod ReachKept
+pub mod Tests
+pub mod Instance

@@ -1,0 +1,4 @@
+pub mod Formula
+pub mod Sweep
+pub mod Kept
+pub mod Forward

@@ -1,0 +1,62 @@
+//! `generate SEED COUNT` prints a random script for a replay, of about COUNT
+//! calls. It follows the script with the second implementation, so that most
+//! calls are accepted.
+
+mod calls;
+mod damage;
+mod forest;
+mod formulas;
+mod limits;
+mod lists;
+mod near;
+mod random;
+mod script;
+mod texts;
+
+#[path = "../second/failed.rs"]
+mod failed;
+#[path = "../second/graph.rs"]
+mod graph;
+#[path = "../second/load.rs"]
+mod load;
+#[path = "../second/merge.rs"]
+mod merge;
+#[path = "../second/propagate.rs"]
+mod propagate;
+#[path = "../second/refusal.rs"]
+mod refusal;
+#[path = "../second/replay.rs"]
+mod replay;
+#[path = "../second/run.rs"]
+mod run;
+#[path = "../second/shape.rs"]
+mod shape;
+#[path = "../second/stamp.rs"]
+mod stamp;
+#[path = "../second/sweep.rs"]
+mod sweep;
+#[path = "../second/tables.rs"]
+mod tables;
+#[path = "../second/text.rs"]
+mod text;
+#[path = "../second/visits.rs"]
+mod visits;
+#[path = "../second/write.rs"]
+mod write;
+
+use std::io::Write;
+
+fn main() {
+    let numbers: Vec<u64> = std::env::args()
+        .skip(1)
+        .flat_map(|word| word.parse())
+        .collect();
+    let [seed, count] = numbers[..] else {
+        eprintln!("usage: generate SEED COUNT");
+        std::process::exit(2);
+    };
+    let script = script::script(seed, count as usize);
+    std::io::stdout()
+        .write_all(&script)
+        .expect("standard output can be written");
+}

@@ -1,0 +1,291 @@
+//! The script: which line comes next.
+
+use crate::calls::{any, fitting, line, Call};
+use crate::damage;
+use crate::formulas::{draft, odd_text, plain_text, Draft};
+use crate::limits;
+use crate::lists;
+use crate::random::Random;
+use crate::refusal::tables_are_lent;
+use crate::replay::Replay;
+use crate::shape;
+use crate::texts;
+
+/// No new line is begun past this length.
+const LONG_ENOUGH: usize = 850_000;
+
+const TABLES: [(&str, usize); 4] = [
+    ("clauses", 4_096),
+    ("literals", 16_384),
+    ("variables", 1_024),
+    ("stamps", 2_048),
+];
+
+const WRONG_LINES: [&str; 34] = [
+    "",
+    " ",
+    "nothing",
+    "state ",
+    " state",
+    "State",
+    "failed 1",
+    "propagate",
+    "propagate 65536",
+    "propagate -1",
+    "propagate 01",
+    "propagate 1 1",
+    "propagate  1",
+    "merge -0",
+    "sweep x",
+    "run 65536",
+    "run 99999999999999999999999",
+    "write 131073",
+    "write",
+    "stamp ",
+    "stamp 2147483648",
+    "stamp -2147483649",
+    "stamp -0",
+    "lend clauses 4113",
+    "lend literals 16401",
+    "lend state 1",
+    "set state 7 0",
+    "set state 2 4",
+    "set state 4 2",
+    "set clauses 4112 0 0",
+    "set clauses 0 3 0",
+    "set literals 0 1 1",
+    "set stamps 0 0 -1",
+    "load 100\np cnf 1 1",
+];
+
+pub fn script(seed: u64, count: usize) -> Vec<u8> {
+    let mut script = Script {
+        random: Random::new(seed),
+        bytes: Vec::new(),
+        replay: Replay::new(),
+        calls: 0,
+        undo: Vec::new(),
+        rest_of_formula: 0,
+    };
+    while script.calls < count && script.bytes.len() < LONG_ENOUGH {
+        script.next();
+    }
+    if script.random.once_in(2) {
+        let wrong = script.random.pick(&WRONG_LINES);
+        script.say(wrong);
+        script.say("state");
+    }
+    script.bytes
+}
+
+struct Script {
+    random: Random,
+    bytes: Vec<u8>,
+    /// The script so far has been replayed here.
+    replay: Replay,
+    calls: usize,
+    /// Lines that take the last damage back.
+    undo: Vec<String>,
+    /// How many more calls this formula gets.
+    rest_of_formula: usize,
+}
+
+impl Script {
+    /// Adds bytes to the script and replays them.
+    fn say_bytes(&mut self, bytes: &[u8]) {
+        self.bytes.extend_from_slice(bytes);
+        self.replay.take(bytes);
+        self.replay.output.clear();
+    }
+
+    fn say(&mut self, line: &str) {
+        self.say_bytes(format!("{line}\n").as_bytes());
+    }
+
+    /// A line that is a call.
+    fn call(&mut self, line: &str) {
+        self.calls += 1;
+        self.rest_of_formula = self.rest_of_formula.saturating_sub(1);
+        self.say(line);
+    }
+
+    fn next(&mut self) {
+        let formula = &self.replay.formula;
+        if tables_are_lent(formula).is_err() {
+            self.while_lent_short();
+        } else if !shape::holds(formula) {
+            self.while_damaged();
+        } else if self.rest_of_formula == 0 || (formula.state.mark && self.random.below(3) > 0) {
+            self.load();
+        } else if self.random.once_in(30) {
+            self.lend();
+        } else if self.random.once_in(8) {
+            self.damage();
+        } else {
+            self.good_call();
+        }
+        self.print_tables();
+    }
+
+    fn while_lent_short(&mut self) {
+        if self.random.once_in(2) {
+            self.any_call();
+        } else {
+            for (table, stated) in TABLES {
+                let extra = self.random.pick(&[0, 0, 1, 16]);
+                self.say(&format!("lend {table} {}", stated + extra));
+            }
+        }
+    }
+
+    fn while_damaged(&mut self) {
+        match self.random.below(4) {
+            0 | 1 => self.any_call(),
+            2 if !self.undo.is_empty() => {
+                for line in std::mem::take(&mut self.undo) {
+                    self.say(&line);
+                }
+            }
+            _ => self.load(),
+        }
+    }
+
+    fn lend(&mut self) {
+        let (table, stated) = self.random.pick(&TABLES);
+        let short = self.random.below(stated);
+        let count = self
+            .random
+            .pick(&[stated - 1, short, 0, stated, stated + 1, stated + 16]);
+        self.say(&format!("lend {table} {count}"));
+    }
+
+    fn damage(&mut self) {
+        let lines = damage::lines(&mut self.random, &self.replay.formula);
+        self.undo = damage::undo(&self.replay.formula, &lines);
+        for line in lines {
+            self.say(&line);
+        }
+    }
+
+    /// A call that is accepted if the mark is off, mostly.
+    fn good_call(&mut self) {
+        let formula = &self.replay.formula;
+        match self.random.below(20) {
+            0 => self.any_call(),
+            1 | 2 => self.write(),
+            3 if self.random.once_in(2) => {
+                let list = lists::wrong(&mut self.random, formula.v());
+                self.call(&line(&Call::Stamp(list)));
+            }
+            4 => self.early_call(),
+            _ => {
+                let call = fitting(&mut self.random, formula);
+                self.call(&line(&call));
+            }
+        }
+    }
+
+    /// A call that is refused if the clauses are not settled or the graph has
+    /// cycles.
+    fn early_call(&mut self) {
+        let formula = &self.replay.formula;
+        let call = if self.random.once_in(2) {
+            Call::Merge(self.random.steps(formula.n()) as u32)
+        } else {
+            Call::Stamp(lists::permutation(&mut self.random, formula.v()))
+        };
+        self.call(&line(&call));
+    }
+
+    fn any_call(&mut self) {
+        match self.random.below(8) {
+            0 => self.write(),
+            1 => self.load(),
+            _ => {
+                let call = any(&mut self.random, &self.replay.formula);
+                self.call(&line(&call));
+            }
+        }
+    }
+
+    /// A Write into a buffer that is long enough, just so, or too short.
+    fn write(&mut self) {
+        let needed = match crate::write::write(&self.replay.formula, usize::MAX) {
+            Ok(text) => text.len(),
+            Err(_) => 100,
+        };
+        let short = self.random.below(needed);
+        let room = self
+            .random
+            .pick(&[needed, needed, 131_072, needed + 1, needed - 1, short, 0]);
+        self.call(&format!("write {}", room.min(131_072)));
+    }
+
+    /// Loads a formula, once in three times after texts that are wrong.
+    fn load(&mut self) {
+        while self.random.once_in(3) {
+            let draft = self.draft();
+            let text = texts::wrong(&mut self.random, &draft);
+            self.load_text(&text);
+        }
+        let text = self.text();
+        self.load_text(&text);
+        self.rest_of_formula = self.random.between(4, 20);
+    }
+
+    fn load_text(&mut self, text: &[u8]) {
+        self.calls += 1;
+        let mut bytes = format!("load {}\n", text.len()).into_bytes();
+        bytes.extend_from_slice(text);
+        bytes.push(b'\n');
+        self.say_bytes(&bytes);
+    }
+
+    fn text(&mut self) -> Vec<u8> {
+        if self.random.once_in(400) {
+            return limits::text(&mut self.random);
+        }
+        let draft = self.draft();
+        if self.random.once_in(3) {
+            odd_text(&mut self.random, &draft)
+        } else {
+            plain_text(&draft)
+        }
+    }
+
+    /// A formula, mostly a small one.
+    fn draft(&mut self) -> Draft {
+        let random = &mut self.random;
+        let variables = match random.below(200) {
+            0 => random.between(100, 400),
+            1..=9 => random.between(13, 60),
+            10..=60 => random.between(0, 12),
+            _ => random.between(2, 8),
+        };
+        draft(random, variables)
+    }
+
+    /// Often everything is printed, of large formulas seldom.
+    fn print_tables(&mut self) {
+        let formula = &self.replay.formula;
+        let is_large = formula.v() > 60 || formula.n() > 200;
+        let seldom = if is_large { 8 } else { 1 };
+        let is_fresh = formula.state.fresh;
+        if self.random.below(3) > 0 {
+            self.say("state");
+        }
+        if self.random.once_in(2 * seldom) {
+            self.say("clauses");
+            self.say("literals");
+        }
+        if self.random.once_in(2 * seldom) {
+            self.say("variables");
+        }
+        if self
+            .random
+            .once_in(if is_fresh { 3 * seldom } else { 10 * seldom })
+        {
+            self.say("stamps");
+        }
+    }
+}

@@ -1,0 +1,327 @@
+//! Random calls on random formulas of at most 12 variables. After each call
+//! the tables are compared with what the description promises, by trying all
+//! assignments.
+
+use crate::calls::{any, fitting, line, Call};
+use crate::compare_calls::{in_two_calls, run_by_passes};
+use crate::compare_figures::figures_agree;
+use crate::compare_walks::{groups_agree, is_subsequence, stamps_agree};
+use crate::failed::failed;
+use crate::forest::forest;
+use crate::formulas::{draft, odd_text, plain_text};
+use crate::load::{load, without_repeats};
+use crate::merge::merge;
+use crate::propagate::propagate;
+use crate::random::Random;
+use crate::refusal::Refusal;
+use crate::run::run;
+use crate::shape;
+use crate::stamp::stamp;
+use crate::sweep::sweep;
+use crate::tables::{
+    ClauseRecord, Formula, Pass, StampRecord, VariableRecord, MOST_CLAUSES, MOST_LITERALS,
+    MOST_VARIABLES,
+};
+use crate::truth::{Assignments, Truth, MOST_TRIED};
+use crate::visits::Answer;
+use crate::write::write;
+
+/// Prints what differs, with the calls that show it; the result is the exit
+/// status.
+pub fn check(seed: u64, count: usize) -> i32 {
+    let mut random = Random::new(seed);
+    let truth = Truth::new();
+    let mut calls = 0;
+    let mut accepted = 0;
+    while calls < count {
+        let mut one = Check::start(&mut random, &truth);
+        let outcome = one.calls(&mut random);
+        calls += one.calls;
+        accepted += one.accepted;
+        if let Err(difference) = outcome {
+            println!("differs: {difference}");
+            print!("{}", String::from_utf8_lossy(&one.script));
+            return 1;
+        }
+    }
+    println!("checked {calls} calls, {accepted} of them accepted");
+    0
+}
+
+#[derive(PartialEq, Eq, Debug)]
+enum Outcome {
+    Steps(Answer),
+    Stamped,
+    Failed(u32),
+    Ran(u32),
+}
+
+struct Check<'a> {
+    truth: &'a Truth,
+    formula: Formula,
+    /// The loaded formula, its clauses as written.
+    loaded: Vec<Vec<i32>>,
+    wanted: Assignments,
+    /// The calls made, as a script for a replay.
+    script: Vec<u8>,
+    calls: usize,
+    accepted: usize,
+}
+
+/// What the tables hold before the load.
+const OLD_CLAUSE: ClauseRecord = ClauseRecord {
+    start: 9,
+    length: 9,
+    standing: 9,
+};
+const OLD_LITERAL: i32 = 9;
+const OLD_VARIABLE: VariableRecord = VariableRecord { class: 9, value: 9 };
+const OLD_STAMP: StampRecord = StampRecord {
+    discovery: 9,
+    finish: 9,
+    parent: 9,
+    start: 9,
+};
+
+impl<'a> Check<'a> {
+    /// Loads a random formula into tables that are not empty.
+    fn start(random: &mut Random, truth: &'a Truth) -> Check<'a> {
+        let variables = random.below(MOST_TRIED + 1);
+        let draft = draft(random, variables);
+        let plain = plain_text(&draft);
+        let text = if random.once_in(2) {
+            odd_text(random, &draft)
+        } else {
+            plain.clone()
+        };
+        let mut script = format!("load {}\n", plain.len()).into_bytes();
+        script.extend_from_slice(&plain);
+        script.push(b'\n');
+        let mut formula = Formula::empty();
+        formula.clauses.fill(OLD_CLAUSE);
+        formula.literals.fill(OLD_LITERAL);
+        formula.variables.fill(OLD_VARIABLE);
+        formula.stamps.fill(OLD_STAMP);
+        let accepted = load(&mut formula, &text).is_ok();
+        Check {
+            truth,
+            formula,
+            wanted: truth.clauses(&draft.clauses),
+            loaded: draft.clauses,
+            script,
+            calls: 1,
+            accepted: accepted as usize,
+        }
+    }
+
+    fn calls(&mut self, random: &mut Random) -> Result<(), String> {
+        if self.accepted == 0 {
+            return Err("a good text is refused".to_string());
+        }
+        self.tables_agree()?;
+        for _ in 0..random.between(1, 24) {
+            let call = if random.once_in(12) {
+                any(random, &self.formula)
+            } else {
+                fitting(random, &self.formula)
+            };
+            self.script.extend_from_slice(line(&call).as_bytes());
+            self.script.push(b'\n');
+            self.calls += 1;
+            let before = self.formula.clone();
+            match make(&mut self.formula, &call) {
+                Err(_) => {
+                    if self.formula != before {
+                        return Err("a refused call changed something".to_string());
+                    }
+                }
+                Ok(outcome) => {
+                    self.accepted += 1;
+                    self.tables_agree()?;
+                    self.outcome_agrees(random, &before, &call, outcome)?;
+                }
+            }
+            if self.formula.state.mark && random.once_in(2) {
+                break;
+            }
+        }
+        Ok(())
+    }
+
+    /// What holds of the tables after every accepted call.
+    fn tables_agree(&self) -> Result<(), String> {
+        if !shape::holds(&self.formula) {
+            return Err("the shape rule fails".to_string());
+        }
+        if self.truth.standing(&self.formula) != self.wanted {
+            return Err("what stands has other satisfying assignments".to_string());
+        }
+        self.clauses_are_parts_of_loaded_ones()?;
+        self.other_places_agree()?;
+        self.written_agrees()
+    }
+
+    /// Each standing clause, by class literals, has some of the literals of
+    /// the loaded clause, by class literals, in the same order.
+    fn clauses_are_parts_of_loaded_ones(&self) -> Result<(), String> {
+        let class = |l: &i32| self.formula.class_literal(*l);
+        for record in 0..self.formula.n() {
+            let now: Vec<i32> = self.formula.part(record).iter().map(class).collect();
+            let loaded = without_repeats(&self.loaded[record]);
+            let loaded: Vec<i32> = loaded.iter().map(class).collect();
+            if !is_subsequence(&now, &loaded) {
+                return Err(format!(
+                    "clause {} is not a part of the loaded one",
+                    record + 1
+                ));
+            }
+        }
+        Ok(())
+    }
+
+    /// Every literal place outside the clauses' parts is 0, and so are the
+    /// records past N and V. Stamp records past 2V and all extra places are as
+    /// before the load.
+    fn other_places_agree(&self) -> Result<(), String> {
+        let formula = &self.formula;
+        let mut literals = formula.literals.clone();
+        for clause in &formula.clauses[..formula.n()] {
+            literals[clause.start as usize..(clause.start + clause.length) as usize].fill(0);
+        }
+        let (v, n) = (formula.v(), formula.n());
+        let zero = literals[..MOST_LITERALS].iter().all(|l| *l == 0)
+            && formula.clauses[n..MOST_CLAUSES]
+                .iter()
+                .all(|c| *c == ClauseRecord::default())
+            && formula.variables[v..MOST_VARIABLES]
+                .iter()
+                .all(|v| *v == VariableRecord::default());
+        if !zero {
+            return Err("a place outside the formula is not 0".to_string());
+        }
+        let old = literals[MOST_LITERALS..].iter().all(|l| *l == OLD_LITERAL)
+            && formula.clauses[MOST_CLAUSES..]
+                .iter()
+                .all(|c| *c == OLD_CLAUSE)
+            && formula.variables[MOST_VARIABLES..]
+                .iter()
+                .all(|v| *v == OLD_VARIABLE)
+            && formula.stamps[2 * v..].iter().all(|s| *s == OLD_STAMP);
+        if !old {
+            return Err("a place that no call writes has changed".to_string());
+        }
+        Ok(())
+    }
+
+    /// What Write gives, loaded again, has the same satisfying assignments.
+    fn written_agrees(&self) -> Result<(), String> {
+        let text = write(&self.formula, 131_072).map_err(|r| format!("Write: {r:?}"))?;
+        let short = write(&self.formula, text.len() - 1);
+        let needed = Refusal {
+            number: 10,
+            place: text.len() as u64,
+        };
+        if short != Err(needed) || write(&self.formula, text.len()).is_err() {
+            return Err("Write judges the length of the output wrongly".to_string());
+        }
+        let mut again = Formula::empty();
+        load(&mut again, &text).map_err(|r| format!("load of what Write gave: {r:?}"))?;
+        if self.truth.standing(&again) != self.wanted {
+            return Err("what Write gave has other satisfying assignments".to_string());
+        }
+        Ok(())
+    }
+
+    /// What holds of the answer and of what this call does.
+    fn outcome_agrees(
+        &self,
+        random: &mut Random,
+        before: &Formula,
+        call: &Call,
+        outcome: Outcome,
+    ) -> Result<(), String> {
+        let after = &self.formula;
+        match (call, &outcome) {
+            (Call::Propagate(steps), Outcome::Steps(answer)) => {
+                self.steps_agree(random, before, propagate, *steps, *answer)?;
+            }
+            (Call::Merge(steps), Outcome::Steps(answer)) => {
+                self.steps_agree(random, before, merge, *steps, *answer)?;
+                groups_agree(before)?;
+            }
+            (Call::Sweep(steps), Outcome::Steps(answer)) => {
+                self.steps_agree(random, before, sweep, *steps, *answer)?;
+                figures_agree(before)?;
+                let mut other = before.clone();
+                let records = forest(random, before.v());
+                other.stamps[..records.len()].copy_from_slice(&records);
+                if !shape::holds(&other) {
+                    return Err("a random forest has not the shape".to_string());
+                }
+                figures_agree(&other)?;
+            }
+            (Call::Stamp(list), Outcome::Stamped) => {
+                groups_agree(before)?;
+                stamps_agree(after, list)?;
+            }
+            (Call::Failed, Outcome::Failed(count)) => {
+                let values = |f: &Formula| f.variables.iter().filter(|v| v.value != 0).count();
+                if values(after) - values(before) != *count as usize {
+                    return Err("Failed counts other values than it set".to_string());
+                }
+            }
+            (Call::Run(rounds), Outcome::Ran(made)) => {
+                let by_passes = run_by_passes(random, before, *rounds);
+                let by_passes = by_passes.map_err(|r| format!("in a round: {r:?}"))?;
+                if by_passes != (after.clone(), *made) {
+                    return Err("Run differs from its passes".to_string());
+                }
+            }
+            _ => unreachable!(),
+        }
+        Ok(())
+    }
+
+    /// The answer fits the tables, and two calls that make the same visits
+    /// have the same result.
+    fn steps_agree(
+        &self,
+        random: &mut Random,
+        before: &Formula,
+        pass: fn(&mut Formula, u32) -> Result<Answer, Refusal>,
+        steps: u32,
+        answer: Answer,
+    ) -> Result<(), String> {
+        let after = &self.formula;
+        let (clauses_before, literals_before) = before.standing();
+        let (clauses_after, literals_after) = after.standing();
+        let fits = answer.open == (after.state.pass != Pass::None)
+            && answer.visits <= steps
+            && (answer.visits == steps || !answer.open)
+            && answer.clauses_gone == clauses_before - clauses_after
+            && answer.literals_gone == literals_before - literals_after;
+        if !fits {
+            return Err(format!("the answer {answer:?} does not fit the tables"));
+        }
+        let first_steps = random.between(0, steps as usize) as u32;
+        let two_calls = in_two_calls(before, pass, first_steps, steps - first_steps);
+        if two_calls != Ok((after.clone(), answer)) {
+            return Err("two calls differ from one of the same visits".to_string());
+        }
+        Ok(())
+    }
+}
+
+fn make(formula: &mut Formula, call: &Call) -> Result<Outcome, Refusal> {
+    Ok(match call {
+        Call::Propagate(steps) => Outcome::Steps(propagate(formula, *steps)?),
+        Call::Merge(steps) => Outcome::Steps(merge(formula, *steps)?),
+        Call::Sweep(steps) => Outcome::Steps(sweep(formula, *steps)?),
+        Call::Stamp(list) => {
+            stamp(formula, list)?;
+            Outcome::Stamped
+        }
+        Call::Failed => Outcome::Failed(failed(formula)?),
+        Call::Run(rounds) => Outcome::Ran(run(formula, *rounds)?),
+    })
+}

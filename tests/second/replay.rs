@@ -1,0 +1,366 @@
+//! Replays a list of calls on one set of tables and prints every answer.
+
+use crate::failed::failed;
+use crate::load::load;
+use crate::merge::merge;
+use crate::propagate::propagate;
+use crate::refusal::Refusal;
+use crate::run::run;
+use crate::stamp::stamp;
+use crate::sweep::sweep;
+use crate::tables::{
+    Formula, Pass, EXTRA, MOST_CLAUSES, MOST_LITERALS, MOST_STAMPS, MOST_VARIABLES,
+};
+use crate::visits::Answer;
+use crate::write::write;
+
+pub const MOST_INPUT: usize = 1_048_576;
+const MOST_STEPS: i64 = 65_535;
+const MOST_LIST: usize = 4_096;
+const MOST_ROOM: i64 = 131_072;
+
+pub struct Replay {
+    pub formula: Formula,
+    pub output: Vec<u8>,
+    /// How many lines have been read.
+    line: usize,
+    /// A line was wrong, and no further line is read.
+    pub has_ended: bool,
+}
+
+/// A line that is none of those that are understood.
+struct WrongLine;
+
+impl Replay {
+    pub fn new() -> Replay {
+        Replay {
+            formula: Formula::empty(),
+            output: Vec::new(),
+            line: 0,
+            has_ended: false,
+        }
+    }
+
+    /// Takes the next lines.
+    pub fn take(&mut self, input: &[u8]) {
+        let mut rest = input;
+        while !rest.is_empty() && !self.has_ended {
+            self.line += 1;
+            match self.take_line(rest) {
+                Ok(after) => rest = after,
+                Err(WrongLine) => {
+                    self.print(format!("error {}", self.line));
+                    self.has_ended = true;
+                }
+            }
+        }
+    }
+
+    /// Takes one line, and the bytes of a `load` with it. Returns what comes
+    /// after.
+    fn take_line<'a>(&mut self, input: &'a [u8]) -> Result<&'a [u8], WrongLine> {
+        let end = input.iter().position(|b| *b == b'\n').ok_or(WrongLine)?;
+        let line = std::str::from_utf8(&input[..end]).map_err(|_| WrongLine)?;
+        let after = &input[end + 1..];
+        let words: Vec<&str> = line.split(' ').collect();
+        if words[0] == "load" {
+            let [_, count] = words[..] else {
+                return Err(WrongLine);
+            };
+            let count = number(count, 0, MOST_INPUT as i64)? as usize;
+            if after.get(count) != Some(&b'\n') {
+                return Err(WrongLine);
+            }
+            self.load(&after[..count]);
+            return Ok(&after[count + 1..]);
+        }
+        self.take_words(&words)?;
+        Ok(after)
+    }
+
+    fn take_words(&mut self, words: &[&str]) -> Result<(), WrongLine> {
+        match words {
+            ["propagate", steps] => {
+                let steps = number(steps, 0, MOST_STEPS)? as u32;
+                self.clear_unused();
+                let answer = propagate(&mut self.formula, steps);
+                self.print_answer(answer);
+            }
+            ["merge", steps] => {
+                let steps = number(steps, 0, MOST_STEPS)? as u32;
+                self.clear_unused();
+                let answer = merge(&mut self.formula, steps);
+                self.print_answer(answer);
+            }
+            ["sweep", steps] => {
+                let steps = number(steps, 0, MOST_STEPS)? as u32;
+                self.clear_unused();
+                let answer = sweep(&mut self.formula, steps);
+                self.print_answer(answer);
+            }
+            ["stamp", list @ ..] => self.stamp(list)?,
+            ["failed"] => {
+                self.clear_unused();
+                match failed(&mut self.formula) {
+                    Ok(count) => self.print(format!("failed {count}")),
+                    Err(refusal) => self.print_refusal(refusal),
+                }
+            }
+            ["run", rounds] => {
+                let rounds = number(rounds, 0, MOST_STEPS)? as u32;
+                self.clear_unused();
+                match run(&mut self.formula, rounds) {
+                    Ok(made) => self.print(format!("ran {made}")),
+                    Err(refusal) => self.print_refusal(refusal),
+                }
+            }
+            ["write", room] => {
+                let room = number(room, 0, MOST_ROOM)? as usize;
+                self.clear_unused();
+                match write(&self.formula, room) {
+                    Ok(text) => {
+                        self.print(format!("written {}", text.len()));
+                        self.output.extend_from_slice(&text);
+                    }
+                    Err(refusal) => self.print_refusal(refusal),
+                }
+            }
+            ["state"] => self.print_state(),
+            ["clauses"] => self.print_clauses(),
+            ["literals"] => self.print_literals(),
+            ["variables"] => self.print_variables(),
+            ["stamps"] => self.print_stamps(),
+            ["lend", table, count] => self.lend(table, count)?,
+            ["set", "state", field, value] => self.set_state(field, value)?,
+            ["set", table, record, field, value] => self.set(table, record, field, value)?,
+            _ => return Err(WrongLine),
+        }
+        Ok(())
+    }
+
+    /// The state that a call is given has no cursor where no pass is open, and
+    /// a change flag only in Propagate.
+    fn clear_unused(&mut self) {
+        let state = &mut self.formula.state;
+        if state.pass == Pass::None {
+            state.cursor = 0;
+        }
+        if state.pass != Pass::Propagate {
+            state.changed = false;
+        }
+    }
+
+    fn load(&mut self, text: &[u8]) {
+        self.clear_unused();
+        match load(&mut self.formula, text) {
+            Ok(()) => {
+                let state = self.formula.state;
+                self.print(format!(
+                    "loaded {} {} {}",
+                    state.variables, state.clauses, state.mark as u32
+                ));
+            }
+            Err(refusal) => self.print_refusal(refusal),
+        }
+    }
+
+    fn stamp(&mut self, words: &[&str]) -> Result<(), WrongLine> {
+        if words.len() > MOST_LIST {
+            return Err(WrongLine);
+        }
+        let mut list = Vec::new();
+        for word in words {
+            list.push(number(word, i32::MIN as i64, i32::MAX as i64)? as i32);
+        }
+        self.clear_unused();
+        match stamp(&mut self.formula, &list) {
+            Ok(()) => self.print("stamped".to_string()),
+            Err(refusal) => self.print_refusal(refusal),
+        }
+        Ok(())
+    }
+
+    fn lend(&mut self, table: &str, count: &str) -> Result<(), WrongLine> {
+        let lent = &mut self.formula.lent;
+        let (stated, place) = match table {
+            "clauses" => (MOST_CLAUSES, &mut lent.clauses),
+            "literals" => (MOST_LITERALS, &mut lent.literals),
+            "variables" => (MOST_VARIABLES, &mut lent.variables),
+            "stamps" => (MOST_STAMPS, &mut lent.stamps),
+            _ => return Err(WrongLine),
+        };
+        *place = number(count, 0, (stated + EXTRA) as i64)? as usize;
+        Ok(())
+    }
+
+    fn set_state(&mut self, field: &str, value: &str) -> Result<(), WrongLine> {
+        let state = &mut self.formula.state;
+        match field {
+            "0" => state.variables = any_u32(value)?,
+            "1" => state.clauses = any_u32(value)?,
+            "2" => {
+                state.pass = match value {
+                    "0" => Pass::None,
+                    "1" => Pass::Propagate,
+                    "2" => Pass::Merge,
+                    "3" => Pass::Sweep,
+                    _ => return Err(WrongLine),
+                }
+            }
+            "3" => state.cursor = any_u32(value)?,
+            "4" => state.changed = number(value, 0, 1)? == 1,
+            "5" => state.fresh = number(value, 0, 1)? == 1,
+            "6" => state.mark = number(value, 0, 1)? == 1,
+            _ => return Err(WrongLine),
+        }
+        Ok(())
+    }
+
+    fn set(
+        &mut self,
+        table: &str,
+        record: &str,
+        field: &str,
+        value: &str,
+    ) -> Result<(), WrongLine> {
+        let formula = &mut self.formula;
+        let within = |length: usize| number(record, 0, length as i64 - 1).map(|r| r as usize);
+        match (table, field) {
+            ("clauses", "0") => {
+                formula.clauses[within(MOST_CLAUSES + EXTRA)?].start = any_u32(value)?
+            }
+            ("clauses", "1") => {
+                formula.clauses[within(MOST_CLAUSES + EXTRA)?].length = any_u32(value)?
+            }
+            ("clauses", "2") => {
+                formula.clauses[within(MOST_CLAUSES + EXTRA)?].standing = any_u32(value)?
+            }
+            ("literals", "0") => formula.literals[within(MOST_LITERALS + EXTRA)?] = any_i32(value)?,
+            ("variables", "0") => {
+                formula.variables[within(MOST_VARIABLES + EXTRA)?].class = any_i32(value)?
+            }
+            ("variables", "1") => {
+                formula.variables[within(MOST_VARIABLES + EXTRA)?].value = any_i32(value)?
+            }
+            ("stamps", "0") => {
+                formula.stamps[within(MOST_STAMPS + EXTRA)?].discovery = any_u32(value)?
+            }
+            ("stamps", "1") => {
+                formula.stamps[within(MOST_STAMPS + EXTRA)?].finish = any_u32(value)?
+            }
+            ("stamps", "2") => {
+                formula.stamps[within(MOST_STAMPS + EXTRA)?].parent = any_i32(value)?
+            }
+            ("stamps", "3") => formula.stamps[within(MOST_STAMPS + EXTRA)?].start = any_i32(value)?,
+            _ => return Err(WrongLine),
+        }
+        Ok(())
+    }
+
+    fn print(&mut self, line: String) {
+        self.output.extend_from_slice(line.as_bytes());
+        self.output.push(b'\n');
+    }
+
+    fn print_refusal(&mut self, refusal: Refusal) {
+        self.print(format!("refused {} {}", refusal.number, refusal.place));
+    }
+
+    fn print_answer(&mut self, answer: Result<Answer, Refusal>) {
+        match answer {
+            Ok(answer) => self.print(format!(
+                "{} {} {} {}",
+                if answer.open { "open" } else { "done" },
+                answer.visits,
+                answer.clauses_gone,
+                answer.literals_gone
+            )),
+            Err(refusal) => self.print_refusal(refusal),
+        }
+    }
+
+    fn print_state(&mut self) {
+        let state = self.formula.state;
+        let pass = match state.pass {
+            Pass::None => 0,
+            Pass::Propagate => 1,
+            Pass::Merge => 2,
+            Pass::Sweep => 3,
+        };
+        self.print(format!(
+            "state {} {} {} {} {} {} {}",
+            state.variables,
+            state.clauses,
+            pass,
+            state.cursor,
+            state.changed as u32,
+            state.fresh as u32,
+            state.mark as u32
+        ));
+    }
+
+    fn print_clauses(&mut self) {
+        for record in 0..self.formula.n().min(MOST_CLAUSES) {
+            let clause = self.formula.clauses[record];
+            self.print(format!(
+                "{} {} {}",
+                clause.start, clause.length, clause.standing
+            ));
+        }
+    }
+
+    fn print_literals(&mut self) {
+        let literals = &self.formula.literals[..MOST_LITERALS];
+        let count = literals
+            .iter()
+            .rposition(|l| *l != 0)
+            .map_or(0, |last| last + 1);
+        let mut line = "literals".to_string();
+        for literal in &literals[..count] {
+            line.push_str(&format!(" {literal}"));
+        }
+        self.print(line);
+    }
+
+    fn print_variables(&mut self) {
+        for record in 0..self.formula.v().min(MOST_VARIABLES) {
+            let variable = self.formula.variables[record];
+            self.print(format!("{} {}", variable.class, variable.value));
+        }
+    }
+
+    fn print_stamps(&mut self) {
+        for record in 0..(2 * self.formula.v()).min(MOST_STAMPS) {
+            let stamp = self.formula.stamps[record];
+            self.print(format!(
+                "{} {} {} {}",
+                stamp.discovery, stamp.finish, stamp.parent, stamp.start
+            ));
+        }
+    }
+}
+
+/// A decimal number without leading zeros, `-` before a negative one.
+fn number(word: &str, least: i64, most: i64) -> Result<i64, WrongLine> {
+    let digits = word.strip_prefix('-').unwrap_or(word);
+    let is_plain = word == "0"
+        || (!digits.is_empty()
+            && !digits.starts_with('0')
+            && digits.bytes().all(|b| b.is_ascii_digit()));
+    if !is_plain {
+        return Err(WrongLine);
+    }
+    let value: i64 = word.parse().map_err(|_| WrongLine)?;
+    if value < least || value > most {
+        return Err(WrongLine);
+    }
+    Ok(value)
+}
+
+fn any_u32(word: &str) -> Result<u32, WrongLine> {
+    Ok(number(word, 0, u32::MAX as i64)? as u32)
+}
+
+fn any_i32(word: &str) -> Result<i32, WrongLine> {
+    Ok(number(word, i32::MIN as i64, i32::MAX as i64)? as i32)
+}
