@@ -25,7 +25,7 @@ use Rattle.dimacs.specs.Words.{wordsAt}
 use Rattle.dimacs.specs.Header.{header, headerRest}
 use Rattle.dimacs.specs.Text.{judge, judgeText, clausesOf}
 use Rattle.load.specs.Load.{clauseRecords, literalPlaces, variableRecords, laid, loadCall}
-use Rattle.write.specs.Printing.{digits, clauseText, clausesText, textOf}
+use Rattle.printing.specs.Printing.{digits, clauseText, clausesText, textOf}
 use Rattle.write.specs.Write.{writtenClauses, writeText, writeCall}
 use Rattle.propagate.specs.Propagate.{propagateClause, propagateVisit, propagateVisits, propagateFrom, propagateCall}
 use Rattle.merge.specs.Merge.{clashes, representative, regrouped, mergedClasses, mergeClause, mergeOpen, mergeSettled, mergeCall}

@@ -43,12 +43,11 @@ module _ {w : List ℤ} {l : ℤ} (K : Known w l) where
   class-abs = abs-signed (nonNeg l) (classOf w (natAbs l))
 
   -- its class literal is a literal of the variables, and its own class
+  pub class-ranged : Literal (K .count) (classLiteral w l)
+  class-ranged = record { above = omega (arith, class-abs, known-row .class .above); within = omega (arith, class-abs, known-row .class .within, K .ranged .within) }
+
   pub known-class : Known w (classLiteral w l)
-  known-class = record {
-    count = K .count;
-    rows = K .rows;
-    ranged = record { above = omega (arith, class-abs, known-row .class .above); within = omega (arith, class-abs, known-row .class .within, K .ranged .within) };
-  }
+  known-class = record { count = K .count; rows = K .rows; ranged = class-ranged }
 
   pub class-own : classOf w (natAbs (classLiteral w l)) ≡ pos (natAbs (classLiteral w l))
   class-own = ap (classOf w) class-abs ∙ known-row .own ∙ ap pos (sym class-abs)

@@ -1,12 +1,12 @@
 -- What the shape rule says of the clause, literal and variable tables alone, which is what the functions inside a pass ask and keep. Assumes nothing: these are definitions.
-use Prim.Native.Nat.{ℕ, _+_, _≤_, _<_}
+use Prim.Native.Nat.{ℕ, _+_, _*_, _≤_, _<_}
 use mathlib.Core.Path.{_≡_}
 use mathlib.Core.Bool.{Bool, true}
 use mathlib.Core.List.{List}
 use lib.ListN.{length, getD}
 use lib.IntN.{ℤ, pos, natAbs}
 use Rattle.literal.specs.Literals.{Literal}
-use Rattle.tables.specs.Tables.{classOf}
+use Rattle.tables.specs.Tables.{lengthOf, classOf}
 use Rattle.shape.specs.Shape.{Clauses, Variable}
 
 -- the records of v variables
@@ -34,3 +34,13 @@ pub record Known (variables : List ℤ) (l : ℤ) : Type 0 where
   pub count : ℕ
   pub rows : Variables count variables
   pub ranged : Literal count l
+
+-- each literal of a list is one of the variables
+pub record EachKnown (variables C : List ℤ) : Type 0 where
+  pub each : (k : ℕ) → k < length C → Known variables (getD C k (pos 0))
+
+-- the records of n clauses are in the table, and their lengths are those of parts
+pub record Counted (n : ℕ) (clauses : List ℕ) : Type 0 where
+  pub number : n ≤ 4096
+  pub records : 3 * n ≤ length clauses
+  pub sizes : (i : ℕ) → i < n → lengthOf clauses i ≤ 16384

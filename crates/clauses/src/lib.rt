@@ -1,10 +1,14 @@
 // Classes and values of literals, and the clauses in the tables.
+use state::Counts;
 ghost use mathlib.Core.Path.{_≡_};
+ghost use Prim.Native.Nat.{_*_, _-_};
+ghost use lib.ListN.{take};
 ghost use lib.IntN.{pos};
 ghost use lib.Signed.{nonNeg};
 ghost use Rattle.literal.specs.Literals.{Small, signBy};
-ghost use Rattle.tables.specs.Values.{classLiteral, ownTruth, truth, setTrue};
-ghost use Rattle.clauses.specs.Formed.{Known};
+ghost use Rattle.tables.specs.Values.{classLiteral, ownTruth, truth, isTrue, isFalse, setTrue};
+ghost use Rattle.tables.specs.Clauses.{standingCount, literalCount};
+ghost use Rattle.clauses.specs.Formed.{Known, Counted};
 
 // A number that is kept for a literal's variable, with the literal's sign.
 pub fn signed_by(l: i32, x: i32) -> i32
@@ -41,6 +45,20 @@ pub fn truth(variables: &[i32], l: i32) -> i32
     own_truth(variables, c)
 }
 
+pub fn is_true(variables: &[i32], l: i32) -> bool
+    requires { ⌜ Known (now variables) l ⌝ }
+    ensures { λ r. ⌜ r ≡ isTrue (now (variables .entry)) l ⌝ }
+{
+    truth(variables, l) == 1
+}
+
+pub fn is_false(variables: &[i32], l: i32) -> bool
+    requires { ⌜ Known (now variables) l ⌝ }
+    ensures { λ r. ⌜ r ≡ isFalse (now (variables .entry)) l ⌝ }
+{
+    truth(variables, l) == -1
+}
+
 // Makes l true: the value is set at its class literal.
 pub fn set_true(variables: &mut [i32], l: i32)
     requires { ⌜ Known (now variables) l ⌝ }
@@ -49,4 +67,56 @@ pub fn set_true(variables: &mut [i32], l: i32)
     let c = class_literal(variables, l);
     let w = literal::var_of(c);
     variables[2 * w - 1] = signed_by(c, 1);
+}
+
+// ---- counts
+
+// How many clauses stand, and how many literals stand in them.
+pub struct Totals {
+    pub clauses: u32,
+    pub literals: u32,
+}
+
+// Counts the clauses and literals that stand among the first n.
+pub fn count_standing(clauses: &[u32], n: usize) -> Totals
+    requires { ⌜ Counted n (now clauses) ⌝ }
+    ensures { λ r. ⌜ (r .clauses ≡ standingCount (take (3 * n) (now (clauses .entry)))) × (r .literals ≡ literalCount (take (3 * n) (now (clauses .entry)))) ⌝ }
+{
+    let mut i = 0;
+    let mut standing: u32 = 0;
+    let mut literals: u32 = 0;
+    while i < n {
+        let size = clauses[3 * i + 1];
+        let flag = clauses[3 * i + 2];
+        i += 1;
+        if flag != 0 {
+            standing += 1;
+            literals += size;
+        }
+    }
+    Totals {
+        clauses: standing,
+        literals,
+    }
+}
+
+// a - b, or 0 where b is more.
+fn less(a: u32, b: u32) -> u32
+    ensures { λ r. ⌜ r ≡ a - b ⌝ }
+{
+    if a < b {
+        return 0;
+    }
+    a - b
+}
+
+// What a call answers: the visits made, and what stood before minus what stands after.
+pub fn counts_of(visits: u32, before: Totals, after: Totals) -> Counts
+    ensures { λ r. ⌜ (r .visits ≡ visits) × (r .clauses ≡ before .clauses - after .clauses) × (r .literals ≡ before .literals - after .literals) ⌝ }
+{
+    Counts {
+        visits,
+        clauses: less(before.clauses, after.clauses),
+        literals: less(before.literals, after.literals),
+    }
 }

@@ -6,3 +6,5 @@ pub mod Scan
 pub mod Shorten
 pub mod Figure5
 pub mod Failed
+pub mod Agree
+pub mod Columns

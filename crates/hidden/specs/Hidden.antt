@@ -24,7 +24,7 @@ unfoldable pub byDiscovery : Stamps → List ℕ → List ℕ
 byDiscovery σ [] = []
 byDiscovery σ (x ∷ xs) = insert σ x (byDiscovery σ xs)
 
--- ---- figure 6: is the clause a hidden hiddenTautology?
+-- ---- figure 6: is the clause a hidden tautology?
 
 -- line 7: neg ends before pos does; or the clause has two literals, and pos is neg's complement or neg is pos's parent
 unfoldable pub passes : Stamps → Bool → ℕ → ℕ → Bool

@@ -55,7 +55,7 @@ numeral-pos c (d ∷ ds) b m e = go (eqb d 48) refl (eqb (span isDigit (d ∷ ds
         let n : d ≡ 48 → ⊥ = eqb-false d 48 t in
         omega (arith, k, decimal-ge (0 * 10 + (d - 48)) ds, n)
 
-literal-pos : (s : List ℕ) (b : Bool) (m : ℕ) → meaning s ≡ literal b m → 0 < m
+pub literal-pos : (s : List ℕ) (b : Bool) (m : ℕ) → meaning s ≡ literal b m → 0 < m
 literal-pos [] b m e = absurd (let z : _≡_ {A = ℕ} 0 1 = cc in omega arith)
 literal-pos (x ∷ s) b m e = go (eqb x 45) refl (eqb x 48 && eqb (length s) 0) refl
   where

@@ -1,8 +1,7 @@
 -- Examples by computation: classes of groups, older classes, and the fate of a clause. Assumes nothing.
-use Prim.Native.Nat.{ℕ}
 use mathlib.Core.Path.{_≡_, refl}
-use mathlib.Core.Bool.{Bool, true, false}
-use mathlib.Core.List.{List, [], _∷_, map}
+use mathlib.Core.Bool.{true, false}
+use mathlib.Core.List.{List, [], _∷_}
 use lib.IntN.{ℤ, pos, negsuc}
 use Rattle.base.specs.Lists.{first, anyBelow}
 use Rattle.literal.specs.Literals.{twin}
@@ -13,7 +12,7 @@ use Rattle.groups.specs.Groups.{reaches, connected, leastMutual}
 use Rattle.tables.specs.Tables.{Tables, tables}
 use Rattle.tables.specs.Clauses.{slotsAt, slotsFrom}
 use Rattle.tables.specs.Fates.{left, dropped}
-use Rattle.merge.specs.Merge.{clashes, representative, regrouped, mergedClasses, mergeClause, edgesOf}
+use Rattle.merge.specs.Merge.{clashes, representative, regrouped, mergedClasses, mergeClause}
 
 -- (2 3)(-2 -3) over 1, 2, 3, 4, where the class of 4 is 3 already: 3 becomes -2, and so does 4
 given : Tables

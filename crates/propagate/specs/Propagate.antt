@@ -29,8 +29,11 @@ remaining [] = conflict
 remaining (l ∷ []) = unit l
 remaining (l ∷ m ∷ ls) = left (l ∷ m ∷ ls)
 
+abbrev pub notFalse : List ℤ → List ℤ → List ℤ
+notFalse variables C = filter (λ l. not (isFalse variables l)) C
+
 unfoldable pub propagateClause : List ℤ → List ℤ → Fate
-propagateClause variables C = elim (any (isTrue variables) C) [ true ↦ dropped | false ↦ remaining (filter (λ l. not (isFalse variables l)) C) ]
+propagateClause variables C = elim (any (isTrue variables) C) [ true ↦ dropped | false ↦ remaining (notFalse variables C) ]
 
 -- a visit that changes a clause of so many literals
 abbrev pub changes : ℕ → Fate → Bool

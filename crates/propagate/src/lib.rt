@@ -1,2 +1,390 @@
-// Propagate: definitions alone so far, in specs/.
-pub const PROPAGATE: u8 = 1;
+// Propagate: unit propagation over the clauses in the tables, resumable.
+use shape::Entry;
+use state::Answer;
+use state::Counts;
+use state::Outcome;
+use state::Pass;
+use state::Refusal;
+use state::State;
+ghost use mathlib.Core.Path.{_≡_};
+ghost use mathlib.Core.Bool.{false, _||_};
+ghost use Prim.Native.Nat.{ℕ, _+_, _*_, _-_, _≤_, _<_};
+ghost use lib.ListN.{length, replicate};
+ghost use Rattle.base.specs.Lists.{any};
+ghost use Rattle.tables.specs.Values.{isTrue};
+ghost use Rattle.clauses.specs.Formed.{EachKnown, Formed};
+ghost use Rattle.propagate.specs.Propagate.{notFalse, propagateClause, going, onward, propagateVisit, propagateVisits, begin, resumed, propagateFrom, propagateCall};
+ghost use Rattle.propagate.specs.Visits.{partOf, partAfter, recordAfter, visitOf, visitAt, Visitable};
+ghost use Rattle.propagate.specs.Steps.{progressOf, reachedAs, repliedWith, Ready, Resumable};
+ghost use Rattle.tables.specs.Calls.{after};
+ghost use Rattle.tables.specs.Tables.{Tables, tables};
+ghost use mathlib.Core.List.{List, _++_};
+ghost use lib.IntN.{ℤ, pos};
+
+// What a visit makes of a clause: nothing changes; so many literals are left; it is dropped; it is dropped and its last literal made true; it stands empty.
+pub enum Visited {
+    Kept,
+    Left(u32),
+    Dropped,
+    Unit1,
+    Conflict,
+}
+
+// Where the pass stands: before a clause, with the change flag; it has gone through the clauses with no change; it has met the empty clause.
+pub enum Stand {
+    Going(u32, bool),
+    Settled,
+    Contradicted,
+}
+
+// The visits made, and where the pass then stands.
+pub struct Reach {
+    pub visits: u32,
+    pub stand: Stand,
+}
+
+// Whether a literal of the part is true.
+fn any_true(part: &[i32], variables: &[i32]) -> bool
+    requires { ⌜ EachKnown (now variables) (now part) ⌝ }
+    ensures { λ r. ⌜ r ≡ any (isTrue (now (variables .entry))) (now (part .entry)) ⌝ }
+{
+    let mut i = 0;
+    while i < part.len() {
+        let l = part[i];
+        i += 1;
+        if clauses::is_true(variables, l) {
+            return true;
+        }
+    }
+    false
+}
+
+// Keeps the literals that are not false, in order at the front, with 0 behind; how many stay.
+fn remove_false(part: &mut [i32], variables: &[i32]) -> usize
+    requires { ⌜ EachKnown (now variables) (now part) ⌝ }
+    ensures { λ r. ⌜ (r ≡ length (notFalse (now (variables .entry)) (now (part .entry))))
+        × (now (part .exit) ≡ notFalse (now (variables .entry)) (now (part .entry)) ++ replicate (length (now (part .entry)) - length (notFalse (now (variables .entry)) (now (part .entry)))) (pos 0)) ⌝ }
+{
+    let mut n = 0;
+    let mut i = 0;
+    while i < part.len() {
+        let l = part[i];
+        i += 1;
+        if !clauses::is_false(variables, l) {
+            part[n] = l;
+            n += 1;
+        }
+    }
+    literal::zero_from(part, n);
+    n
+}
+
+// A visit to the part of a standing clause.
+fn visit_part(part: &mut [i32], variables: &mut [i32]) -> Visited
+    requires { ⌜ EachKnown (now variables) (now part) × (length (now part) ≤ 16384) ⌝ }
+    ensures { λ r. ⌜ partOf r (now (part .exit)) (now (variables .exit)) ≡ partAfter (propagateClause (now (variables .entry)) (now (part .entry))) (now (part .entry)) (now (variables .entry)) ⌝ }
+{
+    if any_true(part, variables) {
+        literal::zero_from(part, 0);
+        return Visited::Dropped;
+    }
+    let n = remove_false(part, variables);
+    if n == 0 {
+        return Visited::Conflict;
+    }
+    if n == 1 {
+        let l = part[0];
+        clauses::set_true(variables, l);
+        part[0] = 0;
+        return Visited::Unit1;
+    }
+    Visited::Left(n as u32)
+}
+
+// The record of clause k after a visit.
+fn put_record(clauses: &mut [u32], k: usize, seen: Visited)
+    requires { ⌜ (3 * k + 2 < length (now clauses)) × (k ≤ 4096) ⌝ }
+    ensures { λ _. ⌜ now (clauses .exit) ≡ recordAfter k seen (now (clauses .entry)) ⌝ }
+{
+    match seen {
+        Visited::Kept => {}
+        Visited::Left(n) => {
+            clauses[3 * k + 1] = n;
+        }
+        Visited::Dropped => {
+            clauses[3 * k + 1] = 0;
+            clauses[3 * k + 2] = 0;
+        }
+        Visited::Unit1 => {
+            clauses[3 * k + 1] = 0;
+            clauses[3 * k + 2] = 0;
+        }
+        Visited::Conflict => {
+            clauses[3 * k + 1] = 0;
+        }
+    }
+}
+
+// A visit to clause k. Its part of the literal table is lent on.
+fn visit_clause(
+    clauses: &mut [u32],
+    literals: &mut [i32],
+    variables: &mut [i32],
+    k: usize,
+) -> Visited
+    requires { ⌜ Visitable k (now clauses) (now literals) (now variables) ⌝ }
+    ensures { λ r. ⌜ ((times : List ℕ) (links : List ℤ) → visitOf r (tables (now (clauses .exit)) (now (literals .exit)) (now (variables .exit)) times links)
+        ≡ visitAt k (tables (now (clauses .entry)) (now (literals .entry)) (now (variables .entry)) times links)) ⌝ }
+{
+    let flag = clauses[3 * k + 2];
+    if flag == 0 {
+        return Visited::Kept;
+    }
+    let start = clauses[3 * k] as usize;
+    let end = start + clauses[3 * k + 1] as usize;
+    let seen = visit_part(&mut literals[start..end], variables);
+    put_record(clauses, k, seen);
+    seen
+}
+
+fn either(a: bool, b: bool) -> bool
+    ensures { λ r. ⌜ r ≡ (a || b) ⌝ }
+{
+    if a { true } else { b }
+}
+
+// Where the pass goes on after the visit before clause k: through the clauses again if this time changed something.
+fn onward(n: u32, k: u32, changed: bool) -> Stand
+    ensures { λ r. ⌜ ((t : Tables) → progressOf r t ≡ onward n k changed t) ⌝ }
+{
+    if k < n {
+        return Stand::Going(k, changed);
+    }
+    if changed {
+        return Stand::Going(0, false);
+    }
+    Stand::Settled
+}
+
+// One visit, and where the pass stands after it.
+fn step(
+    clauses: &mut [u32],
+    literals: &mut [i32],
+    variables: &mut [i32],
+    n: u32,
+    k: u32,
+    changed: bool,
+) -> Stand
+    requires { ⌜ Ready n k (now clauses) (now literals) (now variables) ⌝ }
+    ensures { λ r. ⌜ ((times : List ℕ) (links : List ℤ) → progressOf r (tables (now (clauses .exit)) (now (literals .exit)) (now (variables .exit)) times links)
+        ≡ propagateVisit n k changed (tables (now (clauses .entry)) (now (literals .entry)) (now (variables .entry)) times links)) ⌝ }
+{
+    let at = k as usize;
+    let size = clauses[3 * at + 1];
+    let seen = visit_clause(clauses, literals, variables, at);
+    match seen {
+        Visited::Kept => onward(n, k + 1, changed),
+        Visited::Left(m) => onward(n, k + 1, either(changed, m < size)),
+        Visited::Dropped => onward(n, k + 1, true),
+        Visited::Unit1 => onward(n, k + 1, true),
+        Visited::Conflict => Stand::Contradicted,
+    }
+}
+
+// As many visits as `steps` says, or as the pass has left, from clause `cursor` on.
+pub fn visit_some(
+    clauses: &mut [u32],
+    literals: &mut [i32],
+    variables: &mut [i32],
+    n: u32,
+    steps: u32,
+    cursor: u32,
+    flag: bool,
+) -> Reach
+    requires { ⌜ Ready n cursor (now clauses) (now literals) (now variables) ⌝ }
+    ensures { λ r. ⌜ ((times : List ℕ) (links : List ℤ) → reachedAs r (tables (now (clauses .exit)) (now (literals .exit)) (now (variables .exit)) times links)
+        ≡ propagateVisits n steps 0 (going cursor flag (tables (now (clauses .entry)) (now (literals .entry)) (now (variables .entry)) times links))) ⌝ }
+{
+    let mut made: u32 = 0;
+    let mut k = cursor;
+    let mut changed = flag;
+    while made < steps {
+        let stand = step(clauses, literals, variables, n, k, changed);
+        made += 1;
+        match stand {
+            Stand::Going(next, still) => {
+                k = next;
+                changed = still;
+            }
+            Stand::Settled => {
+                return Reach {
+                    visits: made,
+                    stand: Stand::Settled,
+                };
+            }
+            Stand::Contradicted => {
+                return Reach {
+                    visits: made,
+                    stand: Stand::Contradicted,
+                };
+            }
+        }
+    }
+    Reach {
+        visits: made,
+        stand: Stand::Going(k, changed),
+    }
+}
+
+// The answer of a call that has made its visits.
+fn answer(st: State, fresh: bool, counts: Counts, stand: Stand) -> Outcome
+    ensures { λ r. ⌜ ((t : Tables) → after r t ≡ repliedWith fresh counts st stand t) ⌝ }
+{
+    match stand {
+        Stand::Going(k, changed) => Outcome {
+            answer: Answer::Open(counts),
+            state: State {
+                v: st.v,
+                n: st.n,
+                pass: Pass::Propagate(k, changed),
+                fresh,
+                mark: false,
+            },
+        },
+        Stand::Settled => Outcome {
+            answer: Answer::Done(counts),
+            state: State {
+                v: st.v,
+                n: st.n,
+                pass: Pass::Idle,
+                fresh,
+                mark: false,
+            },
+        },
+        Stand::Contradicted => Outcome {
+            answer: Answer::Done(counts),
+            state: State {
+                v: st.v,
+                n: st.n,
+                pass: Pass::Idle,
+                fresh: false,
+                mark: true,
+            },
+        },
+    }
+}
+
+// The visits of a call that stands before clause `cursor`, and its answer.
+pub fn propagate_from(
+    clauses: &mut [u32],
+    literals: &mut [i32],
+    variables: &mut [i32],
+    st: State,
+    fresh: bool,
+    steps: u32,
+    cursor: u32,
+    flag: bool,
+) -> Outcome
+    requires { ⌜ Ready (st .n) cursor (now clauses) (now literals) (now variables) ⌝ }
+    ensures { λ r. ⌜ ((times : List ℕ) (links : List ℤ) → after r (tables (now (clauses .exit)) (now (literals .exit)) (now (variables .exit)) times links)
+        ≡ propagateFrom fresh steps (going cursor flag (tables (now (clauses .entry)) (now (literals .entry)) (now (variables .entry)) times links))
+        (tables (now (clauses .entry)) (now (literals .entry)) (now (variables .entry)) times links) st) ⌝ }
+{
+    let n = st.n;
+    let before = clauses::count_standing(clauses, n as usize);
+    let reach = visit_some(clauses, literals, variables, n, steps, cursor, flag);
+    let left = clauses::count_standing(clauses, n as usize);
+    let visits = reach.visits;
+    let stand = reach.stand;
+    let counts = clauses::counts_of(visits, before, left);
+    answer(st, fresh, counts, stand)
+}
+
+// A call that opens the pass: with no clause it is done at once.
+pub fn open_pass(
+    clauses: &mut [u32],
+    literals: &mut [i32],
+    variables: &mut [i32],
+    st: State,
+    steps: u32,
+) -> Outcome
+    requires { ⌜ Formed (st .v) (st .n) (st .n) false (now clauses) (now literals) (now variables) ⌝ }
+    ensures { λ r. ⌜ ((times : List ℕ) (links : List ℤ) → after r (tables (now (clauses .exit)) (now (literals .exit)) (now (variables .exit)) times links)
+        ≡ propagateFrom false steps (begin (st .n) (tables (now (clauses .entry)) (now (literals .entry)) (now (variables .entry)) times links))
+        (tables (now (clauses .entry)) (now (literals .entry)) (now (variables .entry)) times links) st) ⌝ }
+{
+    let n = st.n;
+    if n == 0 {
+        let none = Counts {
+            visits: 0,
+            clauses: 0,
+            literals: 0,
+        };
+        return answer(st, false, none, Stand::Settled);
+    }
+    propagate_from(clauses, literals, variables, st, false, steps, 0, false)
+}
+
+// A call that goes on where the pass was left.
+fn resume_pass(
+    clauses: &mut [u32],
+    literals: &mut [i32],
+    variables: &mut [i32],
+    st: State,
+    steps: u32,
+) -> Outcome
+    requires { ⌜ Resumable st (now clauses) (now literals) (now variables) ⌝ }
+    ensures { λ r. ⌜ ((times : List ℕ) (links : List ℤ) → after r (tables (now (clauses .exit)) (now (literals .exit)) (now (variables .exit)) times links)
+        ≡ propagateFrom (st .fresh) steps (resumed (st .pass) (tables (now (clauses .entry)) (now (literals .entry)) (now (variables .entry)) times links))
+        (tables (now (clauses .entry)) (now (literals .entry)) (now (variables .entry)) times links) st) ⌝ }
+{
+    let fresh = st.fresh;
+    let pass = st.pass;
+    match pass {
+        Pass::Propagate(k, changed) => propagate_from(
+            clauses,
+            literals,
+            variables,
+            st,
+            fresh,
+            steps,
+            k,
+            changed,
+        ),
+        // another pass is never resumed here
+        Pass::Idle => refuse(st),
+        Pass::Merge(_) => refuse(st),
+        Pass::Sweep(_) => refuse(st),
+    }
+}
+
+fn refuse(st: State) -> Outcome {
+    Outcome {
+        answer: Answer::Refused(Refusal::OtherPass),
+        state: st,
+    }
+}
+
+// The exported call.
+pub fn propagate(
+    clauses: &mut [u32],
+    literals: &mut [i32],
+    variables: &mut [i32],
+    times: &[u32],
+    links: &[i32],
+    st: State,
+    n: u16,
+) -> Outcome
+    ensures { λ r. ⌜ after r (tables (now (clauses .exit)) (now (literals .exit)) (now (variables .exit)) (now (times .entry)) (now (links .entry)))
+        ≡ propagateCall n (tables (now (clauses .entry)) (now (literals .entry)) (now (variables .entry)) (now (times .entry)) (now (links .entry))) st ⌝ }
+{
+    let entry = shape::entry_of(clauses, literals, variables, times, links, st, 1);
+    match entry {
+        Entry::No(r) => Outcome {
+            answer: Answer::Refused(r),
+            state: st,
+        },
+        Entry::Opens => open_pass(clauses, literals, variables, st, n as u32),
+        Entry::Resumes => resume_pass(clauses, literals, variables, st, n as u32),
+    }
+}

@@ -3,11 +3,15 @@ use Prim.Native.Nat.{ℕ, zero, suc}
 use native.Mathlib.Omega.{arith}
 use mathlib.Core.Path.{_≡_, refl, sym, ap, _∙_}
 use mathlib.Core.Bool.{Bool, true, false}
-use borrow.Author.Tests.{eq-eqb, ne-eqb}
+use lib.Dec.{eqb}
+use borrow.Author.Tests.{eq-eqb, ne-eqb, eqb-true}
 use Rattle.state.specs.declared.State.{State}
+use Rattle.state.specs.declared.Refusal.{Refusal}
 use Rattle.state.specs.declared.Refusal.the-variants.{Shape, OtherPass}
 use Rattle.tables.specs.Tables.{Tables}
+use Rattle.shape.specs.Shape as S
 use Rattle.shape.specs.Decision.{shapeOk}
+use Rattle.shape.proofs.Reading.{shaped}
 use Rattle.shape.specs.Entry.{passNumber, unlessMarked, entryBy, entryOf}
 use Rattle.shape.specs.declared.Entry.{Entry}
 use Rattle.shape.specs.declared.Entry.the-variants.{No, Opens, Resumes}
@@ -40,3 +44,52 @@ module _ (own : ℕ) (t : Tables) (st : State) (right : shapeOk t st ≡ true) (
 
   pub entry-own : (b : Bool) → st .mark ≡ b → (k ≡ 0 → ⊥) → k ≡ own → entryOf own t st ≡ unlessMarked b Resumes
   entry-own b m z e = entry-by ∙ by-own own k (st .mark) z e ∙ ap (λ (x : Bool). unlessMarked x Resumes) m
+
+-- ---- what a call that is not refused knows
+
+by-opens : (own k : ℕ) (mark : Bool) → entryBy own k mark ≡ Opens → (k ≡ 0) × (mark ≡ false)
+by-opens own zero true e = absurd (let z : _≡_ {A = ℕ} 0 1 = cc in omega arith)
+by-opens own zero false e = (refl, refl)
+by-opens own (suc k) mark e = absurd (go (eqb (suc k) own) mark e)
+  where
+    go : (b m : Bool) → elim b as (λ x. Entry) [ true ↦ unlessMarked m Resumes | false ↦ No OtherPass ] ≡ Opens → ⊥
+    go true true e = let z : _≡_ {A = ℕ} 0 1 = cc in omega arith
+    go true false e = let z : _≡_ {A = ℕ} 0 1 = cc in omega arith
+    go false m e = let z : _≡_ {A = ℕ} 0 1 = cc in omega arith
+
+by-resumes : (own k : ℕ) (mark : Bool) → entryBy own k mark ≡ Resumes → (k ≡ own) × (mark ≡ false)
+by-resumes own zero true e = absurd (let z : _≡_ {A = ℕ} 0 1 = cc in omega arith)
+by-resumes own zero false e = absurd (let z : _≡_ {A = ℕ} 0 1 = cc in omega arith)
+by-resumes own (suc k) mark e = go (eqb (suc k) own) refl mark e
+  where
+    go : (b : Bool) → eqb (suc k) own ≡ b → (m : Bool) → elim b as (λ x. Entry) [ true ↦ unlessMarked m Resumes | false ↦ No OtherPass ] ≡ Resumes → (suc k ≡ own) × (m ≡ false)
+    go true h true e = absurd (let z : _≡_ {A = ℕ} 0 1 = cc in omega arith)
+    go true h false e = (eqb-true (suc k) own h, refl)
+    go false h m e = absurd (let z : _≡_ {A = ℕ} 0 1 = cc in omega arith)
+
+-- the shape rule holds, the open pass has number k, and the mark is off
+pub record Entered (k : ℕ) (t : Tables) (st : State) : Type 0 where
+  pub shape : S.Shape t st
+  pub pass : passNumber (st .pass) ≡ k
+  pub unmarked : st .mark ≡ false
+
+module _ (own : ℕ) (t : Tables) (st : State) where
+  shaped-first : (x : Entry) → ((r : Refusal) → x ≡ No r → ⊥) → entryOf own t st ≡ x → (shapeOk t st ≡ true) × (entryBy own (passNumber (st .pass)) (st .mark) ≡ x)
+  unfolding entryOf
+  shaped-first x d e = go (shapeOk t st) refl e
+    where
+      go : (b : Bool) → shapeOk t st ≡ b → elim b as (λ y. Entry) [ true ↦ entryBy own (passNumber (st .pass)) (st .mark) | false ↦ No Shape ] ≡ x → (shapeOk t st ≡ true) × (entryBy own (passNumber (st .pass)) (st .mark) ≡ x)
+      go true h e = (h, e)
+      go false h e = absurd (d Shape (sym e))
+
+  pub opens-entered : entryOf own t st ≡ Opens → Entered 0 t st
+  opens-entered e =
+      let s = shaped-first Opens (λ r q. let z : _≡_ {A = ℕ} 0 1 = cc in omega arith) e in
+      let p = by-opens own (passNumber (st .pass)) (st .mark) (s .1) in
+      record { shape = shaped t st (s .0); pass = p .0; unmarked = p .1 }
+
+  pub resumes-entered : entryOf own t st ≡ Resumes → Entered own t st
+  resumes-entered e =
+      let s = shaped-first Resumes (λ r q. let z : _≡_ {A = ℕ} 0 1 = cc in omega arith) e in
+      let p = by-resumes own (passNumber (st .pass)) (st .mark) (s .1) in
+      record { shape = shaped t st (s .0); pass = p .0; unmarked = p .1 }

@@ -1,7 +1,7 @@
 -- Worked cases of document 01 on formulas of slots, by computation, with the stamps from the walk. Assumes nothing.
 use Prim.Native.Nat.{ℕ}
 use mathlib.Core.Path.{_≡_, refl}
-use mathlib.Core.Bool.{true, false}
+use mathlib.Core.Bool.{false}
 use mathlib.Core.List.{List, [], _∷_, map}
 use lib.ListN.{length, getD}
 use Rattle.base.specs.Lists.{any, filter, absent}
@@ -14,7 +14,7 @@ use Rattle.hidden.proofs.Cases.{columns2, columns4, columns6}
 use Rattle.stamp.specs.Stamp.{stampsOf}
 use Rattle.sound.specs.Formula.{Clause, dropped, standing, literalsIn, formulaStamps}
 use Rattle.sound.specs.Sweep.{judge, onStanding, visitFirst, sweepFirst, jumps, tautology2, sweepFirst2}
-use Rattle.sound.specs.Forward.{forward}
+use Rattle.cycles.specs.Forward.{forward}
 
 -- 1, -1, 2, -2, .. are 0, 1, 2, 3, ..
 o2 : List ℕ
@@ -38,9 +38,9 @@ p2-stamps : formulaStamps 4 o4 f2 ≡ columns2
 unfolding o4 f2 columns2 stampsOf stampAll starts enters edges edge arrive leave filter absent twin froms tos outs literalsIn
 p2-stamps = refl
 
-p2 : (forward columns2 (froms (map literalsIn f2)) (tos (map literalsIn f2)) ≡ true) × (sweepFirst 3 columns2 f2 ≡ standing (1 ∷ 2 ∷ []) ∷ standing (3 ∷ 4 ∷ []) ∷ standing (4 ∷ 6 ∷ []) ∷ [])
-unfolding f2 columns2 froms tos literalsIn forward filter twin holds insert byDiscovery passes scanAt scan hiddenTautology any unhidden shorten judge onStanding visitFirst
-p2 = (refl, refl)
+p2 : sweepFirst 3 columns2 f2 ≡ standing (1 ∷ 2 ∷ []) ∷ standing (3 ∷ 4 ∷ []) ∷ standing (4 ∷ 6 ∷ []) ∷ []
+unfolding f2 columns2 filter twin holds insert byDiscovery passes scanAt scan hiddenTautology any unhidden shorten judge onStanding visitFirst
+p2 = refl
 
 p3 : swept 3 o3 (standing (1 ∷ 2 ∷ []) ∷ standing (3 ∷ 4 ∷ []) ∷ standing (1 ∷ 4 ∷ []) ∷ []) ≡ standing (1 ∷ 2 ∷ []) ∷ standing (3 ∷ 4 ∷ []) ∷ dropped ∷ []
 unfolding o3 swept stampsOf stampAll starts enters edges edge arrive leave filter absent twin froms tos outs literalsIn holds insert byDiscovery passes scanAt scan hiddenTautology any unhidden shorten judge onStanding visitFirst

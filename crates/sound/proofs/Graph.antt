@@ -10,7 +10,7 @@ use Rattle.graph.proofs.Implications.{flip, no-self-edge}
 use Rattle.hidden.proofs.Scan.{Reads, by-reads}
 use Rattle.sound.specs.Formula.{Clause, dropped, standing, literalsIn, graph}
 use Rattle.sound.specs.Kept.{Shaped}
-use Rattle.sound.proofs.Edges.{Edge, first, later, outs-edge, edge-outs}
+use Rattle.cycles.proofs.Edges.{Edge, first, later, outs-edge, edge-outs}
 
 -- ---- clauses
 

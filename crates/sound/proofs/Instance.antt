@@ -15,11 +15,11 @@ use Rattle.stamp.specs.Stamp.{stampsOf}
 use Rattle.sound.specs.Formula.{literalsIn, Models, graph, formulaStamps}
 use Rattle.sound.specs.Sweep.{sweepFirst}
 use Rattle.sound.specs.Kept.{Shaped}
-use Rattle.sound.specs.Forward.{forward}
+use Rattle.cycles.specs.Forward.{forward}
 use Rattle.sound.proofs.Cases.{o4, f2}
 use Rattle.sound.proofs.Tests.{once?, clause?, shaped?, lists?, shaped-of, lists-of}
 use Rattle.sound.proofs.Graph.{shaped-below, shaped-once}
-use Rattle.sound.proofs.Forward.{cyclic-forward}
+use Rattle.cycles.proofs.Forward.{cyclic-forward}
 use Rattle.sound.proofs.Walked.{stamps-stamped, stamp-sweep-keeps}
 
 p2-shaped : Shaped 4 f2

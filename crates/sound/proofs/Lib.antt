@@ -1,6 +1,4 @@
 pub mod Cases
-pub mod Edges
-pub mod Forward
 pub mod Truth
 pub mod Graph
 pub mod Rule

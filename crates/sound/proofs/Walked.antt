@@ -15,23 +15,24 @@ use Rattle.base.specs.Lists.{absent, filter}
 use Rattle.base.proofs.Lists.{mem-filter}
 use Rattle.literal.specs.Assignments.{Assignment}
 use Rattle.walk.specs.Walk.{Stamps, edges, starts, stampAll}
-use Rattle.walk.proofs.Run.{edges-less, enters-less}
+use Rattle.walk.proofs.Run.{Less, less-trans, edges-less, enters-less}
 use Rattle.walk.proofs.Theorems.{Stamped, stamp-theorem}
 use Rattle.graph.specs.Clauses.{tos, implications}
 use Rattle.groups.specs.Groups.{blank, Lists, cyclic}
 use Rattle.stamp.specs.Stamp.{stampsOf}
 use Rattle.sound.specs.Formula.{Clause, literalsIn, Models, graph, formulaStamps}
 use Rattle.sound.specs.Sweep.{sweepFirst}
-use Rattle.sound.specs.Kept.{Shaped, Acyclic}
-use Rattle.sound.proofs.Forward.{Cycle, edge-below, cyclic-found, cyclic-none, none-cyclic}
+use Rattle.cycles.specs.Forward.{Acyclic, Cycle}
+use Rattle.sound.specs.Kept.{Shaped}
+use Rattle.cycles.proofs.Forward.{edge-below, cyclic-found, cyclic-none, none-cyclic}
 use Rattle.sound.proofs.Graph.{shaped-below}
 use Rattle.sound.proofs.Sound.{Ready, sweep-keeps}
 
 module _ (cs : List (List ℕ)) (v : ℕ) (below : (c : List ℕ) → List·Memᴰ c cs → (q : ℕ) → List·Memᴰ q c → q < 2 * v) (order : List ℕ) (o : Lists (2 * v) order) where
-  -- the walk leaves a column's length as it was
-  pub stamps-sized : length (stampsOf cs (2 * v) order .disc) ≡ 2 * v
+  -- the walk leaves the columns' lengths as they were
+  pub stamps-less : Less (blank (2 * v) (replicate (2 * v) 0) (replicate (2 * v) 0) (replicate (2 * v) 0)) (stampsOf cs (2 * v) order)
   unfolding stampsOf stampAll starts
-  stamps-sized =
+  stamps-less =
       let n : ℕ = 2 * v in
       let z : List ℕ = replicate n 0 in
       let adj : ℕ → List ℕ = implications cs in
@@ -40,7 +41,11 @@ module _ (cs : List (List ℕ)) (v : ℕ) (below : (c : List ℕ) → List·Mem�
       let in-graph : (s q : ℕ) → s < n → List·Memᴰ q (adj s) → q < n = λ s q lt m. edge-below cs v below s q m .1 in
       let less = edges-less adj n in-graph visit (λ q σ. enters-less adj n in-graph (length {A = ℕ} (replicate n 0)) q q q σ) in
       let one = less (filter root order) (λ q m. o .below q (mem-filter root order m)) (blank n z z z) (length-replicate n 0) in
-      less order (o .below) (edges visit (filter root order) (blank n z z z)) (one .discs ∙ length-replicate n 0) .discs ∙ one .discs ∙ length-replicate n 0
+      let two = less order (o .below) (edges visit (filter root order) (blank n z z z)) (one .discs ∙ length-replicate n 0) in
+      less-trans (blank n z z z) (edges visit (filter root order) (blank n z z z)) (stampsOf cs n order) one two
+
+  pub stamps-sized : length (stampsOf cs (2 * v) order .disc) ≡ 2 * v
+  stamps-sized = stamps-less .discs ∙ length-replicate (2 * v) 0
 
   pub stamps-stamped : Stamped (implications cs) (2 * v) (stampsOf cs (2 * v) order)
   unfolding stampsOf

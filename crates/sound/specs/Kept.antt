@@ -33,7 +33,3 @@ pub data Since (adj : ℕ → List ℕ) : List Clause → List Clause → Type 0
 pub record Shaped (vars : ℕ) (f : List Clause) : Type 0 where
   pub below : (C : List ℕ) → List·Memᴰ (standing C) f → (l : ℕ) → List·Memᴰ l C → l < 2 * vars
   pub once : (C : List ℕ) → List·Memᴰ (standing C) f → Once C
-
--- no two different literals reach each other
-abbrev pub Acyclic : (ℕ → List ℕ) → Type 0
-Acyclic adj = (a b : ℕ) → (a ≡ b → ⊥) → Reach adj a b → Reach adj b a → ⊥

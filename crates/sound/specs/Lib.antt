@@ -1,4 +1,3 @@
 pub mod Formula
 pub mod Sweep
 pub mod Kept
-pub mod Forward

@@ -13,7 +13,7 @@ use Rattle.state.specs.declared.Pass.the-variants.{Idle}
 use Rattle.tables.specs.Tables.{Tables, tables}
 use Rattle.tables.specs.Calls.{After, state}
 use Rattle.load.specs.Load.{loadCall}
-use Rattle.write.specs.Printing.{digits}
+use Rattle.printing.specs.Printing.{digits}
 use Rattle.write.specs.Write.{AfterWrite, writeCall}
 use Rattle.unhiding.specs.Run.{runCall}
 

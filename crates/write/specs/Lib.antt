@@ -1,3 +1,4 @@
-pub mod Printing
 pub mod Write
 pub mod Writable
+pub mod Gathered
+pub mod Ready

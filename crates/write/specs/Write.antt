@@ -15,7 +15,7 @@ use Rattle.state.specs.declared.Answer.the-variants.{Refused, Written}
 use Rattle.state.specs.declared.Refusal.the-variants.{Shape, Short}
 use Rattle.tables.specs.Tables.{Tables}
 use Rattle.shape.specs.Decision.{shapeOk}
-use Rattle.write.specs.Printing.{textOf}
+use Rattle.printing.specs.Printing.{textOf}
 
 -- the units of the variables' records (class, value), by rising variable from v on
 abbrev pub unitsOf : ℕ → List ℤ → List (List ℤ)

@@ -1,5 +1,5 @@
 -- Refusal 7. For the implication graph of clauses on the slots of v variables:
---     cyclic-found, cyclic-none   the definition's `cyclic` says exactly whether two different slots reach each other
+--     cyclic-found, found-cyclic, cyclic-none, none-cyclic   the definition's `cyclic` says exactly whether two different slots reach each other
 --     cyclic-forward              and the linear test on the walk's finishes says the same: `cyclic` is its opposite
 -- Assumes nothing.
 use Prim.Native.Nat.{ℕ, _*_, _≤_, _<_}
@@ -23,9 +23,8 @@ use Rattle.graph.proofs.Implications.{flip, tos-mem, no-self-edge}
 use Rattle.groups.specs.Groups.{reaches, connected, cyclic}
 use Rattle.groups.proofs.Least.{reaches-means}
 use Rattle.hidden.proofs.Basics.{bool-or, clash, and-both, differ, differs, anyBelow-in, anyBelow-out}
-use Rattle.sound.specs.Kept.{Acyclic}
-use Rattle.sound.specs.Forward.{forward}
-use Rattle.sound.proofs.Edges.{Edge, first, later, outs-edge, edge-outs}
+use Rattle.cycles.specs.Forward.{Cycle, Acyclic, forward}
+use Rattle.cycles.proofs.Edges.{Edge, first, later, outs-edge, edge-outs}
 
 -- ---- the test, edge by edge
 
@@ -52,10 +51,6 @@ forward-not σ (f ∷ fs) (x ∷ ts) h = go (λ k. forward-not σ fs ts k) (ltb 
         → _≡_ {A = Bool} (elim b [ true ↦ forward σ fs ts | false ↦ false ]) false → (s : ℕ) × (t : ℕ) × Edge s t (f ∷ fs) (x ∷ ts) × (fin σ s ≤ fin σ t)
     go rest true e k = let r = rest k in (r .0, r .1, later (r .2), r .3)
     go rest false e k = (f, x, first refl refl, ltb-false (fin σ x) (fin σ f) e)
-
--- two different literals that reach each other
-abbrev pub Cycle : (ℕ → List ℕ) → Type 0
-Cycle adj = (a : ℕ) × (b : ℕ) × (a ≡ b → ⊥) × Reach adj a b × Reach adj b a
 
 module _ (cs : List (List ℕ)) (v : ℕ) (below : (c : List ℕ) → List·Memᴰ c cs → (q : ℕ) → List·Memᴰ q c → q < 2 * v) where
   to-below : (s t : ℕ) → List·Memᴰ t (implications cs s) → t < 2 * v
@@ -91,7 +86,7 @@ module _ (cs : List (List ℕ)) (v : ℕ) (below : (c : List ℕ) → List·Mem�
         means b a (two .1) .0 (and-right (reaches adj (2 * v) a b) (reaches adj (2 * v) b a) both),
       )
 
-  found-cyclic : Cycle (implications cs) → cyclic (implications cs) (2 * v) ≡ true
+  pub found-cyclic : Cycle (implications cs) → cyclic (implications cs) (2 * v) ≡ true
   unfolding cyclic connected
   found-cyclic k =
       let adj : ℕ → List ℕ = implications cs in

@@ -1,0 +1,127 @@
+-- The rules look only at the stamps of the clause's literals and their complements: stamps that agree on the slots below a number give the same results. So the records past 2V do not matter. Assumes nothing.
+use Prim.Native.Nat.{ℕ, zero, suc, _+_, _≤_, _<_}
+use native.Mathlib.Omega.{arith}
+use mathlib.Core.Path.{_≡_, refl, ap, subst, _∙_}
+use mathlib.Core.Bool.{Bool, true, false, not, _&&_, _||_}
+use mathlib.Core.List.{List, [], _∷_, map, List·Memᴰ, List·Memᴰ·head, List·Memᴰ·tail, Memᴰ·map, Memᴰ·of-map}
+use lib.ListN.{length}
+use lib.Dec.{leb, ltb, eqb}
+use Rattle.base.specs.Lists.{any, first, anyBelow}
+use Rattle.literal.specs.Literals.{twin}
+use Rattle.walk.specs.Walk.{Stamps}
+use Rattle.walk.specs.Forest.{dis, fin, par, top}
+use Rattle.hidden.specs.Hidden.{holds, insert, byDiscovery, passes, scanAt, scan, hiddenTautology, unhidden, shorten}
+use Rattle.hidden.specs.Failed.{sameStart, holdsBoth, lowest, failedSlot}
+use Rattle.hidden.proofs.Basics.{filter-same, sub-mem}
+use Rattle.hidden.proofs.Intervals.{Within}
+use Rattle.hidden.proofs.Sorted.{sorted-out}
+use Rattle.hidden.proofs.Shorten.{unhidden-sub}
+
+-- the same records on the slots below size
+pub record Agree (size : ℕ) (σ ρ : Stamps) : Type 0 where
+  pub discoveries : (q : ℕ) → q < size → dis σ q ≡ dis ρ q
+  pub finishes : (q : ℕ) → q < size → fin σ q ≡ fin ρ q
+  pub parents : (q : ℕ) → q < size → par σ q ≡ par ρ q
+  pub starts : (q : ℕ) → q < size → top σ q ≡ top ρ q
+
+abbrev Below : ℕ → List ℕ → Type 0
+Below size xs = (x : ℕ) → List·Memᴰ x xs → x < size
+
+-- ---- tests that agree where they are asked
+
+any-same : {A : Type 0} (p q : A → Bool) (xs : List A) → ((x : A) → List·Memᴰ x xs → p x ≡ q x) → any p xs ≡ any q xs
+unfolding any
+any-same p q [] h = refl
+any-same p q (x ∷ xs) h = λ i. elim (h x (List·Memᴰ·head refl) i) [ true ↦ true | false ↦ any-same p q xs (λ y m. h y (List·Memᴰ·tail m)) i ]
+
+anyBelow-same : (p q : ℕ → Bool) (n : ℕ) → ((i : ℕ) → i < n → p i ≡ q i) → anyBelow n p ≡ anyBelow n q
+unfolding anyBelow
+anyBelow-same p q zero h = refl
+anyBelow-same p q (suc n) h = λ i. elim (h n (omega arith) i) [ true ↦ true | false ↦ anyBelow-same p q n (λ j lt. h j (omega arith)) i ]
+
+first-same : (p q : ℕ → Bool) (n k : ℕ) → ((i : ℕ) → k ≤ i → i < k + n → p i ≡ q i) → first p n k ≡ first q n k
+unfolding first
+first-same p q zero k h = refl
+first-same p q (suc n) k h = λ i. elim (h k (omega arith) (omega arith) i) [ true ↦ k | false ↦ first-same p q n (suc k) (λ j le lt. h j (omega arith) (omega arith)) i ]
+
+-- ---- figures 5 and 6
+
+module _ (size : ℕ) (σ ρ : Stamps) (A : Agree size σ ρ) where
+  holds-agree : (a b : ℕ) → a < size → b < size → holds σ a b ≡ holds ρ a b
+  unfolding holds
+  holds-agree a b la lb = λ i. leb (A .discoveries a la i) (A .discoveries b lb i) && leb (A .finishes b lb i) (A .finishes a la i)
+
+  insert-agree : (x : ℕ) (ys : List ℕ) → x < size → Below size ys → insert σ x ys ≡ insert ρ x ys
+  unfolding insert
+  insert-agree x [] lx b = refl
+  insert-agree x (y ∷ ys) lx b =
+      λ i. elim (leb (A .discoveries x lx i) (A .discoveries y (b y (List·Memᴰ·head refl)) i)) [ true ↦ x ∷ y ∷ ys | false ↦ y ∷ insert-agree x ys lx (λ z m. b z (List·Memᴰ·tail m)) i ]
+
+  sorted-agree : (xs : List ℕ) → Below size xs → byDiscovery σ xs ≡ byDiscovery ρ xs
+  unfolding byDiscovery
+  sorted-agree [] b = refl
+  sorted-agree (x ∷ xs) b =
+      let c : Below size xs = λ y m. b y (List·Memᴰ·tail m) in
+      insert-agree x (byDiscovery σ xs) (b x (List·Memᴰ·head refl)) (λ y m. c y (sorted-out σ xs m)) ∙ ap (insert ρ x) (sorted-agree xs c)
+
+  passes-agree : (two : Bool) (n p : ℕ) → n < size → p < size → passes σ two n p ≡ passes ρ two n p
+  unfolding passes
+  passes-agree two n p ln lp = λ i. ltb (A .finishes n ln i) (A .finishes p lp i) || (two && (eqb p (twin n) || eqb (A .parents p lp i) n))
+
+  scanAt-agree : (two : Bool) (next next′ : List ℕ → Bool) (p : ℕ) (ns : List ℕ) → ((ms : List ℕ) → Below size ms → next ms ≡ next′ ms) → p < size → Below size ns → scanAt σ two next p ns ≡ scanAt ρ two next′ p ns
+  unfolding scanAt
+  scanAt-agree two next next′ p [] same lp b = refl
+  scanAt-agree two next next′ p (n ∷ ns) same lp b =
+      let ln = b n (List·Memᴰ·head refl) in
+      λ i. elim (ltb (A .discoveries p lp i) (A .discoveries n ln i)) [
+        | true ↦ same (n ∷ ns) b i
+        | false ↦ elim (passes-agree two n p ln lp i) [ true ↦ scanAt-agree two next next′ p ns same lp (λ y m. b y (List·Memᴰ·tail m)) i | false ↦ true ]
+      ]
+
+  scan-agree : (two : Bool) (ps ns : List ℕ) → Below size ps → Below size ns → scan σ two ps ns ≡ scan ρ two ps ns
+  unfolding scan
+  scan-agree two [] ns bp bn = refl
+  scan-agree two (p ∷ ps) ns bp bn = scanAt-agree two (scan σ two ps) (scan ρ two ps) p ns (λ ms bm. scan-agree two ps ms (λ y m. bp y (List·Memᴰ·tail m)) bm) (bp p (List·Memᴰ·head refl)) bn
+
+  pub tautology-agree : (C : List ℕ) → Within size C → hiddenTautology σ C ≡ hiddenTautology ρ C
+  unfolding hiddenTautology
+  tautology-agree C w =
+      let two : Bool = eqb (length C) 2 in
+      let twins : Below size (map twin C) = λ x m. let r = Memᴰ·of-map twin C m in subst (λ (y : ℕ). y < size) (r .2) (w (r .0) (r .1) .1) in
+      scan-agree two (byDiscovery σ C) (byDiscovery σ (map twin C)) (λ x m. w x (sorted-out σ C m) .0) (λ x m. twins x (sorted-out σ (map twin C) m))
+      ∙ ap (λ (l : List ℕ). scan ρ two l (byDiscovery σ (map twin C))) (sorted-agree C (λ x m. w x m .0))
+      ∙ ap (scan ρ two (byDiscovery ρ C)) (sorted-agree (map twin C) twins)
+
+  unhidden-agree : {L : Type 0} (slot : L → ℕ) (f g : ℕ → ℕ → Bool) (C : List L) → ((a b : ℕ) → List·Memᴰ a (map slot C) → List·Memᴰ b (map slot C) → f a b ≡ g a b) → unhidden slot f C ≡ unhidden slot g C
+  unfolding unhidden
+  unhidden-agree slot f g C h =
+      filter-same _ _ C (λ l m. ap not (any-same _ _ (map slot C) (λ b n. ap (λ (v : Bool). not (eqb b (slot l)) && v) (h (slot l) b (Memᴰ·map slot m) n))))
+
+  pub shorten-agree : {L : Type 0} (slot : L → ℕ) (C : List L) → Within size (map slot C) → shorten slot σ C ≡ shorten slot ρ C
+  unfolding shorten
+  shorten-agree {L} slot C w =
+      let D : List L = unhidden slot (holds σ) C in
+      let in-C : (a : ℕ) → List·Memᴰ a (map slot D) → List·Memᴰ a (map slot C) = λ a m. let r = Memᴰ·of-map slot D m in subst (λ (x : ℕ). List·Memᴰ x (map slot C)) (r .2) (Memᴰ·map slot (sub-mem (unhidden-sub slot (holds σ) C) (r .1))) in
+      unhidden-agree slot (λ l m. holds σ (twin m) (twin l)) (λ l m. holds ρ (twin m) (twin l)) D (λ a b i j. holds-agree (twin b) (twin a) (w b (in-C b j) .1) (w a (in-C a i) .1))
+      ∙ ap (unhidden slot (λ l m. holds ρ (twin m) (twin l))) (unhidden-agree slot (holds σ) (holds ρ) C (λ a b i j. holds-agree a b (w a i .0) (w b j .0)))
+
+  -- ---- failed literals
+
+  module _ (s : ℕ) (ls : s < size) (lt : twin s < size) where
+    pub same-agree : sameStart σ s ≡ sameStart ρ s
+    unfolding sameStart
+    same-agree = λ i. eqb (A .starts s ls i) (A .starts (twin s) lt i)
+
+    both-agree : (x : ℕ) → x < size → holdsBoth σ s x ≡ holdsBoth ρ s x
+    unfolding holdsBoth
+    both-agree x lx = λ i. holds-agree x s lx ls i && holds-agree x (twin s) lx lt i
+
+    lowest-agree : (x : ℕ) → x < size → lowest σ size s x ≡ lowest ρ size s x
+    unfolding lowest
+    lowest-agree x lx =
+        λ i. both-agree x lx i && not (anyBelow-same (λ y. not (eqb y x) && (holdsBoth σ s y && holds σ x y)) (λ y. not (eqb y x) && (holdsBoth ρ s y && holds ρ x y)) size
+        (λ y ly. ap (λ (b : Bool). not (eqb y x) && b) (λ j. both-agree y ly j && holds-agree x y lx ly j)) i)
+
+    pub failed-agree : failedSlot σ size s ≡ failedSlot ρ size s
+    unfolding failedSlot
+    failed-agree = first-same (lowest σ size s) (lowest ρ size s) size 0 (λ x le lx. lowest-agree x (omega arith))

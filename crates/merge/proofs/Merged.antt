@@ -1,0 +1,247 @@
+-- THE LAW of the opening: without a clash, and with no standing clause that refusal 6 names, the tables keep the shape rule with the new classes, every clause still to be visited.
+-- Why: a variable that loses its own class has an edge, so it stands in a two-literal clause; there it was its own class and had no value.
+-- Assumes nothing.
+use Prim.Native.Nat.{ℕ, zero, suc, _+_, _-_, _*_, _/_, _%_, _≤_, _<_}
+use native.Mathlib.Omega.{arith}
+use mathlib.Core.Path.{_≡_, refl, sym, ap, subst, _∙_}
+use mathlib.Core.Bool.{Bool, true, false, not, _&&_, _||_}
+use mathlib.Core.Logic.{_⊎_, ⊎-elim}
+use mathlib.Core.List.{List, [], _∷_, List·Memᴰ, List·Memᴰ·head, List·Memᴰ·tail, List·Memᴰ·not-nil}
+use lib.ListN.{length, getD, drop, length-drop}
+use lib.Seq.{getD-take, getD-drop, length-take-le}
+use lib.Dec.{eqb}
+use lib.IntN.{ℤ, pos, negℤ, natAbs}
+use borrow.Author.Tests.{lt-ltb, ltb-true, eq-eqb}
+use Rattle.base.specs.Lists.{any}
+use Rattle.base.specs.Decide.{same-or}
+use Rattle.base.proofs.Lists.{any-here, any-next}
+use Rattle.literal.specs.Literals.{slotOf, litAt, twin}
+use Rattle.literal.proofs.Signed.{abs-neg, ne-eqZ}
+use Rattle.literal.proofs.Laws.{lit-slot, lit-var, slot-twin, slot-below}
+use Rattle.literal.proofs.Twins.{twin-odd}
+use Rattle.walk.specs.Forest.{Reach, here, on}
+use Rattle.graph.specs.Skew.{Skew}
+use Rattle.graph.specs.Edges.{outs}
+use Rattle.graph.specs.Clauses.{froms, tos, implications}
+use Rattle.graph.proofs.Csr.{outs-out}
+use Rattle.groups.specs.Groups.{leastMutual, Representative}
+use Rattle.groups.proofs.Least.{least-mutual, first-is}
+use Rattle.groups.proofs.Classes.{same-rep, twin-rep}
+use Rattle.tables.specs.Tables.{Tables, startOf, lengthOf, standing, variableAt, classOf, valueOf}
+use Rattle.tables.specs.Clauses.{literalsOf, slotsFrom}
+use Rattle.tables.specs.Passes.{valued, unsettled, firstUnsettled}
+use Rattle.shape.specs.Shape.{Variable}
+use Rattle.clauses.specs.Formed.{Formed}
+use Rattle.clauses.proofs.Forming.{part-inside}
+use Rattle.pairs.specs.Pairs.{Listed}
+use Rattle.pairs.proofs.Listing.{formed-listed, from-clauses, froms-mem, slot-literal}
+use Rattle.components.proofs.Chain.{listed-skew}
+use Rattle.merge.specs.Merge.{edgesOf, clashes, representative, regrouped}
+use Rattle.merge.proofs.Regrouped.{regrouped-length, regrouped-class, regrouped-value}
+use Rattle.merge.proofs.Opening.{none-clash}
+
+-- ---- a slot with an edge has its variable in a clause
+
+-- a path that goes anywhere begins with an edge
+first-edge : (adj : ℕ → List ℕ) {a b : ℕ} → Reach adj a b → (a ≡ b → ⊥) → (q : ℕ) × List·Memᴰ q (adj a)
+first-edge adj here d = absurd (d refl)
+first-edge adj {a} (on {b = b} {c = c} r m) d = ⊎-elim (λ (e : a ≡ b). (c, subst (λ (x : ℕ). List·Memᴰ c (adj x)) (sym e) m)) (λ (n : a ≡ b → ⊥). first-edge adj r n) (same-or a b)
+
+outs-from : (fs ts : List ℕ) (p : ℕ) {q : ℕ} → List·Memᴰ q (outs fs ts p) → List·Memᴰ p fs
+unfolding outs
+outs-from [] ts p m = absurd (List·Memᴰ·not-nil m)
+outs-from (f ∷ fs) [] p m = absurd (List·Memᴰ·not-nil m)
+outs-from (f ∷ fs) (t ∷ ts) p {q} m =
+    ⊎-elim
+    (λ (e : f ≡ p). List·Memᴰ·head (sym e))
+    (λ (d : f ≡ p → ⊥). List·Memᴰ·tail (outs-from fs ts p (subst (List·Memᴰ q) (outs-out f t p fs ts d) m)))
+    (same-or f p)
+
+-- slots 2w and 2w + 1 are those of variable w + 1
+pub slot-variable : (x : ℤ) → 0 < natAbs x → natAbs x ≡ slotOf x / 2 + 1
+slot-variable x above = ap natAbs (sym (lit-slot x above)) ∙ lit-var (slotOf x)
+
+pub edge-variable : {v n : ℕ} {c : List ℕ} {l : List ℤ} → Listed v n c l → (s : ℕ) {q : ℕ} → List·Memᴰ q (implications (slotsFrom c l n 0) s)
+    → (i : ℕ) × (i < n) × (j : ℕ) × (j < lengthOf c i) × (variableAt l (startOf c i + j) ≡ s / 2 + 1)
+edge-variable {v} {n} {c} {l} L s m =
+    let clauses : List (List ℕ) = slotsFrom c l n 0 in
+    let (C, in-clauses, a, in-C, twin-a) = froms-mem clauses (outs-from (froms clauses) (tos clauses) s m) in
+    let (i, below, is) = from-clauses c l n 0 in-clauses in
+    let lt : i < n = omega arith in
+    let (j, lj, slot) = slot-literal c l i (L .parts i lt) (subst (List·Memᴰ a) is in-C) in
+    let x : ℤ = getD l (startOf c i + j) (pos 0) in
+    let above : 0 < natAbs x = L .each i lt j lj .above in
+    let s-is : slotOf (negℤ x) ≡ s = slot-twin x above ∙ ap twin (sym slot) ∙ sym twin-a in
+    (i, lt, j, lj, sym (abs-neg x) ∙ slot-variable (negℤ x) (omega (arith, above, abs-neg x)) ∙ ap (λ (k : ℕ). k / 2 + 1) s-is)
+
+-- ---- refusal 6
+
+any-at : {A : Type 0} (p : A → Bool) (xs : List A) (d : A) (k : ℕ) → k < length xs → p (getD xs k d) ≡ true → any p xs ≡ true
+any-at p [] d k lt e = absurd (omega arith)
+any-at p (x ∷ xs) d zero lt e = any-here p x xs e
+any-at p (x ∷ xs) d (suc k) lt e = go (any-at p xs d k (omega arith) e) (p x) refl
+  where
+    go : any p xs ≡ true → (b : Bool) → p x ≡ b → any p (x ∷ xs) ≡ true
+    go rest true h = any-here p x xs h
+    go rest false h = any-next p x xs h ∙ rest
+
+or-right : (a b : Bool) → b ≡ true → (a || b) ≡ true
+or-right true b e = refl
+or-right false b e = e
+
+module _ {v n : ℕ} (t : Tables) (F : Formed v n n false (t .clauses) (t .literals) (t .variables)) (settled : firstUnsettled t n ≡ n) (i : ℕ) (lt : i < n) (j : ℕ) (lj : j < lengthOf (t .clauses) i) where
+  stands : standing (t .clauses) i ≡ 1
+  stands = ⊎-elim (λ (z : standing (t .clauses) i ≡ 0). absurd (omega (arith, F .rule .parts .dropped i lt z, lj))) (λ (d : standing (t .clauses) i ≡ 0 → ⊥). omega (arith, F .rule .parts .flag i lt, d)) (same-or (standing (t .clauses) i) 0)
+
+  abbrev variable : ℕ
+  variable = variableAt (t .literals) (startOf (t .clauses) i + j)
+
+  unsettled-here : (valueOf (t .variables) variable ≡ pos 0 → ⊥) → unsettled t i ≡ true
+  unsettled-here d =
+      let C : List ℤ = literalsOf (t .clauses) (t .literals) i in
+      let len : length C ≡ lengthOf (t .clauses) i = length-take-le (lengthOf (t .clauses) i) (drop (startOf (t .clauses) i) (t .literals)) (omega (arith, length-drop (startOf (t .clauses) i) (t .literals), part-inside F i lt)) in
+      let at : getD C j (pos 0) ≡ getD (t .literals) (startOf (t .clauses) i + j) (pos 0) = getD-take (lengthOf (t .clauses) i) (drop (startOf (t .clauses) i) (t .literals)) j (pos 0) lj ∙ getD-drop (startOf (t .clauses) i) (t .literals) j (pos 0) in
+      let one : valued (t .variables) (getD C j (pos 0)) ≡ true = ap (valued (t .variables)) at ∙ ap not (ne-eqZ (valueOf (t .variables) variable) (pos 0) d) in
+      ap (λ (b : Bool). b && (eqb (lengthOf (t .clauses) i) 1 || any (valued (t .variables)) C)) (eq-eqb (standing (t .clauses) i) 1 stands)
+      ∙ or-right (eqb (lengthOf (t .clauses) i) 1) (any (valued (t .variables)) C) (any-at (valued (t .variables)) C (pos 0) j (omega (arith, len, lj)) one)
+
+  -- so no variable of a clause has a value
+  no-value : (valueOf (t .variables) variable ≡ pos 0 → ⊥) → ⊥
+  unfolding firstUnsettled
+  no-value d = omega (arith, settled, lt, first-is (unsettled t) n 0 i (omega arith) (omega arith) (unsettled-here d) .1)
+
+  -- and each is its own class
+  own-class : classOf (t .variables) variable ≡ pos variable
+  own-class = F .rule .each i lt .own (lt-ltb i n lt) j lj
+
+-- ---- the new classes
+
+module _ {v n : ℕ} (t : Tables) (F : Formed v n n false (t .clauses) (t .literals) (t .variables)) (none : clashes (edgesOf t n) v ≡ false) (settled : firstUnsettled t n ≡ n) where
+  abbrev adj : ℕ → List ℕ
+  adj = edgesOf t n
+
+  abbrev old : List ℤ
+  old = t .variables
+
+  abbrev new : List ℤ
+  new = regrouped (representative adj v) v old
+
+  abbrev rep : ℕ → ℕ
+  rep = leastMutual adj (2 * v)
+
+  skew : Skew adj twin (2 * v)
+  skew = listed-skew (formed-listed F)
+
+  least : (s : ℕ) → s < 2 * v → Representative adj (2 * v) s (rep s)
+  least = least-mutual adj (2 * v) (skew .inside)
+
+  -- a slot that reaches another was its own class, and had no value
+  moved-own : {r q : ℕ} → Reach adj r q → (r ≡ q → ⊥) → classOf old (r / 2 + 1) ≡ pos (r / 2 + 1)
+  moved-own {r} path d =
+      let (i, lt, j, lj, is) = edge-variable (formed-listed F) r (first-edge adj path d .1) in
+      subst (λ (x : ℕ). classOf old x ≡ pos x) is (own-class t F settled i lt j lj)
+
+  moved-unvalued : {r q : ℕ} → Reach adj r q → (r ≡ q → ⊥) → (valueOf old (r / 2 + 1) ≡ pos 0 → ⊥) → ⊥
+  moved-unvalued {r} path d h =
+      let (i, lt, j, lj, is) = edge-variable (formed-listed F) r (first-edge adj path d .1) in
+      no-value t F settled i lt j lj (λ e. h (subst (λ (x : ℕ). valueOf old x ≡ pos 0) is e))
+
+  -- the class of a variable is the literal of a representative
+  class-new : (u : ℕ) → u < v → classOf new (u + 1) ≡ litAt (rep (slotOf (classOf old (u + 1))))
+  unfolding representative
+  class-new u lt = regrouped-class (representative adj v) v old u lt (omega (arith, F .vars .few, F .vars .room))
+
+  -- a representative's variable: the representative of its positive literal is that literal
+  positive-fixed : (r : ℕ) → r < 2 * v → rep r ≡ r → rep (2 * (r / 2)) ≡ 2 * (r / 2)
+  positive-fixed r lt fixed =
+      ⊎-elim
+      (λ (e : r % 2 ≡ 0). subst (λ (x : ℕ). rep x ≡ x) (let q : r ≡ 2 * (r / 2) = omega arith in q) fixed)
+      (λ (d : r % 2 ≡ 0 → ⊥).
+      subst (λ (x : ℕ). rep x ≡ x) (twin-odd r d ∙ (let q : r - 1 ≡ 2 * (r / 2) = omega arith in q))
+      (twin-rep adj (2 * v) skew r lt (none-clash adj v skew none r lt) ∙ ap twin fixed))
+      (same-or (r % 2) 0)
+
+  -- so a variable that was its own class stays it where a representative is its literal
+  own-stays : (r : ℕ) → r < 2 * v → rep r ≡ r → classOf old (r / 2 + 1) ≡ pos (r / 2 + 1) → classOf new (r / 2 + 1) ≡ pos (r / 2 + 1)
+  own-stays r lt fixed own =
+      let x : ℕ = r / 2 + 1 in
+      let slot : slotOf (pos x) ≡ 2 * (r / 2) = omega arith in
+      class-new (r / 2) (omega arith)
+      ∙ ap (λ (z : ℤ). litAt (rep (slotOf z))) own
+      ∙ ap (λ (k : ℕ). litAt (rep k)) slot
+      ∙ ap litAt (positive-fixed r lt fixed ∙ sym slot)
+      ∙ lit-slot (pos x) (omega arith)
+
+  module _ (u : ℕ) (lt : u < v) where
+    X : Variable old (u + 1)
+    X = F .vars .each u lt
+
+    abbrev class : ℤ
+    class = classOf old (u + 1)
+
+    slot-in : slotOf class < 2 * v
+    slot-in = slot-below class v (X .class .above) (omega (arith, X .class .within, lt))
+
+    abbrev r : ℕ
+    r = rep (slotOf class)
+
+    R : Representative adj (2 * v) (slotOf class) r
+    R = least (slotOf class) slot-in
+
+    new-variable : natAbs (classOf new (u + 1)) ≡ r / 2 + 1
+    new-variable = ap natAbs (class-new u lt) ∙ lit-var r
+
+    r-own : classOf old (r / 2 + 1) ≡ pos (r / 2 + 1)
+    r-own =
+        ⊎-elim
+        (λ (e : r ≡ slotOf class). subst (λ (x : ℕ). classOf old x ≡ pos x) (slot-variable class (X .class .above) ∙ ap (λ (k : ℕ). k / 2 + 1) (sym e)) (X .own))
+        (λ (d : r ≡ slotOf class → ⊥). moved-own (R .back) d)
+        (same-or r (slotOf class))
+
+    own-slot : slotOf (pos (u + 1)) ≡ 2 * u
+    own-slot = omega arith
+
+    -- a variable with a value is no part of the graph
+    unmoved : (valueOf old (u + 1) ≡ pos 0 → ⊥) → rep (2 * u) ≡ 2 * u
+    unmoved d =
+        ⊎-elim
+        (λ (e : 2 * u ≡ rep (2 * u)). sym e)
+        (λ (m : 2 * u ≡ rep (2 * u) → ⊥). absurd (moved-unvalued (least (2 * u) (omega arith) .there) m (λ e. d (subst (λ (k : ℕ). valueOf old k ≡ pos 0) (let q : 2 * u / 2 + 1 ≡ u + 1 = omega arith in q) e))))
+        (same-or (2 * u) (rep (2 * u)))
+
+    merged-variable : Variable new (u + 1)
+    merged-variable = record {
+      class = record {
+        above = omega (arith, new-variable);
+        within = omega (arith, new-variable, slot-variable class (X .class .above), X .class .within, R .least (slotOf class) here here);
+      };
+      own =
+          subst (λ (x : ℕ). classOf new x ≡ pos x) (sym new-variable)
+          (own-stays r (R .below) (sym (same-rep adj (2 * v) skew (slotOf class) r slot-in (R .below) .1 (R .there) (R .back))) r-own);
+      value = subst (λ (z : ℤ). natAbs z ≤ 1) (sym (regrouped-value (representative adj v) v old u)) (X .value);
+      valued = λ h.
+          let d : valueOf old (u + 1) ≡ pos 0 → ⊥ = λ e. h (regrouped-value (representative adj v) v old u ∙ e) in
+          class-new u lt
+          ∙ ap (λ (z : ℤ). litAt (rep (slotOf z))) (X .valued d)
+          ∙ ap (λ (k : ℕ). litAt (rep k)) own-slot
+          ∙ ap litAt (unmoved d ∙ sym own-slot)
+          ∙ lit-slot (pos (u + 1)) (omega arith);
+    }
+
+  -- THE LAW
+  pub merged-formed : Formed v n 0 false (t .clauses) (t .literals) new
+  merged-formed = record {
+    number = F .number;
+    records = F .records;
+    places = F .places;
+    rule = record {
+      parts = F .rule .parts;
+      each = λ i lt. record {
+        ranged = F .rule .each i lt .ranged;
+        once = F .rule .each i lt .once;
+        own = λ e k h. absurd (let no : i < 0 = ltb-true i 0 e in omega arith);
+      };
+      empty = F .rule .empty;
+    };
+    vars = record { few = F .vars .few; room = omega (arith, regrouped-length (representative adj v) v old, F .vars .room); each = merged-variable };
+  }

@@ -1,0 +1,65 @@
+-- The call: with no clause it is done at once, and each way of its entry is a way of `propagateCall`. Assumes nothing.
+use Prim.Native.Nat.{ℕ, zero, suc, _+_, _*_, _≤_, _<_}
+use native.Mathlib.Omega.{arith}
+use mathlib.Core.Path.{_≡_, refl, sym, ap, subst, _∙_}
+use mathlib.Core.Bool.{Bool, true, false}
+use mathlib.Core.List.{List, []}
+use lib.IntN.{ℤ}
+use Rattle.state.specs.declared.State.{State}
+use Rattle.state.specs.declared.Counts.{Counts}
+use Rattle.state.specs.declared.Refusal.{Refusal}
+use Rattle.tables.specs.Tables.{Tables, tables}
+use Rattle.tables.specs.Clauses.{gone, standingCount, literalCount}
+use Rattle.tables.specs.Calls.{After, refuse}
+use Rattle.shape.specs.Entry.{entryOf}
+use Rattle.shape.specs.declared.Entry.{Entry}
+use Rattle.shape.specs.declared.Entry.the-variants.{No, Opens, Resumes}
+use Rattle.shape.proofs.Entering.{opens-entered, resumes-entered}
+use Rattle.clauses.specs.Formed.{Formed}
+use Rattle.clauses.proofs.Entered.{entered-formed, entered-cursor}
+use Rattle.propagate.specs.Propagate.{Progress, going, settled, begin, resumed, Reached, replied, propagateVisits, propagateFrom, propagateBy, propagateCall}
+use Rattle.propagate.specs.Steps.{repliedWith, Resumable}
+use Rattle.propagate.specs.declared.Stand.the-variants.{Settled}
+
+-- ---- with no clause
+
+none-gone : (n : ℕ) (before : List ℕ) → n ≡ 0 → record { visits = 0; clauses = 0; literals = 0 } ≡ gone 0 n before before
+unfolding standingCount literalCount
+none-gone n before e = subst (λ (k : ℕ). record { visits = 0; clauses = 0; literals = 0 } ≡ gone 0 k before before) (sym e) refl
+
+settled-visits : (n m : ℕ) (t : Tables) → propagateVisits n m 0 (settled t) ≡ record { visits = 0; progress = settled t }
+unfolding propagateVisits
+settled-visits n zero t = refl
+settled-visits n (suc m) t = refl
+
+pub none-replied : (steps : ℕ) (st : State) (t : Tables) → st .n ≡ 0 → repliedWith false (record { visits = 0; clauses = 0; literals = 0 }) st Settled t ≡ propagateFrom false steps (begin (st .n) t) t st
+unfolding propagateFrom
+none-replied steps st t e =
+    ap (λ (c : Counts). repliedWith false c st Settled t) (none-gone (st .n) (t .clauses) e)
+    ∙ ap (λ (r : Reached). replied false (t .clauses) st (r .visits) (r .progress)) (sym (settled-visits (st .n) steps t))
+    ∙ ap (λ (p : Progress). replied false (t .clauses) st (propagateVisits (st .n) steps 0 p .visits) (propagateVisits (st .n) steps 0 p .progress)) (sym (ap (λ (k : ℕ). begin k t) e))
+
+pub begin-some : (n : ℕ) (t : Tables) → (n ≡ 0 → ⊥) → going 0 false t ≡ begin n t
+begin-some zero t d = absurd (d refl)
+begin-some (suc n) t d = refl
+
+-- ---- the three ways of the call
+
+module _ (steps : ℕ) (t : Tables) (st : State) where
+  pub call-refused : (r : Refusal) → entryOf 1 t st ≡ No r → refuse r st t ≡ propagateCall steps t st
+  unfolding propagateCall
+  call-refused r e = ap (λ (x : Entry). propagateBy x steps t st) (sym e)
+
+  pub call-opens : entryOf 1 t st ≡ Opens → propagateFrom false steps (begin (st .n) t) t st ≡ propagateCall steps t st
+  unfolding propagateCall
+  call-opens e = ap (λ (x : Entry). propagateBy x steps t st) (sym e)
+
+  pub call-resumes : entryOf 1 t st ≡ Resumes → propagateFrom (st .fresh) steps (resumed (st .pass) t) t st ≡ propagateCall steps t st
+  unfolding propagateCall
+  call-resumes e = ap (λ (x : Entry). propagateBy x steps t st) (sym e)
+
+  pub opens-formed : entryOf 1 t st ≡ Opens → Formed (st .v) (st .n) (st .n) false (t .clauses) (t .literals) (t .variables)
+  opens-formed e = entered-formed (opens-entered 1 t st e) (λ z. omega arith)
+
+  pub resumes-resumable : entryOf 1 t st ≡ Resumes → Resumable st (t .clauses) (t .literals) (t .variables)
+  resumes-resumable e = let E = resumes-entered 1 t st e in record { formed = entered-formed E (λ z. omega arith); cursor = entered-cursor E; pass = E .pass }

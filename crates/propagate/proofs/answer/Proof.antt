@@ -1,0 +1,28 @@
+-- `propagate::answer` meets its contract. Assumes nothing.
+use borrow.Author.Needs.{needs}
+use Rattle.propagate.proofs.answer.Statement.{statement}
+use Rattle.propagate.proofs.answer.Tie as tie
+use Rattle.propagate.proofs.answer.Reads as reads
+use Rattle.propagate.proofs.answer.Lts as lts
+
+enum-known-stand : tie.Need-enum-known-stand
+enum-known-stand c = search needs
+
+enum-told : tie.Need-enum-told
+enum-told c = search needs
+
+enum-told-2 : tie.Need-enum-told-2
+enum-told-2 c = search needs
+
+returns : tie.Need-returns
+returns c = λ t. rw (c .before .stand .given .1)
+
+returns-2 : tie.Need-returns-2
+returns-2 c = λ t. rw (c .enum-told .given .1)
+
+returns-3 : tie.Need-returns-3
+returns-3 c = λ t. rw (c .enum-told2 .given .1)
+
+pub answer-spec : {M : Type 1} → statement M
+answer-spec =
+    tie.close (tie.spec enum-known-stand enum-told enum-told-2 returns returns-2 returns-3)

@@ -1,0 +1,74 @@
+-- `propagate::propagate_from` meets its contract. Assumes nothing.
+use Prim.Native.Nat.{ℕ}
+use mathlib.Core.Path.{_≡_}
+use mathlib.Core.List.{List}
+use lib.IntN.{ℤ}
+use Rattle.tables.specs.Tables.{tables}
+use Rattle.tables.specs.Calls.{after}
+use Rattle.propagate.specs.Propagate.{going}
+use Rattle.clauses.proofs.Counting.{formed-counted}
+use Rattle.propagate.proofs.Answering.{counts-are, replied-is, reach-counted}
+use borrow.Author.Needs.{needs}
+use Rattle.propagate.proofs.propagate_from.Statement.{statement}
+use Rattle.propagate.proofs.propagate_from.Tie as tie
+use Rattle.propagate.proofs.propagate_from.Reads as reads
+use Rattle.propagate.proofs.propagate_from.Lts as lts
+use Rattle.clauses.proofs.count_standing.Reads as count-standing-reads
+use Rattle.clauses.proofs.counts_of.Reads as counts-of-reads
+use Rattle.propagate.proofs.answer.Reads as answer-reads
+use Rattle.propagate.proofs.visit_some.Reads as visit-some-reads
+
+cast-count-standing : tie.Need-cast-count-standing
+cast-count-standing c = search needs
+
+count-standing-requires : tie.Need-count-standing-requires
+count-standing-requires c κs = formed-counted (c .before .before .pre .formed)
+
+visit-some-requires : tie.Need-visit-some-requires
+visit-some-requires c κs = search needs
+
+cast-count-standing-2 : tie.Need-cast-count-standing-2
+cast-count-standing-2 c = search needs
+
+count-standing-requires-2 : tie.Need-count-standing-requires-2
+count-standing-requires-2 c κs = let a = c .before .before .before .before .before .before .before .before .before .before .before .before .args in let v = c .before .before .before .before .before .visit-some in
+    reach-counted (a .st .n) (a .steps) (a .cursor) (a .flag) (a .clauses .now) (a .literals .now) (a .variables .now) (v .result) (v .last .0) (v .last .1 .0) (v .last .1 .1 .0) (c .before .before .before .before .before .before .before .before .before .before .before .before .pre) (v .ensures)
+
+counts-of-requires : tie.Need-counts-of-requires
+counts-of-requires c κs = search needs
+
+answer-requires : tie.Need-answer-requires
+answer-requires c κs = search needs
+
+same-length : tie.Need-same-length
+same-length c = search needs
+
+same-length-2 : tie.Need-same-length-2
+same-length-2 c = search needs
+
+same-length-3 : tie.Need-same-length-3
+same-length-3 c = search needs
+
+returns : tie.Need-returns
+returns c = λ times links. let a = c .before .before .before .before .before .before .before .before .before .before .before .before .before .before .before .args in let v = c .before .before .before .before .before .before .before .before .visit-some in
+    let t = tables (a .clauses .now) (a .literals .now) (a .variables .now) times links in
+    let t′ = tables (v .last .0) (v .last .1 .0) (v .last .1 .1 .0) times links in
+    replied-is (a .fresh) (a .steps) (a .st) (v .result) (going (a .cursor) (a .flag) t) t t′ (v .ensures times links) (c .before .counts-of .result)
+    (counts-are (a .st .n) (v .result .visits) (a .clauses .now) (v .last .0) (c .before .before .before .before .before .before .before .before .before .before .before .before .count-standing .result) (c .before .before .count-standing2 .result) (c .before .counts-of .result) (c .before .before .before .before .before .before .before .before .before .before .before .before .count-standing .ensures) (c .before .before .count-standing2 .ensures) (c .before .counts-of .ensures))
+    (after (c .answer .result) t′) (c .answer .ensures t′)
+
+pub propagate-from-spec : {M : Type 1} → statement M
+propagate-from-spec =
+    tie.close
+    (tie.spec
+    cast-count-standing
+    count-standing-requires
+    visit-some-requires
+    cast-count-standing-2
+    count-standing-requires-2
+    counts-of-requires
+    answer-requires
+    same-length
+    same-length-2
+    same-length-3
+    returns)

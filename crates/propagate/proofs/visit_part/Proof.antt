@@ -1,0 +1,112 @@
+-- `propagate::visit_part` meets its contract: each return is one of the fates. Assumes nothing.
+use Prim.Native.Nat.{ℕ, _-_, _≤_, _<_}
+use native.Mathlib.Omega.{arith}
+use mathlib.Core.Path.{_≡_, sym, _∙_}
+use mathlib.Core.Bool.{false}
+use mathlib.Core.List.{_++_}
+use lib.ListN.{length, replicate}
+use lib.IntN.{pos}
+use mir.Facts.{toZ-ofZ}
+use borrow.Author.Needs.{sfits-of}
+use Rattle.base.specs.Lists.{any}
+use Rattle.literal.proofs.Signed.{read}
+use Rattle.tables.specs.Values.{isTrue}
+use Rattle.propagate.proofs.Parting.{part-dropped, part-conflict, part-unit, part-left, part-count, part-room, unit-known}
+use borrow.Author.Needs.{needs}
+use Rattle.propagate.proofs.visit_part.Statement.{statement}
+use Rattle.propagate.proofs.visit_part.Tie as tie
+use Rattle.propagate.proofs.visit_part.Reads as reads
+use Rattle.propagate.proofs.visit_part.Lts as lts
+use Rattle.clauses.proofs.set_true.Reads as set-true-reads
+use Rattle.literal.proofs.zero_from.Reads as zero-from-reads
+use Rattle.propagate.proofs.any_true.Reads as any-true-reads
+use Rattle.propagate.proofs.remove_false.Reads as remove-false-reads
+
+-- no literal is true
+untrue : (c : tie.After-remove-false) → any (isTrue (c .before .before .before .before .before .before .before .args .variables .now)) (c .before .before .before .before .before .before .before .args .part .now) ≡ false
+untrue c = sym (c .before .before .before .before .any-true .ensures) ∙ c .before .before .before .if1 .left
+
+-- the part has a place for the one literal that is left
+room : (c : tie.Then3) → 0 < length (c .before .before .before .remove-false .last .0)
+room c = part-room (c .before .before .before .before .before .before .before .before .before .before .args .variables .now) (c .before .before .before .before .before .before .before .before .before .before .args .part .now) (c .before .before .before .remove-false .last .0) (c .before .before .before .remove-false .result) (untrue (c .before .before .before)) (c .before .before .before .remove-false .ensures .0) (c .before .before .before .remove-false .ensures .1) (c .if3 .taken)
+
+any-true-requires : tie.Need-any-true-requires
+any-true-requires c κs = search needs
+
+zero-from-requires : tie.Need-zero-from-requires
+zero-from-requires c κs = search needs
+
+same-length : tie.Need-same-length
+same-length c = search needs
+
+same-length-2 : tie.Need-same-length-2
+same-length-2 c = search needs
+
+returns : tie.Need-returns
+returns c = part-dropped (c .before .before .before .before .before .before .before .args .variables .now) (c .before .before .before .before .before .before .before .args .part .now) (c .before .zero-from .last .0) (sym (c .before .before .before .before .any-true .ensures) ∙ c .before .before .before .if1 .taken) (c .before .zero-from .ensures)
+
+remove-false-requires : tie.Need-remove-false-requires
+remove-false-requires c κs = search needs
+
+same-length-3 : tie.Need-same-length-3
+same-length-3 c = search needs
+
+same-length-4 : tie.Need-same-length-4
+same-length-4 c = search needs
+
+returns-2 : tie.Need-returns-2
+returns-2 c = part-conflict (c .before .before .before .before .before .before .before .before .before .args .variables .now) (c .before .before .before .before .before .before .before .before .before .args .part .now) (c .before .before .remove-false .last .0) (c .before .before .remove-false .result) (untrue (c .before .before)) (c .before .before .remove-false .ensures .0) (c .before .before .remove-false .ensures .1) (c .if2 .taken)
+
+slice-copy-out-l : tie.Need-slice-copy-out-l
+slice-copy-out-l c = room c
+
+set-true-requires : tie.Need-set-true-requires
+set-true-requires c κs = rw (read (c .before .before .before .before .before .remove-false .last .0) 0 (c .before .l .given)) (unit-known (c .before .before .before .before .before .before .before .before .before .before .before .before .args .variables .now) (c .before .before .before .before .before .before .before .before .before .before .before .before .args .part .now) (c .before .before .before .before .before .remove-false .last .0) (c .before .before .before .before .before .remove-false .result) (untrue (c .before .before .before .before .before)) (c .before .before .before .before .before .remove-false .ensures .0) (c .before .before .before .before .before .remove-false .ensures .1) (c .before .before .if3 .taken) (c .before .before .before .before .before .before .before .before .before .before .before .before .pre .0))
+
+slice-set-of-part : tie.Need-slice-set-of-part
+slice-set-of-part c = room (c .before .before .before .before)
+
+same-length-5 : tie.Need-same-length-5
+same-length-5 c = search needs
+
+same-length-6 : tie.Need-same-length-6
+same-length-6 c = search needs
+
+returns-3 : tie.Need-returns-3
+returns-3 c = part-unit (c .before .before .before .before .before .before .before .before .before .before .before .before .before .before .args .variables .now) (c .before .before .before .before .before .before .before .before .before .before .before .before .before .before .args .part .now) (c .before .before .before .before .before .before .before .remove-false .last .0) (c .before .before .before .before .before .before .before .remove-false .result) (untrue (c .before .before .before .before .before .before .before)) (c .before .before .before .before .before .before .before .remove-false .ensures .0) (c .before .before .before .before .before .before .before .remove-false .ensures .1) (c .before .set-true .last .0) (c .before .before .before .before .if3 .taken) (rw (read (c .before .before .before .before .before .before .before .remove-false .last .0) 0 (c .before .before .before .l .given)) at (c .before .set-true .ensures))
+
+cast-t24 : tie.Need-cast-t24
+cast-t24 c = let k = part-count (c .before .before .before .before .before .before .before .before .before .before .args .variables .now) (c .before .before .before .before .before .before .before .before .before .before .args .part .now) (c .before .before .before .remove-false .last .0) (c .before .before .before .remove-false .result) (untrue (c .before .before .before)) (c .before .before .before .remove-false .ensures .0) (c .before .before .before .remove-false .ensures .1) (c .before .before .before .before .before .before .before .before .before .before .pre .1) in omega arith
+
+same-length-7 : tie.Need-same-length-7
+same-length-7 c = search needs
+
+same-length-8 : tie.Need-same-length-8
+same-length-8 c = search needs
+
+returns-4 : tie.Need-returns-4
+returns-4 c = part-left (c .before .before .before .before .before .before .before .before .before .before .args .variables .now) (c .before .before .before .before .before .before .before .before .before .before .args .part .now) (c .before .before .before .remove-false .last .0) (c .before .before .before .remove-false .result) (untrue (c .before .before .before)) (c .before .before .before .remove-false .ensures .0) (c .before .before .before .remove-false .ensures .1) (c .before .if2 .left) (c .if3 .left)
+
+pub visit-part-spec : {M : Type 1} → statement M
+visit-part-spec =
+    tie.close
+    (tie.spec
+    any-true-requires
+    zero-from-requires
+    same-length
+    same-length-2
+    returns
+    remove-false-requires
+    same-length-3
+    same-length-4
+    returns-2
+    slice-copy-out-l
+    set-true-requires
+    slice-set-of-part
+    same-length-5
+    same-length-6
+    returns-3
+    cast-t24
+    same-length-7
+    same-length-8
+    returns-4)

@@ -1,0 +1,56 @@
+-- Where a pass stands, as the code answers it. Assumes nothing: these are definitions.
+use Prim.Native.Nat.{ℕ, suc, _<_}
+use mathlib.Core.Path.{_≡_}
+use mathlib.Core.Bool.{Bool, true, false, _||_}
+use mathlib.Core.List.{List}
+use lib.Dec.{ltb}
+use lib.IntN.{ℤ}
+use Rattle.state.specs.declared.State.{State}
+use Rattle.state.specs.declared.Counts.{Counts}
+use Rattle.state.specs.declared.Pass.the-variants.{Idle, Propagate}
+use Rattle.state.specs.declared.Answer.the-variants.{Open, Done}
+use Rattle.tables.specs.Tables.{Tables}
+use Rattle.tables.specs.Calls.{After, answered, state, marked}
+use Rattle.shape.specs.Shape.{Cursor}
+use Rattle.shape.specs.Entry.{passNumber}
+use Rattle.clauses.specs.Formed.{Formed}
+use Rattle.propagate.specs.Propagate.{Progress, going, settled, contradicted, onward, Reached, reached}
+use Rattle.propagate.specs.declared.Visited.{Visited}
+use Rattle.propagate.specs.declared.Visited.the-variants.{Kept, Left, Dropped, Unit1, Conflict}
+use Rattle.propagate.specs.declared.Stand.{Stand}
+use Rattle.propagate.specs.declared.Stand.the-variants.{Going, Settled, Contradicted}
+use Rattle.propagate.specs.declared.Reach.{Reach}
+
+abbrev pub progressOf : Stand → Tables → Progress
+progressOf (Going k changed) t = going k changed t
+progressOf Settled t = settled t
+progressOf Contradicted t = contradicted t
+
+abbrev pub reachedAs : Reach → Tables → Reached
+reachedAs r t = reached (r .visits) (progressOf (r .stand) t)
+
+-- where the pass stands after a visit to clause k, of so many literals, with the tables after it
+abbrev pub standAfter : ℕ → ℕ → Bool → ℕ → Visited → Tables → Progress
+standAfter n k changed size Kept t = onward n (suc k) changed t
+standAfter n k changed size (Left m) t = onward n (suc k) (changed || ltb m size) t
+standAfter n k changed size Dropped t = onward n (suc k) true t
+standAfter n k changed size Unit1 t = onward n (suc k) true t
+standAfter n k changed size Conflict t = contradicted t
+
+-- a pass that stands before clause k of n
+pub record Ready (n k : ℕ) (clauses : List ℕ) (literals variables : List ℤ) : Type 0 where
+  pub vars : ℕ
+  pub formed : Formed vars n n false clauses literals variables
+  pub below : k < n
+
+-- the answer of a call that has made its visits: `replied`, by where the pass stands
+abbrev pub repliedWith : Bool → Counts → State → Stand → Tables → After
+repliedWith fresh counts st (Going k changed) t = answered (Open counts) (state (st .v) (st .n) (Propagate k changed) fresh false) t
+repliedWith fresh counts st Settled t = answered (Done counts) (state (st .v) (st .n) Idle fresh false) t
+repliedWith fresh counts st Contradicted t = answered (Done counts) (marked st) t
+
+-- an open Propagate, in tables without the mark
+pub record Resumable (st : State) (clauses : List ℕ) (literals variables : List ℤ) : Type 0 where
+  pub formed : Formed (st .v) (st .n) (st .n) false clauses literals variables
+  pub cursor : Cursor (st .pass) (st .n) false
+  pub pass : passNumber (st .pass) ≡ 1

@@ -1,0 +1,7 @@
+pub mod Cases
+pub mod ReadBack
+pub mod LoadBack
+pub mod Plain
+pub mod Written
+pub mod Accepted
+pub mod Reread

@@ -1,0 +1,59 @@
+-- A worked case of Write: tables and a state, by hand or from a load, an output, and what the call leaves. Assumes nothing: these are definitions.
+use Prim.Native.Nat.{ℕ, zero, suc}
+use Prim.Native.Char.{code}
+use Prim.Native.String.{String, [] as nil, _∷_ as cons}
+use mathlib.Core.Path.{_≡_}
+use mathlib.Core.Bool.{Bool, false}
+use mathlib.Core.List.{List, [], _∷_, _++_}
+use lib.ListN.{replicate}
+use lib.IntN.{ℤ, pos}
+use Rattle.state.specs.Answers.{reply}
+use Rattle.state.specs.declared.State.{State}
+use Rattle.state.specs.declared.Pass.the-variants.{Idle}
+use Rattle.tables.specs.Tables.{Tables, tables}
+use Rattle.tables.specs.Calls.{After, state}
+use Rattle.load.specs.Load.{loadCall}
+use Rattle.write.specs.Write.{AfterWrite, writeCall}
+
+abbrev pub bytes : String → List ℕ
+bytes nil = []
+bytes (cons c s) = code c ∷ bytes s
+
+-- a table of `size` places that begins with xs
+abbrev pub padded : {A : Type 0} → A → ℕ → List A → List A
+padded z size [] = replicate size z
+padded z zero (x ∷ xs) = []
+padded z (suc size) (x ∷ xs) = x ∷ padded z size xs
+
+-- tables of the stated sizes
+abbrev pub full : List ℕ → List ℤ → List ℤ → Tables
+full clauses literals variables = tables (padded 0 12288 clauses) (padded (pos 0) 16384 literals) (padded (pos 0) 2048 variables) (padded 0 4096 []) (padded (pos 0) 4096 [])
+
+abbrev pub settled : ℕ → ℕ → Bool → State
+settled v n mark = state v n Idle false mark
+
+-- a load of a text into empty tables
+abbrev pub loaded : String → After
+loaded text = loadCall (bytes text) (full [] [] []) (settled 0 0 false)
+
+pub record Case : Type 0 where
+  pub tables : Tables
+  pub state : State
+  pub out : List ℕ
+  pub left : AfterWrite
+
+-- tables and a state, an output of so many bytes 7, and what is left: number and value of the reply, the text, and how many bytes 7 stay behind it
+abbrev pub case : Tables → State → ℕ → ℕ → ℕ → String → ℕ → Case
+case t st size number value text behind =
+    record { tables = t; state = st; out = replicate size 7; left = record { reply = reply number (value ∷ []); out = bytes text ++ replicate behind 7 } }
+
+-- the same for what a text is loaded to
+abbrev pub after : String → ℕ → ℕ → ℕ → String → ℕ → Case
+after source size number value text behind = case (loaded source .tables) (loaded source .state) size number value text behind
+
+abbrev pub Holds : Case → Type 0
+Holds k = writeCall (k .tables) (k .state) (k .out) ≡ k .left
+
+abbrev pub All : List Case → Type 0
+All [] = Unit
+All (k ∷ ks) = Holds k × All ks

@@ -1,0 +1,4 @@
+pub mod Gathering
+pub mod Bounds
+pub mod Records
+pub mod Text
