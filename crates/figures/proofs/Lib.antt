@@ -1,0 +1,5 @@
+pub mod Scanning
+pub mod Keeping
+pub mod Hiding
+pub mod Shortening
+pub mod Shortened

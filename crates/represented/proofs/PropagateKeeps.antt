@@ -1,0 +1,96 @@
+-- Propagate's theorem, over the call as its user sees it: whatever the tables, the state and the step count, an assignment satisfies what stands after the call exactly if it satisfied what stood before; refused calls included.
+-- Assumes nothing.
+use Prim.Native.Nat.{ℕ, zero, suc, _+_, _*_, _≤_, _<_}
+use native.Mathlib.Omega.{arith}
+use mathlib.Core.Path.{_≡_, refl, sym, ap, subst, _∙_}
+use mathlib.Core.Bool.{Bool, true, false}
+use mathlib.Core.Logic.{_↔_, Iff·rfl, Iff·trans, Iff·symm}
+use mathlib.Core.List.{List}
+use Rattle.literal.specs.Assignments.{Assignment}
+use Rattle.state.specs.declared.State.{State}
+use Rattle.state.specs.declared.Pass.{Pass}
+use Rattle.state.specs.declared.Pass.the-variants.{Idle, Propagate, Merge, Sweep}
+use Rattle.tables.specs.Tables.{Tables}
+use Rattle.tables.specs.Stands as stands
+use Rattle.tables.specs.Calls.{After}
+use Rattle.shape.specs.Shape.{Cursor}
+use Rattle.shape.specs.Entry.{passNumber, entryOf}
+use Rattle.shape.specs.declared.Entry.{Entry}
+use Rattle.shape.specs.declared.Entry.the-variants.{No, Opens, Resumes}
+use Rattle.shape.proofs.Entering.{Entered, opens-entered, resumes-entered}
+use Rattle.clauses.specs.Formed.{Formed}
+use Rattle.clauses.proofs.Entered.{entered-formed, entered-cursor}
+use Rattle.propagate.specs.Propagate.{Progress, going, settled, contradicted, begin, resumed, propagateVisits, propagateFrom, replied, propagateBy, propagateCall}
+use Rattle.propagate.proofs.Keeping.{FormedIn}
+use Rattle.propagate.proofs.Stepping.{Good, visits-good}
+use Rattle.demand.specs.Core as core
+use Rattle.demand.specs.Moves.{spent}
+use Rattle.demand.proofs.Keeps.{moves-kept}
+use Rattle.represented.specs.Represented.{Represented, coreOf}
+use Rattle.represented.proofs.Standing.{core-represented}
+use Rattle.represented.proofs.Equivalent.{stands-core, core-stands}
+use Rattle.represented.proofs.Propagation.{Tied, Follows, visits-follow}
+
+-- the tables and what they represent are satisfied alike
+tie : (st : State) (t : Tables) (k : core.Core) (s : ℕ) → Formed (st .v) (st .n) s (st .mark) (t .clauses) (t .literals) (t .variables) → Represented (st .v) (st .n) (st .mark) t k → (τ : Assignment) → stands.Stands t st τ ↔ core.Stands k τ
+tie st t k s F R τ = (stands-core st t k s F R τ, core-stands st t k s F R τ)
+
+module _ (t : Tables) (st : State) (F : Formed (st .v) (st .n) (st .n) false (t .clauses) (t .literals) (t .variables)) (unmarked : st .mark ≡ false) (τ : Assignment) where
+  k : core.Core
+  k = coreOf (st .v) (st .n) false t
+
+  before-tie : stands.Stands t st τ ↔ core.Stands k τ
+  unfolding k
+  before-tie =
+      tie st t (coreOf (st .v) (st .n) false t) (st .n) (subst (λ (b : Bool). Formed (st .v) (st .n) (st .n) b (t .clauses) (t .literals) (t .variables)) (sym unmarked) F)
+      (subst (λ (b : Bool). Represented (st .v) (st .n) b t (coreOf (st .v) (st .n) false t)) (sym unmarked) (core-represented (st .v) (st .n) false t)) τ
+
+  -- wherever the visits end
+  after-tie : (fresh : Bool) (m : ℕ) (before : List ℕ) (q : Progress) → Good (st .v) (st .n) q → Follows (st .v) (st .n) q k → stands.Stands (replied fresh before st m q .tables) (replied fresh before st m q .state) τ ↔ stands.Stands t st τ
+  after-tie fresh m before (going i changed t′) G S =
+      Iff·trans (tie (replied fresh before st m (going i changed t′) .state) t′ (S .to) (st .n) (G .0) (S .tied) τ) (Iff·trans (moves-kept (S .moves) tt .1 τ) (Iff·symm before-tie))
+  after-tie fresh m before (settled t′) G S =
+      Iff·trans (tie (replied fresh before st m (settled t′) .state) t′ (S .to) (st .n) G (S .tied) τ) (Iff·trans (moves-kept (S .moves) tt .1 τ) (Iff·symm before-tie))
+  after-tie fresh m before (contradicted t′) G S =
+      Iff·trans (tie (replied fresh before st m (contradicted t′) .state) t′ (S .to) (st .n) G (S .tied) τ) (Iff·trans (moves-kept (S .moves) tt .1 τ) (Iff·symm before-tie))
+
+  from-keeps : (fresh : Bool) (steps : ℕ) (p : Progress) → Good (st .v) (st .n) p → Tied (st .v) (st .n) p k → stands.Stands (propagateFrom fresh steps p t st .tables) (propagateFrom fresh steps p t st .state) τ ↔ stands.Stands t st τ
+  unfolding propagateFrom
+  from-keeps fresh steps p G R =
+      after-tie fresh (propagateVisits (st .n) steps 0 p .visits) (t .clauses) (propagateVisits (st .n) steps 0 p .progress) (visits-good (st .v) (st .n) steps 0 p G) (visits-follow (st .v) (st .n) steps 0 p k G R)
+
+begin-good : (v n : ℕ) (t : Tables) → FormedIn v n t → Good v n (begin n t)
+begin-good v zero t F = F
+begin-good v (suc n) t F = (F, omega arith)
+
+begin-tied : (v n : ℕ) (t : Tables) (k : core.Core) → Represented v n false t k → Tied v n (begin n t) k
+begin-tied v zero t k R = R
+begin-tied v (suc n) t k R = R
+
+resumed-good : (v n : ℕ) (p : Pass) (t : Tables) → FormedIn v n t → Cursor p n false → Good v n (resumed p t)
+resumed-good v n Idle t F C = F
+resumed-good v n (Propagate j c) t F C = (F, C .0)
+resumed-good v n (Merge j) t F C = F
+resumed-good v n (Sweep j) t F C = F
+
+resumed-tied : (v n : ℕ) (p : Pass) (t : Tables) (k : core.Core) → Represented v n false t k → Tied v n (resumed p t) k
+resumed-tied v n Idle t k R = R
+resumed-tied v n (Propagate j c) t k R = R
+resumed-tied v n (Merge j) t k R = R
+resumed-tied v n (Sweep j) t k R = R
+
+-- THE THEOREM
+pub propagate-keeps : (steps : ℕ) (t : Tables) (st : State) (τ : Assignment) → stands.Stands (propagateCall steps t st .tables) (propagateCall steps t st .state) τ ↔ stands.Stands t st τ
+unfolding propagateCall k
+propagate-keeps steps t st τ = by (entryOf 1 t st) refl
+  where
+    by : (e : Entry) → entryOf 1 t st ≡ e → stands.Stands (propagateBy e steps t st .tables) (propagateBy e steps t st .state) τ ↔ stands.Stands t st τ
+    by (No r) q = Iff·rfl
+    by Opens q =
+        let E = opens-entered 1 t st q in
+        let F = entered-formed E (λ z. omega arith) in
+        from-keeps t st F (E .unmarked) τ false steps (begin (st .n) t) (begin-good (st .v) (st .n) t F) (begin-tied (st .v) (st .n) t (coreOf (st .v) (st .n) false t) (core-represented (st .v) (st .n) false t))
+    by Resumes q =
+        let E = resumes-entered 1 t st q in
+        let F = entered-formed E (λ z. omega arith) in
+        from-keeps t st F (E .unmarked) τ (st .fresh) steps (resumed (st .pass) t) (resumed-good (st .v) (st .n) (st .pass) t F (entered-cursor E)) (resumed-tied (st .v) (st .n) (st .pass) t (coreOf (st .v) (st .n) false t) (core-represented (st .v) (st .n) false t))

@@ -1,0 +1,220 @@
+-- A visit of Propagate is a list of moves, and so is any number of them: Propagate keeps the satisfying assignments at every stopping point, and every clause is a part of the loaded one. Assumes nothing.
+use Prim.Native.Nat.{ℕ, zero, suc, _+_, _*_, _-_, _≤_, _<_}
+use native.Mathlib.Omega.{arith}
+use mathlib.Core.Path.{_≡_, refl, sym, ap, subst, _∙_}
+use mathlib.Core.Bool.{Bool, true, false, not, _||_}
+use mathlib.Core.Logic.{_⊎_, inl, inr, ⊎-elim}
+use mathlib.Core.List.{List, [], _∷_, map, List·Memᴰ, List·Memᴰ·head, List·Memᴰ·tail, List·Memᴰ·not-nil, List·Memᴰ·cases-cons, Sublistᴰ, Sublistᴰ·slnil, Sublistᴰ·cons, Sublistᴰ·cons-cons}
+use lib.ListN.{length, getD, set, drop, length-set, length-drop}
+use lib.Seq.{getD-set-same, getD-set-other, set-set, length-take-le}
+use lib.Dec.{eqb}
+use borrow.Author.Tests.{ne-eqb}
+use lib.IntN.{ℤ, pos, negℤ, natAbs}
+use lib.Signed.{nonNeg}
+use Rattle.base.specs.Decide.{same-or}
+use Rattle.base.specs.Lists.{any, filter}
+use Rattle.literal.specs.Literals.{Literal, slotOf, litAt, twin, eqZ, signBy}
+use Rattle.literal.proofs.Laws.{slot-below}
+use Rattle.base.proofs.Lists.{mem-filter}
+use Rattle.hidden.proofs.Basics.{any-out, in-filter, filter-sub}
+use Rattle.tables.specs.Tables.{Tables, tables, startOf, lengthOf} 
+use Rattle.tables.specs.Tables as T
+use Rattle.tables.specs.Values as values
+use Rattle.tables.specs.Clauses.{literalsOf}
+use Rattle.tables.specs.Fates.{Fate, store, fateAt, shortened, droppedAt} 
+use Rattle.tables.specs.Fates as fates
+use Rattle.clauses.specs.Formed.{Formed, Known}
+use Rattle.clauses.proofs.Stores.{recorded, storedAt, stored-view, stored-other, recorded-other, recorded-here}
+use Rattle.clauses.proofs.Forming.{clause-fits, record-inside, recorded-same, part-inside, set-classes}
+use Rattle.clauses.proofs.Known.{abs-signed, class-ranged, known-class, class-own, known-place}
+use Rattle.clauses.proofs.Fitting.{filter-shorter}
+use Rattle.propagate.specs.Propagate.{notFalse}
+use Rattle.sound.specs.Formula.{Clause, dropped, standing}
+use Rattle.demand.specs.Core as core
+use Rattle.demand.specs.Moves.{Change, satisfied, falsified, unit, conflict, Freshness, spent, Move, change, Moves, stay, go}
+use Rattle.represented.specs.Represented.{clauseOf, Represented}
+use Rattle.represented.proofs.Literals.{class-is, true-is, false-is, facts-set, complement-true}
+
+-- ---- lists
+
+-- a member of a mapped list
+pub mem-map : (C : List ℤ) {s : ℕ} → List·Memᴰ s (map slotOf C) → (l : ℤ) × List·Memᴰ l C × (s ≡ slotOf l)
+mem-map [] m = absurd (List·Memᴰ·not-nil m)
+mem-map (x ∷ C) m = ⊎-elim (λ e. (x, List·Memᴰ·head refl, e)) (λ r. let k = mem-map C r in (k .0, List·Memᴰ·tail (k .1), k .2)) (List·Memᴰ·cases-cons m)
+
+pub map-mem : (C : List ℤ) {l : ℤ} → List·Memᴰ l C → List·Memᴰ (slotOf l) (map slotOf C)
+map-mem [] m = absurd (List·Memᴰ·not-nil m)
+map-mem (x ∷ C) m = ⊎-elim (λ e. List·Memᴰ·head (ap slotOf e)) (λ r. List·Memᴰ·tail (map-mem C r)) (List·Memᴰ·cases-cons m)
+
+map-sub : {D C : List ℤ} → Sublistᴰ D C → Sublistᴰ (map slotOf D) (map slotOf C)
+map-sub Sublistᴰ·slnil = Sublistᴰ·slnil
+map-sub (Sublistᴰ·cons s) = Sublistᴰ·cons (map-sub s)
+map-sub (Sublistᴰ·cons-cons e s) = Sublistᴰ·cons-cons (ap slotOf e) (map-sub s)
+
+-- a member stands at a place
+pub mem-at : (C : List ℤ) {l : ℤ} → List·Memᴰ l C → (j : ℕ) × (j < length C) × (l ≡ getD C j (pos 0))
+mem-at [] m = absurd (List·Memᴰ·not-nil m)
+mem-at (x ∷ C) m = ⊎-elim (λ e. (0, omega arith, e)) (λ r. let k = mem-at C r in (suc (k .0), omega (arith, k .1), k .2)) (List·Memᴰ·cases-cons m)
+
+-- what is left of a list passes the test
+filter-test : {A : Type 0} (p : A → Bool) (xs : List A) {x : A} → List·Memᴰ x (filter p xs) → p x ≡ true
+unfolding filter
+filter-test p [] m = absurd (List·Memᴰ·not-nil m)
+filter-test {A} p (y ∷ xs) {x} m = by (λ r. filter-test p xs r) (p y) refl m
+  where
+    by : (List·Memᴰ x (filter p xs) → p x ≡ true) → (b : Bool) → p y ≡ b → List·Memᴰ x (elim b [ true ↦ y ∷ filter p xs | false ↦ filter p xs ]) → p x ≡ true
+    by rest true e m = ⊎-elim (λ (q : x ≡ y). ap p q ∙ e) (λ r. rest r) (List·Memᴰ·cases-cons m)
+    by rest false e m = rest m
+
+-- ---- a clause stored anew
+
+view-length : {v n : ℕ} {c : List ℕ} {l w : List ℤ} → Formed v n n false c l w → (i : ℕ) → i < n → length (literalsOf c l i) ≡ lengthOf c i
+view-length {c = c} {l = l} F i lt = length-take-le (lengthOf c i) (drop (startOf c i) l) (omega (arith, part-inside F i lt, length-drop (startOf c i) l))
+
+module _ {v n : ℕ} {t : Tables} {k : core.Core} (F : Formed v n n false (t .clauses) (t .literals) (t .variables)) (R : Represented v n false t k) (i : ℕ) (lt : i < n) where
+  -- what stands of clause i
+  pub stands-as : T.standing (t .clauses) i ≡ 1 → core.clauseAt k i ≡ standing (map slotOf (literalsOf (t .clauses) (t .literals) i))
+  unfolding clauseOf
+  stands-as e = R .clauses i lt ∙ ap (λ (x : ℕ). elim x as (λ y. Clause) [ zero ↦ dropped | suc _ ↦ standing (map slotOf (literalsOf (t .clauses) (t .literals) i)) ]) e
+
+  -- its literals are of the variables
+  pub member-lit : {l : ℤ} → List·Memᴰ l (literalsOf (t .clauses) (t .literals) i) → Literal v l
+  member-lit m = let k = mem-at (literalsOf (t .clauses) (t .literals) i) m in subst (Literal v) (sym (k .2)) (clause-fits F i lt .ranged (k .0) (k .1))
+
+  -- the tables with clause i holding D, flagged f, are what stands with clause i put anew
+  pub put-represented : (D : List ℤ) (f : ℕ) (x : Clause) → length D ≤ lengthOf (t .clauses) i → x ≡ (elim f as (λ y. Clause) [ zero ↦ dropped | suc _ ↦ standing (map slotOf D) ])
+      → Represented v n false (tables (recorded (t .clauses) i (length D) f) (storedAt (t .clauses) (t .literals) i D) (t .variables) (t .times) (t .links)) (core.put i x k)
+  unfolding clauseOf
+  put-represented D f x short e = record {
+    number = length-set (k .clauses) i x ∙ R .number;
+    clauses = λ j lj.
+        ⊎-elim
+        (λ (q : j ≡ i).
+        ap (λ (y : ℕ). getD (set (k .clauses) i x) y dropped) q ∙ getD-set-same (k .clauses) i x dropped (omega (arith, R .number, lt)) ∙ e
+        ∙ sym (ap (λ (y : ℕ). clauseOf (recorded (t .clauses) i (length D) f) (storedAt (t .clauses) (t .literals) i D) y) q ∙ here))
+        (λ (d : j ≡ i → ⊥).
+        getD-set-other (k .clauses) i j x dropped d ∙ R .clauses j lj
+        ∙ sym ((λ z. elim (recorded-other (t .clauses) i (length D) f j d .1 z) as (λ y. Clause) [ zero ↦ dropped | suc _ ↦ standing (map slotOf (stored-other F i lt D f short j lj d z)) ])))
+        (same-or j i);
+    classes = R .classes;
+    facts = R .facts;
+    beyond = R .beyond;
+    marks = R .marks;
+  }
+    where
+      here : clauseOf (recorded (t .clauses) i (length D) f) (storedAt (t .clauses) (t .literals) i D) i ≡ (elim f as (λ y. Clause) [ zero ↦ dropped | suc _ ↦ standing (map slotOf D) ])
+      here =
+          λ z. elim (recorded-here (t .clauses) i (length D) f (record-inside F i lt) .1 z) as (λ y. Clause) [ zero ↦ dropped | suc _ ↦ standing (map slotOf (stored-view F i lt D f short z)) ]
+
+-- ---- the moves of a visit
+
+-- the literals of clause i
+abbrev pub literalsAt : Tables → ℕ → List ℤ
+literalsAt t i = literalsOf (t .clauses) (t .literals) i
+
+-- the mark set
+pub mark-represented : {v n : ℕ} {t : Tables} {k : core.Core} → Represented v n false t k → Represented v n true t (core.marked k)
+mark-represented R = record { number = R .number; clauses = R .clauses; classes = R .classes; facts = R .facts; beyond = R .beyond; marks = refl }
+
+-- what a simulated step leaves: moves from k to some k′ that the tables represent
+pub record Simulated (v n : ℕ) (mark : Bool) (t : Tables) (k : core.Core) : Type 0 where
+  pub to : core.Core
+  pub moves : Moves v k spent to spent
+  pub tied : Represented v n mark t to
+
+module _ {v n : ℕ} {t : Tables} {k : core.Core} (F : Formed v n n false (t .clauses) (t .literals) (t .variables)) (R : Represented v n false t k) (i : ℕ) (lt : i < n) (stands : T.standing (t .clauses) i ≡ 1) where
+  -- a true literal
+  pub simulate-dropped : any (values.isTrue (t .variables)) (literalsAt t i) ≡ true → Simulated v n false (droppedAt i (t .variables) t) k
+  unfolding droppedAt
+  simulate-dropped h =
+      let m = any-out (values.isTrue (t .variables)) (literalsAt t i) h in
+      record {
+        to = core.put i dropped k;
+        moves = go stay (change (satisfied i (stands-as F R i lt stands) (map-mem (literalsAt t i) (m .1)) (true-is R (F .vars) (m .0) (member-lit F R i lt (m .1)) ∙ m .2)));
+        tied = put-represented F R i lt [] 0 dropped (omega arith) refl;
+      }
+
+  -- false literals go
+  remain : Sublistᴰ (map slotOf (notFalse (t .variables) (literalsAt t i))) (map slotOf (literalsAt t i))
+  remain = map-sub (filter-sub (λ l. not (values.isFalse (t .variables) l)) (literalsAt t i))
+
+  gone-false : (s : ℕ) → List·Memᴰ s (map slotOf (literalsAt t i)) → List·Memᴰ s (map slotOf (notFalse (t .variables) (literalsAt t i))) ⊎ (core.isFalse k s ≡ true)
+  gone-false s m =
+      let r = mem-map (literalsAt t i) m in
+      by-test (r .0) (r .1) (r .2) (values.isFalse (t .variables) (r .0)) refl
+    where
+      by-test : (l : ℤ) → List·Memᴰ l (literalsAt t i) → s ≡ slotOf l → (b : Bool) → values.isFalse (t .variables) l ≡ b → List·Memᴰ s (map slotOf (notFalse (t .variables) (literalsAt t i))) ⊎ (core.isFalse k s ≡ true)
+      by-test l m q true e = inr (ap (core.isFalse k) q ∙ false-is R (F .vars) l (member-lit F R i lt m) ∙ e)
+      by-test l m q false e = inl (subst (λ (x : ℕ). List·Memᴰ x (map slotOf (notFalse (t .variables) (literalsAt t i)))) (sym q) (map-mem (notFalse (t .variables) (literalsAt t i)) (in-filter (λ y. not (values.isFalse (t .variables) y)) (literalsAt t i) m (ap not e))))
+
+  shorter : Change k (core.put i (standing (map slotOf (notFalse (t .variables) (literalsAt t i)))) k)
+  shorter = falsified i (stands-as F R i lt stands) remain gone-false
+
+  size : length (notFalse (t .variables) (literalsAt t i)) ≤ lengthOf (t .clauses) i
+  size = omega (arith, filter-shorter (λ l. not (values.isFalse (t .variables) l)) (literalsAt t i), view-length F i lt)
+
+  pub simulate-left : Simulated v n false (shortened i (notFalse (t .variables) (literalsAt t i)) t) k
+  unfolding shortened
+  simulate-left = record {
+    to = core.put i (standing (map slotOf (notFalse (t .variables) (literalsAt t i)))) k;
+    moves = go stay (change shorter);
+    tied = subst (λ (x : List ℕ). Represented v n false (tables x (storedAt (t .clauses) (t .literals) i (notFalse (t .variables) (literalsAt t i))) (t .variables) (t .times) (t .links)) (core.put i (standing (map slotOf (notFalse (t .variables) (literalsAt t i)))) k))
+        (ap (recorded (t .clauses) i (length (notFalse (t .variables) (literalsAt t i)))) (sym stands) ∙ recorded-same (t .clauses) i (length (notFalse (t .variables) (literalsAt t i))))
+        (put-represented F R i lt (notFalse (t .variables) (literalsAt t i)) 1 (standing (map slotOf (notFalse (t .variables) (literalsAt t i)))) size refl);
+  }
+
+  -- one literal is left: its value is set
+  pub simulate-unit : (x : ℤ) → notFalse (t .variables) (literalsAt t i) ≡ x ∷ [] → Simulated v n false (droppedAt i (values.setTrue (t .variables) x) t) k
+  unfolding droppedAt
+  simulate-unit x e = record {
+    to = core.learn (k .class (slotOf x)) (core.put i dropped (core.put i (standing (slotOf x ∷ [])) k));
+    moves = go (go stay (change (subst (λ (D : List ℤ). Change k (core.put i (standing (map slotOf D)) k)) e shorter))) (change (unit i (getD-set-same (k .clauses) i (standing (slotOf x ∷ [])) dropped (omega (arith, R .number, lt)))));
+    tied = record {
+      number = put-twice .number;
+      clauses = put-twice .clauses;
+      classes = λ s h. R .classes s h ∙ ap (λ (y : ℤ). slotOf (signBy (nonNeg (litAt s)) y)) (sym (set-classes (F .vars) (natAbs c) (class-ranged K .above) (class-ranged K .within) (class-own K) (signBy (nonNeg c) (pos 1)) tri (natAbs (litAt s))));
+      facts = λ s h.
+          ap (λ (y : ℕ). eqb s y || k .facts s) (class-is R (F .vars) x X)
+          ∙ facts-set (t .variables) c (class-ranged K .above) (known-place (known-class K)) s (k .facts s) (sym (R .facts s h)) unopposed;
+      beyond = λ s h. (R .beyond s h .0, ap (λ (b : Bool). b || k .facts s) (ne-eqb s (k .class (slotOf x)) (λ q. omega (arith, q, class-is R (F .vars) x X, slot-below c v (class-ranged K .above) (class-ranged K .within), h))) ∙ R .beyond s h .1);
+      marks = R .marks;
+    };
+  }
+    where
+      member : List·Memᴰ x (notFalse (t .variables) (literalsAt t i))
+      member = subst (List·Memᴰ x) (sym e) (List·Memᴰ·head refl)
+      X : Literal v x
+      X = member-lit F R i lt (mem-filter (λ l. not (values.isFalse (t .variables) l)) (literalsAt t i) member)
+      K : Known (t .variables) x
+      K = record { count = v; rows = F .vars; ranged = X }
+      c : ℤ
+      c = values.classLiteral (t .variables) x
+      tri : natAbs (signBy (nonNeg c) (pos 1)) ≤ 1
+      tri = omega (arith, abs-signed (nonNeg c) (pos 1))
+      put-twice : Represented v n false (tables (recorded (t .clauses) i 0 0) (storedAt (t .clauses) (t .literals) i []) (t .variables) (t .times) (t .links)) (core.put i dropped (core.put i (standing (slotOf x ∷ [])) k))
+      put-twice =
+          subst (Represented v n false (tables (recorded (t .clauses) i 0 0) (storedAt (t .clauses) (t .literals) i []) (t .variables) (t .times) (t .links)))
+          (ap (λ (l : List Clause). core.withClauses l k) (sym (set-set (k .clauses) i (standing (slotOf x ∷ [])) dropped))) (put-represented F R i lt [] 0 dropped (omega arith) refl)
+      -- its complement has no true value
+      unopposed : eqZ (values.ownTruth (t .variables) (negℤ c)) (pos 1) ≡ false
+      unopposed = not-false-here
+        where
+          kept : values.isFalse (t .variables) x ≡ false
+          kept = flip (values.isFalse (t .variables) x) (filter-test (λ l. not (values.isFalse (t .variables) l)) (literalsAt t i) member)
+            where
+              flip : (b : Bool) → not b ≡ true → b ≡ false
+              flip true h = sym h
+              flip false h = refl
+          not-false-here : eqZ (values.ownTruth (t .variables) (negℤ c)) (pos 1) ≡ false
+          not-false-here = complement-true (t .variables) c (class-ranged K .above) ∙ kept
+
+  -- none is left: the clause stands empty, and the mark is set
+  pub simulate-conflict : notFalse (t .variables) (literalsAt t i) ≡ [] → Simulated v n true (shortened i [] t) k
+  unfolding shortened
+  simulate-conflict e = record {
+    to = core.marked (core.put i (standing []) k);
+    moves = go (go stay (change (subst (λ (D : List ℤ). Change k (core.put i (standing (map slotOf D)) k)) e shorter))) (change (conflict i (getD-set-same (k .clauses) i (standing []) dropped (omega (arith, R .number, lt)))));
+    tied = mark-represented (subst (λ (x : List ℕ). Represented v n false (tables x (storedAt (t .clauses) (t .literals) i []) (t .variables) (t .times) (t .links)) (core.put i (standing []) k))
+        (ap (recorded (t .clauses) i 0) (sym stands) ∙ recorded-same (t .clauses) i 0)
+        (put-represented F R i lt [] 1 (standing []) (omega arith) refl));
+  }
