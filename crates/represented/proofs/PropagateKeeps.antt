@@ -12,17 +12,15 @@ use Rattle.state.specs.declared.Pass.{Pass}
 use Rattle.state.specs.declared.Pass.the-variants.{Idle, Propagate, Merge, Sweep}
 use Rattle.tables.specs.Tables.{Tables}
 use Rattle.tables.specs.Stands as stands
-use Rattle.tables.specs.Calls.{After}
-use Rattle.shape.specs.Shape.{Cursor}
-use Rattle.shape.specs.Entry.{passNumber, entryOf}
+use Rattle.shape.specs.Entry.{entryOf}
 use Rattle.shape.specs.declared.Entry.{Entry}
 use Rattle.shape.specs.declared.Entry.the-variants.{No, Opens, Resumes}
-use Rattle.shape.proofs.Entering.{Entered, opens-entered, resumes-entered}
+use Rattle.shape.proofs.Entering.{opens-entered, resumes-entered}
 use Rattle.clauses.specs.Formed.{Formed}
 use Rattle.clauses.proofs.Entered.{entered-formed, entered-cursor}
 use Rattle.propagate.specs.Propagate.{Progress, going, settled, contradicted, begin, resumed, propagateVisits, propagateFrom, replied, propagateBy, propagateCall}
-use Rattle.propagate.proofs.Keeping.{FormedIn}
 use Rattle.propagate.proofs.Stepping.{Good, visits-good}
+use Rattle.propagate.proofs.Shaped.{begin-good, resumed-good}
 use Rattle.demand.specs.Core as core
 use Rattle.demand.specs.Moves.{spent}
 use Rattle.demand.proofs.Keeps.{moves-kept}
@@ -59,19 +57,9 @@ module _ (t : Tables) (st : State) (F : Formed (st .v) (st .n) (st .n) false (t 
   from-keeps fresh steps p G R =
       after-tie fresh (propagateVisits (st .n) steps 0 p .visits) (t .clauses) (propagateVisits (st .n) steps 0 p .progress) (visits-good (st .v) (st .n) steps 0 p G) (visits-follow (st .v) (st .n) steps 0 p k G R)
 
-begin-good : (v n : ℕ) (t : Tables) → FormedIn v n t → Good v n (begin n t)
-begin-good v zero t F = F
-begin-good v (suc n) t F = (F, omega arith)
-
 begin-tied : (v n : ℕ) (t : Tables) (k : core.Core) → Represented v n false t k → Tied v n (begin n t) k
 begin-tied v zero t k R = R
 begin-tied v (suc n) t k R = R
-
-resumed-good : (v n : ℕ) (p : Pass) (t : Tables) → FormedIn v n t → Cursor p n false → Good v n (resumed p t)
-resumed-good v n Idle t F C = F
-resumed-good v n (Propagate j c) t F C = (F, C .0)
-resumed-good v n (Merge j) t F C = F
-resumed-good v n (Sweep j) t F C = F
 
 resumed-tied : (v n : ℕ) (p : Pass) (t : Tables) (k : core.Core) → Represented v n false t k → Tied v n (resumed p t) k
 resumed-tied v n Idle t k R = R

@@ -1,1 +1,3 @@
 pub mod Copying
+pub mod Walking
+pub mod Graphing

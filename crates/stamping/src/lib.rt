@@ -9,7 +9,11 @@ ghost use Rattle.literal.specs.Literals.{slotOf, litAt};
 ghost use Rattle.walk.specs.Walk.{stampAll};
 ghost use Rattle.walk.specs.Ready.{adjOf, stamps, Graph};
 ghost use Rattle.cycles.specs.Forward.{forward};
-ghost use Rattle.stamping.specs.Stamping.{Literals, Finished};
+ghost use Rattle.graph.specs.Edges.{outs};
+ghost use Rattle.graph.specs.Clauses.{tos, implications};
+ghost use Rattle.groups.specs.Groups.{blank, cyclic};
+ghost use Rattle.tables.specs.Clauses.{slotsFrom};
+ghost use Rattle.stamping.specs.Stamping.{Literals, Finished, Walkable, Columned, Holding, Proper, Ordered, Scratch};
 
 // The slots of a list of literals.
 pub fn list_slots(order: &[i32], slots: &mut [u32])
@@ -67,4 +71,147 @@ pub fn copy_links(par: &[u32], top: &[u32], links: &mut [i32])
         links[at + 1] = literal::lit_at(top[s] as usize);
         s += 1;
     }
+}
+
+// Stamps every slot of `order`, whose roots a column marks: it starts at each root, then at each slot not yet entered. `roots` is scratch.
+pub fn stamp_order(
+    order: &[u32],
+    root: &[bool],
+    roots: &mut [u32],
+    offsets: &[u32],
+    targets: &[u32],
+    disc: &mut [u32],
+    fin: &mut [u32],
+    par: &mut [u32],
+    top: &mut [u32],
+) -> u32
+    requires { ⌜ Graph (now offsets) (now targets) (length (now disc)) ⌝ }
+    requires { ⌜ (length (now fin) ≡ length (now disc)) × ((length (now par) ≡ length (now disc)) × (length (now top) ≡ length (now disc))) ⌝ }
+    requires { ⌜ (length (now root) ≡ length (now disc)) × (length (now order) ≤ length (now roots)) ⌝ }
+    requires { ⌜ ((i : ℕ) → i < length (now order) → getD (now order) i 0 < length (now disc)) ⌝ }
+    ensures { λ t. ⌜
+        stamps t (now (disc .exit)) (now (fin .exit)) (now (par .exit)) (now (top .exit))
+        ≡ stampAll (adjOf (now (offsets .entry)) (now (targets .entry))) (λ q. getD (now (root .entry)) q false) (now (order .entry))
+        (stamps 0 (replicate (length (now (disc .entry))) 0) (now (fin .entry)) (now (par .entry)) (now (top .entry))) ⌝ }
+{
+    let k = graph::list_roots(order, root, roots);
+    walk::clear(disc);
+    let t = walk::start_each(&roots[..k], 0, offsets, targets, disc, fin, par, top);
+    walk::start_each(order, t, offsets, targets, disc, fin, par, top)
+}
+
+// Stamps every slot of `order` over the edges of two columns. All but the edges, the order and the four stamp columns is scratch.
+pub fn stamp_edges(
+    from: &[u32],
+    to: &[u32],
+    order: &[u32],
+    offsets: &mut [u32],
+    targets: &mut [u32],
+    root: &mut [bool],
+    roots: &mut [u32],
+    disc: &mut [u32],
+    fin: &mut [u32],
+    par: &mut [u32],
+    top: &mut [u32],
+)
+    requires { ⌜ Walkable (length (now disc)) (now from) (now to) (now order) (now offsets) (now targets) (now root) (now roots) ⌝ }
+    requires { ⌜ Columned (length (now disc)) (now disc) (now fin) (now par) (now top) ⌝ }
+    ensures { λ _. ⌜ Holding
+        (stampAll (outs (now (from .entry)) (now (to .entry))) (λ q. absent q (now (to .entry))) (now (order .entry))
+        (blank (length (now (disc .entry))) (now (fin .entry)) (now (par .entry)) (now (top .entry))))
+        (now (disc .exit)) (now (fin .exit)) (now (par .exit)) (now (top .exit)) ⌝ }
+{
+    let k = from.len();
+    graph::build(from, to, offsets, targets);
+    graph::mark_roots(to, root);
+    stamp_order(order, root, roots, offsets, &targets[..k], disc, fin, par, top);
+}
+
+// Stamps every slot of `order` over the graph of the first n clauses; whether the graph is cyclic. All but the tables, the order and the four stamp columns is scratch.
+pub fn stamp_graph(
+    v: usize,
+    n: usize,
+    clauses: &[u32],
+    literals: &[i32],
+    order: &[u32],
+    from: &mut [u32],
+    to: &mut [u32],
+    offsets: &mut [u32],
+    targets: &mut [u32],
+    root: &mut [bool],
+    roots: &mut [u32],
+    disc: &mut [u32],
+    fin: &mut [u32],
+    par: &mut [u32],
+    top: &mut [u32],
+) -> bool
+    requires { ⌜ Proper v n (now clauses) (now literals) × Ordered (2 * v) (now order) ⌝ }
+    requires { ⌜ Scratch v n (now from) (now to) (now offsets) (now targets) (now root) (now roots) ⌝ }
+    requires { ⌜ Columned (2 * v) (now disc) (now fin) (now par) (now top) ⌝ }
+    ensures { λ r. ⌜ (r ≡ cyclic (implications (slotsFrom (now (clauses .entry)) (now (literals .entry)) n 0)) (2 * v)) × Holding
+        (stampAll (implications (slotsFrom (now (clauses .entry)) (now (literals .entry)) n 0)) (λ q. absent q (tos (slotsFrom (now (clauses .entry)) (now (literals .entry)) n 0)))
+        (now (order .entry)) (blank (2 * v) (now (fin .entry)) (now (par .entry)) (now (top .entry))))
+        (now (disc .exit)) (now (fin .exit)) (now (par .exit)) (now (top .exit)) ⌝ }
+{
+    let k = pairs::list_pairs(n, clauses, literals, from, to);
+    stamp_edges(
+        &from[..k],
+        &to[..k],
+        order,
+        offsets,
+        targets,
+        root,
+        roots,
+        disc,
+        fin,
+        par,
+        top,
+    );
+    any_backward(&from[..k], &to[..k], fin)
+}
+
+// The same with scratch of its own.
+pub fn stamp_columns(
+    v: usize,
+    n: usize,
+    clauses: &[u32],
+    literals: &[i32],
+    order: &[u32],
+    disc: &mut [u32],
+    fin: &mut [u32],
+    par: &mut [u32],
+    top: &mut [u32],
+) -> bool
+    requires { ⌜ Proper v n (now clauses) (now literals) × Ordered (2 * v) (now order) ⌝ }
+    requires { ⌜ Columned (2 * v) (now disc) (now fin) (now par) (now top) ⌝ }
+    ensures { λ r. ⌜ (r ≡ cyclic (implications (slotsFrom (now (clauses .entry)) (now (literals .entry)) n 0)) (2 * v)) × Holding
+        (stampAll (implications (slotsFrom (now (clauses .entry)) (now (literals .entry)) n 0)) (λ q. absent q (tos (slotsFrom (now (clauses .entry)) (now (literals .entry)) n 0)))
+        (now (order .entry)) (blank (2 * v) (now (fin .entry)) (now (par .entry)) (now (top .entry))))
+        (now (disc .exit)) (now (fin .exit)) (now (par .exit)) (now (top .exit)) ⌝ }
+{
+    let slots = 2 * v;
+    let ends = slots + 1;
+    let mut from = [0u32; 8192];
+    let mut to = [0u32; 8192];
+    let mut offsets = [0u32; 2049];
+    let mut targets = [0u32; 8192];
+    let mut root = [false; 2048];
+    let mut roots = [0u32; 2048];
+    stamp_graph(
+        v,
+        n,
+        clauses,
+        literals,
+        order,
+        &mut from,
+        &mut to,
+        &mut offsets[..ends],
+        &mut targets,
+        &mut root[..slots],
+        &mut roots,
+        disc,
+        fin,
+        par,
+        top,
+    )
 }
