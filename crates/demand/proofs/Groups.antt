@@ -86,7 +86,7 @@ module _ (vars : ℕ) (k : Core) (shaped : Shaped vars (k .clauses)) where
   unfolding least
   least-in s lt = rw (lt-ltb s (2 * vars) lt, least)
 
-  least-out : (s : ℕ) → 2 * vars ≤ s → rep s ≡ s
+  pub least-out : (s : ℕ) → 2 * vars ≤ s → rep s ≡ s
   unfolding least
   least-out s le = rw (le-ltb s (2 * vars) le, least)
 

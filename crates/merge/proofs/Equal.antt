@@ -38,7 +38,7 @@ not-twice : (b : Bool) → b ≡ not (not b)
 not-twice true = refl
 not-twice false = refl
 
-holds-complement : (τ : Assignment) (l : ℤ) → 0 < natAbs l → holds τ (negℤ l) ≡ not (holds τ l)
+pub holds-complement : (τ : Assignment) (l : ℤ) → 0 < natAbs l → holds τ (negℤ l) ≡ not (holds τ l)
 holds-complement τ (pos zero) h = absurd (omega arith)
 holds-complement τ (pos (suc n)) h = refl
 holds-complement τ (negsuc n) h = not-twice (τ (suc n))

@@ -1,5 +1,5 @@
 -- A visit keeps the tables formed and moves the bound of the settled clauses past the one that it visits. Assumes nothing.
-use Prim.Native.Nat.{ℕ, zero, suc, _+_, _*_, _-_, _≤_, _<_}
+use Prim.Native.Nat.{ℕ, zero, suc, _+_, _-_, _≤_, _<_}
 use native.Mathlib.Omega.{arith}
 use mathlib.Core.Path.{_≡_, refl, sym, ap, subst, _∙_}
 use mathlib.Core.Bool.{Bool, true, false}
@@ -11,7 +11,7 @@ use lib.Dec.{ltb}
 use lib.IntN.{ℤ, pos}
 use borrow.Author.Tests.{lt-ltb, ltb-true}
 use Rattle.base.specs.Decide.{same-or}
-use Rattle.literal.specs.Clauses.{distinct, tautology}
+use Rattle.literal.specs.Clauses.{tautology}
 use Rattle.tables.specs.Tables.{Tables, startOf, lengthOf, standing}
 use Rattle.tables.specs.Values.{classLiteral}
 use Rattle.tables.specs.Clauses.{literalsOf}
@@ -66,7 +66,7 @@ module _ (v n k : ℕ) (t : Tables) (F : FormedTo v n k t) (lt : k < n) where
   size : length C ≡ lengthOf (t .clauses) k
   size = length-take-le (lengthOf (t .clauses) k) (drop (startOf (t .clauses) k) (t .literals)) (omega (arith, part-inside F k lt, length-drop (startOf (t .clauses) k) (t .literals)))
 
-  mapped : length (map (classLiteral (t .variables)) C) ≡ lengthOf (t .clauses) k
+  pub mapped : length (map (classLiteral (t .variables)) C) ≡ lengthOf (t .clauses) k
   mapped = length-map C (classLiteral (t .variables)) ∙ size
 
   -- each class literal is a literal of the variables and its own class
@@ -128,6 +128,7 @@ visit-beside w k t = by-flag (standing (t .clauses) k) (substituted w (literalsO
     by-fate : (b : Bool) (D : List ℤ) → Beside t (store k (elim b as (λ x. Fate) [ true ↦ dropped | false ↦ left D ]) t)
     by-fate true D = record { variables = refl; times = refl; links = refl }
     by-fate false D = record { variables = refl; times = refl; links = refl }
+
     by-flag : (flag : ℕ) (D : List ℤ) → Beside t (store k (elim flag as (λ x. Fate) [ zero ↦ kept | suc _ ↦ unlessTautology D ]) t)
     by-flag zero D = record { variables = refl; times = refl; links = refl }
     by-flag (suc x) D = by-fate (tautology D) D

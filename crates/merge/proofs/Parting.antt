@@ -1,7 +1,7 @@
 -- The returns of a visit to a part: what stands in it, and what the test of the kept literals has shown. Assumes nothing.
 use Prim.Native.Nat.{ℕ, _-_, _≤_}
 use native.Mathlib.Omega.{arith}
-use mathlib.Core.Path.{_≡_, refl, sym, ap, subst, _∙_}
+use mathlib.Core.Path.{_≡_, sym, ap, subst, _∙_}
 use mathlib.Core.Bool.{Bool, true, false}
 use mathlib.Core.List.{List, [], _++_, map}
 use lib.ListN.{length, take, replicate, length-map, length-append, length-replicate}
@@ -10,11 +10,11 @@ use lib.IntN.{ℤ, pos}
 use Rattle.literal.specs.Literals.{Small}
 use Rattle.literal.specs.Clauses.{distinct, tautology}
 use Rattle.tables.specs.Values.{classLiteral}
-use Rattle.clauses.specs.Formed.{Known, EachKnown}
+use Rattle.clauses.specs.Formed.{EachKnown}
 use Rattle.clauses.proofs.Known.{known-small, known-class}
 use Rattle.merge.specs.Visits.{EachSmall, substituted, holding, Part, partOf, partAfter}
 use Rattle.merge.specs.declared.Visited.the-variants.{Left, Dropped}
-use Rattle.merge.proofs.Repeats.{All, distinct-short, distinct-all, all-at, all-map}
+use Rattle.merge.proofs.Repeats.{distinct-short, distinct-all, all-at, all-map}
 
 -- class literals are small
 small-substituted : (w p : List ℤ) → EachKnown w p → EachSmall (substituted w p)

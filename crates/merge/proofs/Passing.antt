@@ -1,12 +1,12 @@
 -- The loop over the clauses: the visits that are left, from here, give what all of them give. Assumes nothing.
-use Prim.Native.Nat.{ℕ, zero, suc, _+_, _-_, _≤_, _<_}
+use Prim.Native.Nat.{ℕ, suc, _+_, _-_, _≤_, _<_}
 use native.Mathlib.Numerals.{add-one}
 use native.Mathlib.Omega.{arith}
 use mathlib.Core.Path.{_≡_, refl, sym, ap, subst, _∙_}
 use mathlib.Core.List.{List, []}
 use lib.ListN.{length}
 use lib.IntN.{ℤ}
-use Rattle.tables.specs.Tables.{Tables, tables}
+use Rattle.tables.specs.Tables.{tables}
 use Rattle.tables.specs.Fates.{visit, visits}
 use Rattle.merge.specs.Merge.{mergeClause}
 use Rattle.merge.specs.Visits.{Visitable}

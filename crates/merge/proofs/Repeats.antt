@@ -1,7 +1,7 @@
 -- Laws of a clause without repeats: it is no longer, what holds of each literal still does, and if no variable has both signs, no variable stands twice. Assumes nothing.
 use Prim.Native.Nat.{ℕ, zero, suc, _+_, _≤_, _<_}
 use native.Mathlib.Omega.{arith}
-use mathlib.Core.Path.{_≡_, refl, sym, ap, subst, _∙_}
+use mathlib.Core.Path.{_≡_, refl, sym, ap, _∙_}
 use mathlib.Core.Bool.{Bool, true, false, _||_, false≢true}
 use mathlib.Core.Logic.{_⊎_, inl, inr, ⊎-elim}
 use mathlib.Core.List.{List, [], _∷_, _++_, map}
@@ -9,7 +9,7 @@ use lib.ListN.{length, getD, length-append}
 use lib.IntN.{ℤ, pos, negsuc, negℤ, natAbs}
 use Rattle.literal.specs.Literals.{Literal, eqZ}
 use Rattle.literal.specs.Clauses.{has, distinctFrom, distinct, tautology}
-use Rattle.literal.proofs.Signed.{eq-eqZ, eqZ-true, ne-eqZ}
+use Rattle.literal.proofs.Signed.{eq-eqZ, ne-eqZ}
 use Rattle.tables.specs.Tables.{classOf}
 use Rattle.clauses.specs.Formed.{FitClause}
 use Rattle.clauses.proofs.Fitting.{FitHead, fit-none, fit-cons}

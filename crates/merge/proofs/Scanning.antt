@@ -8,11 +8,10 @@ use mathlib.Core.List.{List, [], _∷_, _++_, map, append-nil}
 use lib.ListN.{length, take, drop, getD, set, replicate, length-set, drop-of-length-le}
 use lib.Seq.{take-suc-set, drop-cons, drop-set-lt, take-all, append-snoc, getD-set-other, length-take-le}
 use lib.IntN.{ℤ, pos, negℤ}
-use Rattle.literal.specs.Literals.{Small}
 use Rattle.literal.specs.Clauses.{has, distinct, distinctFrom, tautology}
 use Rattle.tables.specs.Values.{classLiteral}
 use Rattle.clauses.specs.Formed.{Known, EachKnown}
-use Rattle.merge.specs.Visits.{EachSmall, holding}
+use Rattle.merge.specs.Visits.{holding}
 
 -- ---- substitute: class literals stand in front, and what is still to be read is as it was
 

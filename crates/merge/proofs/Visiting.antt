@@ -1,7 +1,7 @@
 -- A visit to a clause, put together: what the part and the record become is what storing the fate gives; and what a visitable clause asks of the tables. Assumes nothing.
 use Prim.Native.Nat.{ℕ, zero, suc, _+_, _*_, _-_, _≤_, _<_}
 use native.Mathlib.Omega.{arith}
-use mathlib.Core.Path.{_≡_, refl, sym, ap, subst, _∙_}
+use mathlib.Core.Path.{_≡_, refl, sym, ap, _∙_}
 use mathlib.Core.Bool.{Bool, true, false}
 use mathlib.Core.List.{List, [], _++_}
 use lib.ListN.{length, take, drop, set, replicate, length-drop}
@@ -11,7 +11,7 @@ use Rattle.literal.specs.Clauses.{tautology}
 use Rattle.tables.specs.Tables.{Tables, tables, startOf, lengthOf, standing}
 use Rattle.tables.specs.Clauses.{literalsOf}
 use Rattle.tables.specs.Fates.{Fate, kept, left, dropped, store, fateAt, visit, shortened, droppedAt, putPart}
-use Rattle.clauses.specs.Formed.{Formed, EachKnown}
+use Rattle.clauses.specs.Formed.{EachKnown}
 use Rattle.clauses.proofs.Forming.{part-inside, clause-fits, record-inside}
 use Rattle.merge.specs.Merge.{mergeClause, unlessTautology}
 use Rattle.merge.specs.Visits.{substituted, holding, Part, partOf, partAfter, recordAfter, Visitable}

@@ -1,22 +1,31 @@
 // Merge, resumable. Its opening makes the strongly connected components of the implication graph classes, unless one has a variable with both signs;
 // its visits put class literals into the clauses.
+use shape::Entry;
+use state::Answer;
+use state::Counts;
+use state::Outcome;
+use state::Pass;
+use state::Refusal;
+use state::State;
 ghost use mathlib.Core.Path.{_≡_};
 ghost use mathlib.Core.Bool.{false};
 ghost use mathlib.Core.List.{List, map};
-ghost use Prim.Native.Nat.{ℕ, _+_, _*_, _-_, _≤_, _<_};
+ghost use Prim.Native.Nat.{ℕ, _+_, _*_, _-_, _≤_, _<_, min};
 ghost use lib.ListN.{length};
 ghost use lib.IntN.{ℤ};
 ghost use Rattle.literal.specs.Clauses.{distinct, tautology};
-ghost use Rattle.tables.specs.Tables.{tables};
+ghost use Rattle.tables.specs.Tables.{Tables, tables};
 ghost use Rattle.tables.specs.Values.{classLiteral};
 ghost use Rattle.tables.specs.Fates.{visit, visits};
+ghost use Rattle.tables.specs.Calls.{after};
 ghost use Rattle.clauses.specs.Formed.{EachKnown};
 ghost use Rattle.graph.specs.Clauses.{implications};
 ghost use Rattle.tables.specs.Clauses.{slotsFrom};
 ghost use Rattle.clauses.specs.Formed.{Formed};
-ghost use Rattle.merge.specs.Merge.{clashes, regrouped, mergeClause};
+ghost use Rattle.merge.specs.Merge.{clashes, regrouped, mergeClause, mergeFrom, mergeOpen, mergeSettled, mergeCursor, mergeCall};
 ghost use Rattle.merge.specs.Opening.{openedClasses, through, Regroups};
 ghost use Rattle.merge.specs.Visits.{EachSmall, substituted, holding, partOf, partAfter, recordAfter, Visitable};
+ghost use Rattle.merge.specs.Steps.{repliedAt, Ready, Openable};
 
 // What a visit makes of a standing clause: so many literals are left, or it is dropped.
 pub enum Visited {
@@ -120,7 +129,7 @@ fn remove_repeats(part: &mut [i32]) -> usize
     n
 }
 
-// Whether some variable stands in the part with both signs.
+// Whether some variable stands in the part with both signs: each complement is searched behind its literal, since one of the two comes first.
 fn has_both(part: &[i32]) -> bool
     requires { ⌜ EachSmall (now part) ⌝ }
     ensures { λ r. ⌜ r ≡ tautology (now (part .entry)) ⌝ }
@@ -136,7 +145,7 @@ fn has_both(part: &[i32]) -> bool
     false
 }
 
-// A visit to the part of a standing clause.
+// A visit to the part of a standing clause. Repeats go first, so that what is searched for both signs is what would stay.
 fn visit_part(part: &mut [i32], variables: &[i32]) -> Visited
     requires { ⌜ EachKnown (now variables) (now part) × (length (now part) ≤ 16384) ⌝ }
     ensures { λ r. ⌜ partOf r (now (part .exit)) ≡ partAfter (substituted (now (variables .entry)) (now (part .entry))) (now (part .entry)) ⌝ }
@@ -166,7 +175,7 @@ fn put_record(clauses: &mut [u32], k: usize, seen: Visited)
     }
 }
 
-// A visit to clause k. Its part of the literal table is lent on.
+// A visit to clause k. Its part of the literal table is lent on; a dropped clause has none, and its visit changes nothing.
 fn visit_clause(clauses: &mut [u32], literals: &mut [i32], variables: &[i32], k: usize)
     requires { ⌜ Visitable k (k + 1) (now clauses) (now literals) (now variables) ⌝ }
     ensures { λ _. ⌜ ((times : List ℕ) (links : List ℤ) → tables (now (clauses .exit)) (now (literals .exit)) (now (variables .entry)) times links
@@ -183,13 +192,7 @@ fn visit_clause(clauses: &mut [u32], literals: &mut [i32], variables: &[i32], k:
 }
 
 // The visits to the clauses from `k` on, up to clause `end`.
-pub fn visit_some(
-    clauses: &mut [u32],
-    literals: &mut [i32],
-    variables: &[i32],
-    k: u32,
-    end: u32,
-)
+pub fn visit_some(clauses: &mut [u32], literals: &mut [i32], variables: &[i32], k: u32, end: u32)
     requires { ⌜ Visitable k end (now clauses) (now literals) (now variables) ⌝ }
     ensures { λ _. ⌜ ((times : List ℕ) (links : List ℤ) → tables (now (clauses .exit)) (now (literals .exit)) (now (variables .entry)) times links
         ≡ visits (mergeClause (now (variables .entry))) (end - k) k (tables (now (clauses .entry)) (now (literals .entry)) (now (variables .entry)) times links)) ⌝ }
@@ -198,5 +201,182 @@ pub fn visit_some(
     while i < end {
         visit_clause(clauses, literals, variables, i as usize);
         i += 1;
+    }
+}
+
+// ---- the call
+
+// The smaller of two numbers. That it is at most the second is all that keeps the visits inside the table.
+fn smaller(a: u32, b: u32) -> u32
+    ensures { λ r. ⌜ (r ≡ min a b) × (r ≤ b) ⌝ }
+{
+    if a < b { a } else { b }
+}
+
+// The answer of a call that stands before clause k: Open exactly if visits are left.
+fn answer(st: State, fresh: bool, counts: Counts, k: u32) -> Outcome
+    ensures { λ r. ⌜ ((t : Tables) → after r t ≡ repliedAt fresh counts k st t) ⌝ }
+{
+    let v = st.v;
+    let n = st.n;
+    if k < n {
+        let state = State {
+            v,
+            n,
+            pass: Pass::Merge(k),
+            fresh,
+            mark: false,
+        };
+        return Outcome {
+            answer: Answer::Open(counts),
+            state,
+        };
+    }
+    let state = State {
+        v,
+        n,
+        pass: Pass::Idle,
+        fresh,
+        mark: false,
+    };
+    Outcome {
+        answer: Answer::Done(counts),
+        state,
+    }
+}
+
+// The visits of a call that stands before clause `cursor`, and its answer.
+pub fn merge_from(
+    clauses: &mut [u32],
+    literals: &mut [i32],
+    variables: &[i32],
+    st: State,
+    fresh: bool,
+    steps: u32,
+    cursor: u32,
+) -> Outcome
+    requires { ⌜ Ready st cursor (now clauses) (now literals) (now variables) ⌝ }
+    ensures { λ r. ⌜ ((times : List ℕ) (links : List ℤ) → after r (tables (now (clauses .exit)) (now (literals .exit)) (now (variables .entry)) times links)
+        ≡ mergeFrom fresh steps cursor (tables (now (clauses .entry)) (now (literals .entry)) (now (variables .entry)) times links) st) ⌝ }
+{
+    let n = st.n;
+    let visits = smaller(steps, n - cursor);
+    let end = cursor + visits;
+    let before = clauses::count_standing(clauses, n as usize);
+    visit_some(clauses, literals, variables, cursor, end);
+    let left = clauses::count_standing(clauses, n as usize);
+    let counts = clauses::counts_of(visits, before, left);
+    answer(st, fresh, counts, end)
+}
+
+// Opens the pass: the mark where v and −v share a component, else the new classes and the visits from the first clause on. Opening spends the stamps.
+pub fn merge_open(
+    clauses: &mut [u32],
+    literals: &mut [i32],
+    variables: &mut [i32],
+    st: State,
+    steps: u32,
+) -> Outcome
+    requires { ⌜ Openable st (now clauses) (now literals) (now variables) ⌝ }
+    ensures { λ r. ⌜ ((times : List ℕ) (links : List ℤ) → after r (tables (now (clauses .exit)) (now (literals .exit)) (now (variables .exit)) times links)
+        ≡ mergeOpen steps (tables (now (clauses .entry)) (now (literals .entry)) (now (variables .entry)) times links) st) ⌝ }
+{
+    let v = st.v;
+    let n = st.n;
+    if merge_classes(v, n, clauses, literals, variables) {
+        let none = Counts {
+            visits: 0,
+            clauses: 0,
+            literals: 0,
+        };
+        let state = State {
+            v,
+            n,
+            pass: Pass::Idle,
+            fresh: false,
+            mark: true,
+        };
+        return Outcome {
+            answer: Answer::Done(none),
+            state,
+        };
+    }
+    merge_from(clauses, literals, variables, st, false, steps, 0)
+}
+
+// Opens the pass unless refusal 6 names a clause, by its number, which counts from 1.
+pub fn merge_settled(
+    clauses: &mut [u32],
+    literals: &mut [i32],
+    variables: &mut [i32],
+    st: State,
+    steps: u32,
+) -> Outcome
+    requires { ⌜ Formed (st .v) (st .n) (st .n) false (now clauses) (now literals) (now variables) ⌝ }
+    ensures { λ r. ⌜ ((times : List ℕ) (links : List ℤ) → after r (tables (now (clauses .exit)) (now (literals .exit)) (now (variables .exit)) times links)
+        ≡ mergeSettled steps (tables (now (clauses .entry)) (now (literals .entry)) (now (variables .entry)) times links) st) ⌝ }
+{
+    let n = st.n as usize;
+    let first = settled::first_unsettled(clauses, literals, variables, n);
+    if first < n {
+        return Outcome {
+            answer: Answer::Refused(Refusal::Unsettled(first as u32 + 1)),
+            state: st,
+        };
+    }
+    merge_open(clauses, literals, variables, st, steps)
+}
+
+// Where an open Merge stands.
+fn cursor_of(st: State) -> u32
+    ensures { λ r. ⌜ r ≡ mergeCursor (st .pass) ⌝ }
+{
+    let p = st.pass;
+    match p {
+        Pass::Merge(k) => k,
+        Pass::Idle => 0,
+        Pass::Propagate(_, _) => 0,
+        Pass::Sweep(_) => 0,
+    }
+}
+
+// A call that goes on where the pass was left.
+fn merge_resume(
+    clauses: &mut [u32],
+    literals: &mut [i32],
+    variables: &[i32],
+    st: State,
+    steps: u32,
+) -> Outcome
+    requires { ⌜ Ready st (mergeCursor (st .pass)) (now clauses) (now literals) (now variables) ⌝ }
+    ensures { λ r. ⌜ ((times : List ℕ) (links : List ℤ) → after r (tables (now (clauses .exit)) (now (literals .exit)) (now (variables .entry)) times links)
+        ≡ mergeFrom (st .fresh) steps (mergeCursor (st .pass)) (tables (now (clauses .entry)) (now (literals .entry)) (now (variables .entry)) times links) st) ⌝ }
+{
+    let fresh = st.fresh;
+    let cursor = cursor_of(st);
+    merge_from(clauses, literals, variables, st, fresh, steps, cursor)
+}
+
+// The exported call.
+pub fn merge(
+    clauses: &mut [u32],
+    literals: &mut [i32],
+    variables: &mut [i32],
+    times: &[u32],
+    links: &[i32],
+    st: State,
+    n: u16,
+) -> Outcome
+    ensures { λ r. ⌜ after r (tables (now (clauses .exit)) (now (literals .exit)) (now (variables .exit)) (now (times .entry)) (now (links .entry)))
+        ≡ mergeCall n (tables (now (clauses .entry)) (now (literals .entry)) (now (variables .entry)) (now (times .entry)) (now (links .entry))) st ⌝ }
+{
+    let entry = shape::entry_of(clauses, literals, variables, times, links, st, 2);
+    match entry {
+        Entry::No(r) => Outcome {
+            answer: Answer::Refused(r),
+            state: st,
+        },
+        Entry::Opens => merge_settled(clauses, literals, variables, st, n as u32),
+        Entry::Resumes => merge_resume(clauses, literals, variables, st, n as u32),
     }
 }

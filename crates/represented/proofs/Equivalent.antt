@@ -29,7 +29,7 @@ use Rattle.represented.proofs.Literals.{class-is, class-lit}
 use Rattle.represented.proofs.Standing.{Real, value-slot, sat-slots, slots-sat, mem-number, number-mem, clause-stands, stands-clause, class-holds, fact-holds, holds-neg, not-not}
 
 -- a slot below 2v is that of a literal
-slot-literal : (v s : ℕ) → s < 2 * v → Literal v (litAt s)
+pub slot-literal : (v s : ℕ) → s < 2 * v → Literal v (litAt s)
 slot-literal v s h = record { above = omega (arith, lit-var s); within = omega (arith, lit-var s, h) }
 
 module _ (st : State) (t : Tables) (k : core.Core) (sl : ℕ) (F : Formed (st .v) (st .n) sl (st .mark) (t .clauses) (t .literals) (t .variables)) (R : Represented (st .v) (st .n) (st .mark) t k) (τ : Assignment) where

@@ -4,3 +4,7 @@ pub mod Propagation
 pub mod Standing
 pub mod Equivalent
 pub mod PropagateKeeps
+pub mod Swept
+pub mod Merged
+pub mod Shaping
+pub mod Merging

@@ -46,7 +46,7 @@ pub map-mem : (C : List ℤ) {l : ℤ} → List·Memᴰ l C → List·Memᴰ (sl
 map-mem [] m = absurd (List·Memᴰ·not-nil m)
 map-mem (x ∷ C) m = ⊎-elim (λ e. List·Memᴰ·head (ap slotOf e)) (λ r. List·Memᴰ·tail (map-mem C r)) (List·Memᴰ·cases-cons m)
 
-map-sub : {D C : List ℤ} → Sublistᴰ D C → Sublistᴰ (map slotOf D) (map slotOf C)
+pub map-sub : {D C : List ℤ} → Sublistᴰ D C → Sublistᴰ (map slotOf D) (map slotOf C)
 map-sub Sublistᴰ·slnil = Sublistᴰ·slnil
 map-sub (Sublistᴰ·cons s) = Sublistᴰ·cons (map-sub s)
 map-sub (Sublistᴰ·cons-cons e s) = Sublistᴰ·cons-cons (ap slotOf e) (map-sub s)
@@ -68,10 +68,10 @@ filter-test {A} p (y ∷ xs) {x} m = by (λ r. filter-test p xs r) (p y) refl m
 
 -- ---- a clause stored anew
 
-view-length : {v n : ℕ} {c : List ℕ} {l w : List ℤ} → Formed v n n false c l w → (i : ℕ) → i < n → length (literalsOf c l i) ≡ lengthOf c i
+pub view-length : {v n sl : ℕ} {c : List ℕ} {l w : List ℤ} → Formed v n sl false c l w → (i : ℕ) → i < n → length (literalsOf c l i) ≡ lengthOf c i
 view-length {c = c} {l = l} F i lt = length-take-le (lengthOf c i) (drop (startOf c i) l) (omega (arith, part-inside F i lt, length-drop (startOf c i) l))
 
-module _ {v n : ℕ} {t : Tables} {k : core.Core} (F : Formed v n n false (t .clauses) (t .literals) (t .variables)) (R : Represented v n false t k) (i : ℕ) (lt : i < n) where
+module _ {v n sl : ℕ} {t : Tables} {k : core.Core} (F : Formed v n sl false (t .clauses) (t .literals) (t .variables)) (R : Represented v n false t k) (i : ℕ) (lt : i < n) where
   -- what stands of clause i
   pub stands-as : T.standing (t .clauses) i ≡ 1 → core.clauseAt k i ≡ standing (map slotOf (literalsOf (t .clauses) (t .literals) i))
   unfolding clauseOf

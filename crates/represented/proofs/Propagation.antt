@@ -80,7 +80,7 @@ module _ {v n : ℕ} {t : Tables} {k : core.Core} (F : FormedIn v n t) (R : Repr
   visit-follows changed = fate-follows v n i changed (fateAt (propagateClause (t .variables)) i t) t k fate-simulated
 
 -- moves after moves
-moves-join : {v : ℕ} {a b c : core.Core} {x y z : Freshness} → Moves v a x b y → Moves v b y c z → Moves v a x c z
+pub moves-join : {v : ℕ} {a b c : core.Core} {x y z : Freshness} → Moves v a x b y → Moves v b y c z → Moves v a x c z
 moves-join m stay = m
 moves-join m (go n step) = go (moves-join m n) step
 

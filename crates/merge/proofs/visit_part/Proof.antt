@@ -1,8 +1,6 @@
 -- `merge::visit_part` meets its contract. Assumes nothing.
-use Prim.Native.Nat.{ℕ, _≤_}
 use native.Mathlib.Omega.{arith}
-use mathlib.Core.Path.{_≡_, sym, _∙_}
-use lib.ListN.{length, take}
+use mathlib.Core.Path.{sym, _∙_}
 use lib.Seq.{length-take-le}
 use Rattle.merge.proofs.Parting.{part-front, part-count, part-small, part-dropped, part-left}
 use borrow.Author.Needs.{needs}

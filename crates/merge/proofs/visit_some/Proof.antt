@@ -1,5 +1,5 @@
 -- `merge::visit_some` meets its contract. Assumes nothing.
-use Prim.Native.Nat.{ℕ, _-_}
+use Prim.Native.Nat.{_-_}
 use native.Mathlib.Omega.{arith}
 use Rattle.merge.proofs.Passing.{Passing, passing-none, passing-one, passing-next, passing-done}
 use borrow.Author.Needs.{needs}

@@ -1,0 +1,149 @@
+-- The call: its opening, and each way of its entry is a way of `mergeCall`. Assumes nothing.
+use Prim.Native.Nat.{ℕ, zero, suc, _+_, _*_, _-_, _≤_, _<_}
+use native.Mathlib.Omega.{arith}
+use mathlib.Core.Path.{_≡_, refl, sym, ap, subst, _∙_}
+use mathlib.Core.Bool.{Bool, true, false}
+use mathlib.Core.List.{List}
+use lib.ListN.{take}
+use lib.IntN.{ℤ}
+use borrow.Author.Tests.{lt-ltb, le-ltb}
+use Rattle.base.specs.Lists.{first}
+use Rattle.state.specs.declared.State.{State}
+use Rattle.state.specs.declared.Counts.{Counts}
+use Rattle.state.specs.declared.Pass.{Pass}
+use Rattle.state.specs.declared.Pass.the-variants.{Idle, Propagate, Merge, Sweep}
+use Rattle.state.specs.declared.Refusal.{Refusal}
+use Rattle.state.specs.declared.Refusal.the-variants.{Unsettled}
+use Rattle.state.specs.declared.Answer.the-variants.{Done}
+use Rattle.tables.specs.Tables.{Tables, tables}
+use Rattle.tables.specs.Clauses.{gone, standingCount, literalCount}
+use Rattle.tables.specs.Passes.{unsettled, firstUnsettled}
+use Rattle.tables.specs.Calls.{After, answered, refuse, marked}
+use Rattle.shape.specs.Shape.{settledTo, Cursor}
+use Rattle.shape.specs.Entry.{passNumber, entryOf}
+use Rattle.shape.specs.declared.Entry.{Entry}
+use Rattle.shape.specs.declared.Entry.the-variants.{No, Opens, Resumes}
+use Rattle.shape.proofs.Entering.{opens-entered, resumes-entered}
+use Rattle.clauses.specs.Formed.{Formed}
+use Rattle.clauses.proofs.Forming.{shape-formed}
+use Rattle.clauses.proofs.Entered.{entered-formed, entered-cursor}
+use Rattle.merge.specs.Merge.{edgesOf, clashes, representative, regrouped, mergedClasses, mergeFrom, mergeOpen, mergeSettled, mergeCursor, mergeBy, mergeCall}
+use Rattle.merge.specs.Opening.{openedClasses}
+use Rattle.merge.specs.Steps.{Ready}
+use Rattle.merge.proofs.Merged.{merged-formed}
+
+-- ---- the opening
+
+-- no visit, and nothing gone
+none-gone : (n : ℕ) (before : List ℕ) → record { visits = 0; clauses = 0; literals = 0 } ≡ gone 0 n before before
+none-gone n before =
+    let a : 0 ≡ standingCount (take (3 * n) before) - standingCount (take (3 * n) before) = omega arith in
+    let b : 0 ≡ literalCount (take (3 * n) before) - literalCount (take (3 * n) before) = omega arith in
+    λ i. record { visits = 0; clauses = a i; literals = b i }
+
+module _ (steps : ℕ) (st : State) (t : Tables) where
+  by-clash : Bool → After
+  by-clash b =
+      elim b [
+        | true ↦ answered (Done (gone 0 (st .n) (t .clauses) (t .clauses))) (marked st) t
+        | false ↦ mergeFrom false steps 0 (mergedClasses (st .v) (st .n) t) st
+      ]
+
+  opened : mergeOpen steps t st ≡ by-clash (clashes (edgesOf t (st .n)) (st .v))
+  unfolding mergeOpen by-clash
+  opened = refl
+
+  -- what the opening has answered, and the variable table after it
+  module _ (r : Bool) (w : List ℤ) (is : r ≡ clashes (edgesOf t (st .n)) (st .v)) (after : w ≡ openedClasses r (edgesOf t (st .n)) (st .v) (t .variables)) where
+    pub opens-clash : r ≡ true → answered (Done (record { visits = 0; clauses = 0; literals = 0 })) (marked st) (tables (t .clauses) (t .literals) w (t .times) (t .links)) ≡ mergeOpen steps t st
+    unfolding by-clash
+    opens-clash e =
+        ap (λ (c : Counts). answered (Done c) (marked st) (tables (t .clauses) (t .literals) w (t .times) (t .links))) (none-gone (st .n) (t .clauses))
+        ∙ ap (λ (x : List ℤ). answered (Done (gone 0 (st .n) (t .clauses) (t .clauses))) (marked st) (tables (t .clauses) (t .literals) x (t .times) (t .links)))
+        (after ∙ ap (λ (b : Bool). openedClasses b (edgesOf t (st .n)) (st .v) (t .variables)) e)
+        ∙ ap by-clash (sym e ∙ is)
+        ∙ sym opened
+
+    new-classes : r ≡ false → w ≡ regrouped (representative (edgesOf t (st .n)) (st .v)) (st .v) (t .variables)
+    new-classes e = after ∙ ap (λ (b : Bool). openedClasses b (edgesOf t (st .n)) (st .v) (t .variables)) e
+
+    pub opens-visits : r ≡ false → mergeFrom false steps 0 (tables (t .clauses) (t .literals) w (t .times) (t .links)) st ≡ mergeOpen steps t st
+    unfolding by-clash mergedClasses
+    opens-visits e =
+        ap (λ (x : List ℤ). mergeFrom false steps 0 (tables (t .clauses) (t .literals) x (t .times) (t .links)) st) (new-classes e)
+        ∙ ap by-clash (sym e ∙ is)
+        ∙ sym opened
+
+    pub opens-ready : r ≡ false → Formed (st .v) (st .n) (st .n) false (t .clauses) (t .literals) (t .variables) → firstUnsettled t (st .n) ≡ st .n → Ready st 0 (t .clauses) (t .literals) w
+    opens-ready e F settled = record {
+      formed = subst (Formed (st .v) (st .n) 0 false (t .clauses) (t .literals)) (sym (new-classes e)) (merged-formed t F (sym is ∙ e) settled);
+      within = omega arith;
+    }
+
+-- ---- refusal 6
+
+first-within : (q : ℕ → Bool) (n k : ℕ) → first q n k ≤ k + n
+unfolding first
+first-within q zero k = omega arith
+first-within q (suc n) k = go (q k) (first-within q n (suc k))
+  where
+    go : (b : Bool) → first q n (suc k) ≤ suc k + n → elim b as (λ x. ℕ) [ true ↦ k | false ↦ first q n (suc k) ] ≤ k + suc n
+    go true h = omega arith
+    go false h = omega arith
+
+module _ (steps : ℕ) (st : State) (t : Tables) (i : ℕ) (is : i ≡ firstUnsettled t (st .n)) where
+  by-first : Bool → After
+  by-first b = elim b [ true ↦ refuse (Unsettled (firstUnsettled t (st .n) + 1)) st t | false ↦ mergeOpen steps t st ]
+
+  pub first-refused : i < st .n → refuse (Unsettled (i + 1)) st t ≡ mergeSettled steps t st
+  unfolding mergeSettled by-first
+  first-refused h = ap (λ (j : ℕ). refuse (Unsettled (j + 1)) st t) is ∙ ap by-first (sym (lt-ltb (firstUnsettled t (st .n)) (st .n) (omega (arith, h, is))))
+
+  pub first-opens : st .n ≤ i → mergeOpen steps t st ≡ mergeSettled steps t st
+  unfolding mergeSettled by-first
+  first-opens h = ap by-first (sym (le-ltb (firstUnsettled t (st .n)) (st .n) (omega (arith, h, is))))
+
+  pub all-settled : st .n ≤ i → firstUnsettled t (st .n) ≡ st .n
+  unfolding firstUnsettled
+  all-settled h = omega (arith, h, is, first-within (unsettled t) (st .n) 0)
+
+-- ---- the three ways of the call
+
+module _ (steps : ℕ) (t : Tables) (st : State) where
+  pub call-refused : (r : Refusal) → entryOf 2 t st ≡ No r → refuse r st t ≡ mergeCall steps t st
+  unfolding mergeCall
+  call-refused r e = ap (λ (x : Entry). mergeBy x steps t st) (sym e)
+
+  pub call-opens : entryOf 2 t st ≡ Opens → mergeSettled steps t st ≡ mergeCall steps t st
+  unfolding mergeCall
+  call-opens e = ap (λ (x : Entry). mergeBy x steps t st) (sym e)
+
+  pub call-resumes : entryOf 2 t st ≡ Resumes → mergeFrom (st .fresh) steps (mergeCursor (st .pass)) t st ≡ mergeCall steps t st
+  unfolding mergeCall
+  call-resumes e = ap (λ (x : Entry). mergeBy x steps t st) (sym e)
+
+  pub opens-formed : entryOf 2 t st ≡ Opens → Formed (st .v) (st .n) (st .n) false (t .clauses) (t .literals) (t .variables)
+  opens-formed e = entered-formed (opens-entered 2 t st e) (λ z. omega arith)
+
+-- an open Merge has visited the clauses before its cursor
+merge-settled : (p : Pass) (n : ℕ) → passNumber p ≡ 2 → settledTo p n ≡ mergeCursor p
+merge-settled Idle n e = absurd (omega (arith, e))
+merge-settled (Propagate k c) n e = absurd (omega (arith, e))
+merge-settled (Merge k) n e = refl
+merge-settled (Sweep k) n e = absurd (omega (arith, e))
+
+merge-within : (p : Pass) (n : ℕ) → passNumber p ≡ 2 → Cursor p n false → mergeCursor p ≤ n
+merge-within Idle n e C = absurd (omega (arith, e))
+merge-within (Propagate k c) n e C = absurd (omega (arith, e))
+merge-within (Merge k) n e C = omega (arith, C .0)
+merge-within (Sweep k) n e C = absurd (omega (arith, e))
+
+pub resumes-ready : (t : Tables) (st : State) → entryOf 2 t st ≡ Resumes → Ready st (mergeCursor (st .pass)) (t .clauses) (t .literals) (t .variables)
+resumes-ready t st e =
+    let E = resumes-entered 2 t st e in
+    record {
+      formed =
+          subst (λ (b : Bool). Formed (st .v) (st .n) (mergeCursor (st .pass)) b (t .clauses) (t .literals) (t .variables)) (E .unmarked)
+          (subst (λ (s : ℕ). Formed (st .v) (st .n) s (st .mark) (t .clauses) (t .literals) (t .variables)) (merge-settled (st .pass) (st .n) (E .pass)) (shape-formed (E .shape)));
+      within = merge-within (st .pass) (st .n) (E .pass) (entered-cursor E);
+    }

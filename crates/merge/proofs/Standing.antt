@@ -1,0 +1,236 @@
+-- Merge's theorem: whatever the tables, the state and the step count, an assignment satisfies what stands after a call exactly if it satisfied what stood before, refused calls included. Assumes nothing.
+use Prim.Native.Nat.{ℕ, zero, suc, _+_, _-_, _≤_, _<_, min}
+use native.Mathlib.Omega.{arith}
+use native.Mathlib.Nat.{min-le-right}
+use mathlib.Core.Path.{_≡_, refl, sym, ap, subst, _∙_}
+use mathlib.Core.Bool.{Bool, true, false, false≢true}
+use mathlib.Core.Logic.{_⊎_, ⊎-elim, _↔_, Iff·rfl, Iff·trans}
+use mathlib.Core.List.{List, [], map}
+use lib.ListN.{length, getD}
+use lib.Dec.{ltb}
+use lib.IntN.{ℤ, pos, natAbs}
+use borrow.Author.Tests.{ltb-false}
+use Rattle.base.specs.Decide.{same-or}
+use Rattle.literal.specs.Literals.{Literal}
+use Rattle.literal.specs.Clauses.{tautology}
+use Rattle.literal.specs.Assignments.{Assignment, holds, someHolds}
+use Rattle.state.specs.declared.State.{State}
+use Rattle.state.specs.declared.Pass.{Pass}
+use Rattle.state.specs.declared.Pass.the-variants.{Idle, Merge}
+use Rattle.state.specs.declared.Answer.the-variants.{Open, Done}
+use Rattle.state.specs.declared.Refusal.the-variants.{Unsettled}
+use Rattle.tables.specs.Tables.{Tables, tables, lengthOf, standing, classOf, valueOf}
+use Rattle.tables.specs.Values.{classLiteral}
+use Rattle.tables.specs.Clauses.{literalsOf, gone}
+use Rattle.tables.specs.Fates.{Fate, left, dropped, store, visit, visits, shortened, droppedAt}
+use Rattle.tables.specs.Passes.{firstUnsettled, reached, advance}
+use Rattle.tables.specs.Calls.{After, answered, refuse, state, marked}
+use Rattle.tables.specs.Stands.{Stands}
+use Rattle.shape.specs.Entry.{entryOf}
+use Rattle.shape.specs.declared.Entry.{Entry}
+use Rattle.shape.specs.declared.Entry.the-variants.{No, Opens, Resumes}
+use Rattle.shape.proofs.Entering.{opens-entered, resumes-entered}
+use Rattle.clauses.specs.Formed.{Formed, Known}
+use Rattle.clauses.proofs.Stores.{recorded, recorded-here, recorded-other, storedAt, stored-view, stored-other}
+use Rattle.clauses.proofs.Forming.{clause-fits, record-inside, recorded-same}
+use Rattle.clauses.proofs.Known.{known-row}
+use Rattle.merge.specs.Merge.{edgesOf, clashes, mergedClasses, mergeClause, mergeFrom, mergeOpen, mergeSettled, mergeCursor, mergeBy, mergeCall}
+use Rattle.merge.specs.Visits.{substituted}
+use Rattle.merge.proofs.Merged.{merged-formed}
+use Rattle.merge.proofs.Equal.{opening-keeps, opening-adds-none, clash-stands}
+use Rattle.merge.proofs.Repeats.{distinct-short}
+use Rattle.merge.proofs.Visiting.{visit-dropped, visit-standing}
+use Rattle.merge.proofs.Keeping.{FormedTo, formed-visit, visit-beside, mapped}
+use Rattle.merge.proofs.Calling.{opens-formed, resumes-ready, all-settled}
+use Rattle.merge.proofs.Truth.{Classed, substituted-true, dropped-true}
+
+-- clause i has a true literal if it stands
+abbrev True : Assignment → List ℕ → List ℤ → ℕ → Type 0
+True τ c l i = standing c i ≡ 1 → someHolds τ (literalsOf c l i) ≡ true
+
+-- ---- one clause is stored anew
+
+module _ {v n s : ℕ} {c : List ℕ} {l w : List ℤ} (F : Formed v n s false c l w) (k : ℕ) (lt : k < n) (E : List ℤ) (f : ℕ) (short : length E ≤ lengthOf c k) (τ : Assignment)
+    (here : True τ c l k ↔ (f ≡ 1 → someHolds τ E ≡ true)) where
+  abbrev c′ : List ℕ
+  c′ = recorded c k (length E) f
+
+  abbrev l′ : List ℤ
+  l′ = storedAt c l k E
+
+  flag : standing c′ k ≡ f
+  flag = recorded-here c k (length E) f (record-inside F k lt) .1
+
+  view : literalsOf c′ l′ k ≡ E
+  view = stored-view F k lt E f short
+
+  stored-here : True τ c l k ↔ True τ c′ l′ k
+  stored-here = (λ h s. ap (someHolds τ) view ∙ here .0 h (sym flag ∙ s), λ h s. here .1 (λ e. sym (ap (someHolds τ) view) ∙ h (flag ∙ e)) s)
+
+  pub stored-true : (i : ℕ) → i < n → True τ c l i ↔ True τ c′ l′ i
+  stored-true i li =
+      ⊎-elim
+      (λ (e : i ≡ k). subst (λ (x : ℕ). True τ c l x ↔ True τ c′ l′ x) (sym e) stored-here)
+      (λ (d : i ≡ k → ⊥).
+      let same : literalsOf c′ l′ i ≡ literalsOf c l i = stored-other F k lt E f short i li d in
+      let still : standing c′ i ≡ standing c i = recorded-other c k (length E) f i d .1 in
+      (λ h s. ap (someHolds τ) same ∙ h (sym still ∙ s), λ h s. sym (ap (someHolds τ) same) ∙ h (still ∙ s)))
+      (same-or i k)
+
+-- ---- a visit
+
+module _ (t : Tables) (v n k : ℕ) (F : FormedTo v n k t) (lt : k < n) (τ : Assignment) (classes : Classed v (t .variables) τ) where
+  abbrev C : List ℤ
+  C = literalsOf (t .clauses) (t .literals) k
+
+  abbrev D : List ℤ
+  D = substituted (t .variables) C
+
+  ranged : (i : ℕ) → i < length C → Literal v (getD C i (pos 0))
+  ranged i h = clause-fits F k lt .ranged i h
+
+  classed : (i : ℕ) → i < length C → τ (natAbs (getD C i (pos 0))) ≡ holds τ (classOf (t .variables) (natAbs (getD C i (pos 0))))
+  classed i h =
+      let x : ℕ = natAbs (getD C i (pos 0)) in
+      let R : Literal v (getD C i (pos 0)) = ranged i h in
+      subst (λ (y : ℕ). τ y ≡ holds τ (classOf (t .variables) y)) (let e : x - 1 + 1 ≡ x = omega (arith, R .above) in e) (classes (x - 1) (omega (arith, R .above, R .within)))
+
+  some : (i : ℕ) → i < length C → 0 < natAbs (classOf (t .variables) (natAbs (getD C i (pos 0))))
+  some i h = known-row K .class .above
+    where
+      K : Known (t .variables) (getD C i (pos 0))
+      K = record { count = v; rows = F .vars; ranged = ranged i h }
+
+  -- it is dropped, since it is true
+  dropped-still : tautology D ≡ true → (i : ℕ) → i < n → True τ (t .clauses) (t .literals) i ↔ True τ (droppedAt k (t .variables) t .clauses) (droppedAt k (t .variables) t .literals) i
+  unfolding droppedAt
+  dropped-still e =
+      stored-true F k lt [] 0 (omega arith) τ
+      (λ h z. absurd (omega (arith, z)), λ h s. dropped-true τ (t .variables) C classed some e)
+
+  left-still : standing (t .clauses) k ≡ 1 → (i : ℕ) → i < n → True τ (t .clauses) (t .literals) i ↔ True τ (shortened k D t .clauses) (shortened k D t .literals) i
+  unfolding shortened
+  left-still stands i li =
+      subst (λ (x : List ℕ). True τ (t .clauses) (t .literals) i ↔ True τ x (storedAt (t .clauses) (t .literals) k D) i) (ap (recorded (t .clauses) k (length D)) (sym stands) ∙ recorded-same (t .clauses) k (length D))
+      (stored-true F k lt D 1 (omega (arith, distinct-short (map (classLiteral (t .variables)) C), mapped v n k t F lt)) τ
+      (λ h z. substituted-true τ (t .variables) C classed some ∙ h stands, λ h s. sym (substituted-true τ (t .variables) C classed some) ∙ h refl)
+      i li)
+
+  standing-still : standing (t .clauses) k ≡ 1 → (i : ℕ) → i < n
+      → True τ (t .clauses) (t .literals) i ↔ True τ (store k (mergeClause (t .variables) C) t .clauses) (store k (mergeClause (t .variables) C) t .literals) i
+  unfolding mergeClause
+  standing-still stands i li = go (tautology D) refl
+    where
+      go : (b : Bool) → tautology D ≡ b → True τ (t .clauses) (t .literals) i
+          ↔ True τ (store k (elim b as (λ x. Fate) [ true ↦ dropped | false ↦ left D ]) t .clauses) (store k (elim b as (λ x. Fate) [ true ↦ dropped | false ↦ left D ]) t .literals) i
+      go true e = dropped-still e i li
+      go false e = left-still stands i li
+
+  -- THE LAW of a visit: each clause is true after it exactly if it was before
+  pub visit-true : (i : ℕ) → i < n → True τ (t .clauses) (t .literals) i ↔ True τ (visit (mergeClause (t .variables)) k t .clauses) (visit (mergeClause (t .variables)) k t .literals) i
+  visit-true i li =
+      ⊎-elim
+      (λ (z : standing (t .clauses) k ≡ 0). subst (λ (x : Tables). True τ (t .clauses) (t .literals) i ↔ True τ (x .clauses) (x .literals) i) (sym (visit-dropped (mergeClause (t .variables)) k t z)) Iff·rfl)
+      (λ (d : standing (t .clauses) k ≡ 0 → ⊥).
+      subst (λ (x : Tables). True τ (t .clauses) (t .literals) i ↔ True τ (x .clauses) (x .literals) i) (sym (visit-standing (mergeClause (t .variables)) k t d))
+      (standing-still (omega (arith, F .rule .parts .flag k lt, d)) i li))
+      (same-or (standing (t .clauses) k) 0)
+
+-- ---- what stands
+
+-- other clauses, true where these are, over the same variables
+stands-as : (t t′ : Tables) (st : State) (τ : Assignment) → t′ .variables ≡ t .variables
+    → ((i : ℕ) → i < st .n → True τ (t .clauses) (t .literals) i → True τ (t′ .clauses) (t′ .literals) i) → Stands t st τ → Stands t′ st τ
+stands-as t t′ st τ e h S = record {
+  unmarked = S .unmarked;
+  clauses = λ i lt. h i lt (S .clauses i lt);
+  classes = λ u lt. subst (λ (w : List ℤ). τ (u + 1) ≡ holds τ (classOf w (u + 1))) (sym e) (S .classes u lt);
+  truths = λ u lt q. S .truths u lt (ap (λ (w : List ℤ). valueOf w (u + 1)) (sym e) ∙ q);
+  falsehoods = λ u lt q. S .falsehoods u lt (ap (λ (w : List ℤ). valueOf w (u + 1)) (sym e) ∙ q);
+}
+
+-- THE LAW of a visit, over what stands
+pub visit-stands : (t : Tables) (st : State) (k : ℕ) (τ : Assignment) → FormedTo (st .v) (st .n) k t → k < st .n → Stands (visit (mergeClause (t .variables)) k t) st τ ↔ Stands t st τ
+visit-stands t st k τ F lt = (
+  λ S.
+      let classes : Classed (st .v) (t .variables) τ = λ u lu. subst (λ (w : List ℤ). τ (u + 1) ≡ holds τ (classOf w (u + 1))) same (S .classes u lu) in
+      stands-as (visit (mergeClause (t .variables)) k t) t st τ (sym same) (λ i li. visit-true t (st .v) (st .n) k F lt τ classes i li .1) S,
+  λ S. stands-as t (visit (mergeClause (t .variables)) k t) st τ same (λ i li. visit-true t (st .v) (st .n) k F lt τ (S .classes) i li .0) S,
+)
+  where
+    same : visit (mergeClause (t .variables)) k t .variables ≡ t .variables
+    same = visit-beside (t .variables) k t .variables
+
+pub visits-stand : (m k : ℕ) (w : List ℤ) (t : Tables) (st : State) (τ : Assignment) → t .variables ≡ w → k + m ≤ st .n → FormedTo (st .v) (st .n) k t → Stands (visits (mergeClause w) m k t) st τ ↔ Stands t st τ
+unfolding visits
+visits-stand zero k w t st τ same le F = Iff·rfl
+visits-stand (suc m) k w t st τ same le F =
+    Iff·trans
+    (visits-stand m (suc k) w (visit (mergeClause w) k t) st τ (visit-beside w k t .variables ∙ same) (omega arith)
+    (subst (λ (x : List ℤ). FormedTo (st .v) (st .n) (suc k) (visit (mergeClause x) k t)) same (formed-visit (st .v) (st .n) k t F (omega arith))))
+    (subst (λ (x : List ℤ). Stands (visit (mergeClause x) k t) st τ ↔ Stands t st τ) same (visit-stands t st k τ F (omega arith)))
+
+-- ---- the call
+
+-- V, N and the mark are all of the state that matters
+stands-state : (t : Tables) (st : State) (τ : Assignment) (p : Pass) (fresh : Bool) → st .mark ≡ false → Stands t (state (st .v) (st .n) p fresh false) τ ↔ Stands t st τ
+stands-state t st τ p fresh e = (
+  λ S. record { unmarked = e; clauses = S .clauses; classes = S .classes; truths = S .truths; falsehoods = S .falsehoods },
+  λ S. record { unmarked = refl; clauses = S .clauses; classes = S .classes; truths = S .truths; falsehoods = S .falsehoods },
+)
+
+abbrev Kept : Assignment → After → Tables → State → Type 0
+Kept τ a t st = Stands (a .tables) (a .state) τ ↔ Stands t st τ
+
+module _ (st : State) (unmarked : st .mark ≡ false) (τ : Assignment) where
+  reached-keeps : (fresh : Bool) (m k : ℕ) (before : List ℕ) (t : Tables) → Kept τ (reached Merge fresh fresh m k before t st) t st
+  reached-keeps fresh m k before t = go (ltb k (st .n))
+    where
+      go : (b : Bool) → Kept τ (elim b as (λ x. After) [
+        | true ↦ answered (Open (gone m (st .n) before (t .clauses))) (state (st .v) (st .n) (Merge k) fresh false) t
+        | false ↦ answered (Done (gone m (st .n) before (t .clauses))) (state (st .v) (st .n) Idle fresh false) t
+      ]) t st
+      go true = stands-state t st τ (Merge k) fresh unmarked
+      go false = stands-state t st τ Idle fresh unmarked
+
+  from-keeps : (fresh : Bool) (steps k : ℕ) (t : Tables) → FormedTo (st .v) (st .n) k t → k ≤ st .n → Kept τ (mergeFrom fresh steps k t st) t st
+  unfolding advance
+  from-keeps fresh steps k t F le =
+      let m : ℕ = min steps (st .n - k) in
+      Iff·trans
+      (reached-keeps fresh m (k + m) (t .clauses) (visits (mergeClause (t .variables)) m k t))
+      (visits-stand m k (t .variables) t st τ refl (omega (arith, min-le-right steps (st .n - k), le)) F)
+
+  module _ (steps : ℕ) (t : Tables) (F : FormedTo (st .v) (st .n) (st .n) t) where
+    opened : clashes (edgesOf t (st .n)) (st .v) ≡ false → firstUnsettled t (st .n) ≡ st .n → FormedTo (st .v) (st .n) 0 (mergedClasses (st .v) (st .n) t)
+    unfolding mergedClasses
+    opened e settled = merged-formed t F e settled
+
+    open-keeps : firstUnsettled t (st .n) ≡ st .n → Kept τ (mergeOpen steps t st) t st
+    unfolding mergeOpen
+    open-keeps settled = go (clashes (edgesOf t (st .n)) (st .v)) refl
+      where
+        go : (b : Bool) → clashes (edgesOf t (st .n)) (st .v) ≡ b → Kept τ (elim b as (λ x. After) [
+          | true ↦ answered (Done (gone 0 (st .n) (t .clauses) (t .clauses))) (marked st) t
+          | false ↦ mergeFrom false steps 0 (mergedClasses (st .v) (st .n) t) st
+        ]) t st
+        go true e = (λ S. absurd (false≢true (sym (S .unmarked))), λ S. absurd (clash-stands t st F τ e S))
+        go false e = Iff·trans (from-keeps false steps 0 (mergedClasses (st .v) (st .n) t) (opened e settled) (omega arith)) (opening-adds-none t st F τ, opening-keeps t st F τ)
+
+    settled-keeps : Kept τ (mergeSettled steps t st) t st
+    unfolding mergeSettled
+    settled-keeps = go (ltb (firstUnsettled t (st .n)) (st .n)) refl
+      where
+        go : (b : Bool) → ltb (firstUnsettled t (st .n)) (st .n) ≡ b → Kept τ (elim b as (λ x. After) [ true ↦ refuse (Unsettled (firstUnsettled t (st .n) + 1)) st t | false ↦ mergeOpen steps t st ]) t st
+        go true e = Iff·rfl
+        go false e = open-keeps (all-settled steps st t (firstUnsettled t (st .n)) refl (ltb-false (firstUnsettled t (st .n)) (st .n) e))
+
+-- THE THEOREM
+pub merge-keeps : (steps : ℕ) (t : Tables) (st : State) (τ : Assignment) → Stands (mergeCall steps t st .tables) (mergeCall steps t st .state) τ ↔ Stands t st τ
+unfolding mergeCall
+merge-keeps steps t st τ = go (entryOf 2 t st) refl
+  where
+    go : (x : Entry) → entryOf 2 t st ≡ x → Kept τ (mergeBy x steps t st) t st
+    go (No r) e = Iff·rfl
+    go Opens e = settled-keeps st (opens-entered 2 t st e .unmarked) τ steps t (opens-formed steps t st e)
+    go Resumes e = let R = resumes-ready t st e in from-keeps st (resumes-entered 2 t st e .unmarked) τ (st .fresh) steps (mergeCursor (st .pass)) t (R .formed) (R .within)

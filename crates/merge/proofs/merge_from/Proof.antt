@@ -1,0 +1,79 @@
+-- `merge::merge_from` meets its contract. Assumes nothing.
+use Rattle.tables.specs.Tables.{tables}
+use Rattle.tables.specs.Calls.{after}
+use Rattle.clauses.proofs.Counting.{formed-counted}
+use Rattle.merge.proofs.Answering.{counts-are, ready-visitable, made-counted, advanced}
+use borrow.Author.Needs.{needs}
+use Rattle.merge.proofs.merge_from.Statement.{statement}
+use Rattle.merge.proofs.merge_from.Tie as tie
+use Rattle.merge.proofs.merge_from.Reads as reads
+use Rattle.merge.proofs.merge_from.Lts as lts
+use Rattle.clauses.proofs.count_standing.Reads as count-standing-reads
+use Rattle.clauses.proofs.counts_of.Reads as counts-of-reads
+use Rattle.merge.proofs.answer.Reads as answer-reads
+use Rattle.merge.proofs.smaller.Reads as smaller-reads
+use Rattle.merge.proofs.visit_some.Reads as visit-some-reads
+
+sub-smaller : tie.Need-sub-smaller
+sub-smaller c = search needs
+
+smaller-requires : tie.Need-smaller-requires
+smaller-requires c κs = search needs
+
+add-end : tie.Need-add-end
+add-end c = search needs
+
+cast-count-standing : tie.Need-cast-count-standing
+cast-count-standing c = search needs
+
+count-standing-requires : tie.Need-count-standing-requires
+count-standing-requires c κs = formed-counted (c .before .before .before .pre .formed)
+
+visit-some-requires : tie.Need-visit-some-requires
+visit-some-requires c κs = ready-visitable (c .before .before .before .before .before .before .pre) (c .before .before .before .before .smaller .result) (c .before .before .before .before .smaller .ensures .1)
+
+cast-count-standing-2 : tie.Need-cast-count-standing-2
+cast-count-standing-2 c = search needs
+
+count-standing-requires-2 : tie.Need-count-standing-requires-2
+count-standing-requires-2 c κs = let v = c .before .before .before .before .visit-some in
+    made-counted (c .before .before .before .before .before .before .before .before .before .before .before .pre) (c .before .before .before .before .before .before .before .before .before .smaller .result) (c .before .before .before .before .before .before .before .before .before .smaller .ensures .1) (v .last .0) (v .last .1 .0) (v .ensures)
+
+counts-of-requires : tie.Need-counts-of-requires
+counts-of-requires c κs = search needs
+
+answer-requires : tie.Need-answer-requires
+answer-requires c κs = search needs
+
+same-length : tie.Need-same-length
+same-length c = search needs
+
+same-length-2 : tie.Need-same-length-2
+same-length-2 c = search needs
+
+returns : tie.Need-returns
+returns c = λ times links. let a = c .before .before .before .before .before .before .before .before .before .before .before .before .before .before .args in
+    let m = c .before .before .before .before .before .before .before .before .before .before .before .before .smaller in
+    let v = c .before .before .before .before .before .before .before .visit-some in
+    let t′ = tables (v .last .0) (v .last .1 .0) (a .variables .now) times links in
+    advanced (c .before .before .before .before .before .before .before .before .before .before .before .before .before .before .pre) (m .result) (m .ensures .1) (v .last .0) (v .last .1 .0) (v .ensures) (a .steps) (m .ensures .0) (a .fresh) times links (c .before .counts-of .result)
+    (counts-are (a .st .n) (m .result) (a .clauses .now) (v .last .0) (c .before .before .before .before .before .before .before .before .before .before .count-standing .result) (c .before .before .count-standing2 .result) (c .before .counts-of .result) (c .before .before .before .before .before .before .before .before .before .before .count-standing .ensures) (c .before .before .count-standing2 .ensures) (c .before .counts-of .ensures))
+    (after (c .answer .result) t′) (c .answer .ensures t′)
+
+pub merge-from-spec : {M : Type 1} → statement M
+merge-from-spec =
+    tie.close
+    (tie.spec
+    sub-smaller
+    smaller-requires
+    add-end
+    cast-count-standing
+    count-standing-requires
+    visit-some-requires
+    cast-count-standing-2
+    count-standing-requires-2
+    counts-of-requires
+    answer-requires
+    same-length
+    same-length-2
+    returns)

@@ -1,0 +1,124 @@
+-- Merge is a list of moves at every stopping point: its opening regroups the classes or sets the mark, and each visit puts class literals in. Assumes nothing.
+use Prim.Native.Nat.{ℕ, zero, suc, _+_, _*_, _-_, _/_, _≤_, _<_}
+use native.Mathlib.Omega.{arith}
+use native.Mathlib.Numerals.{add-one}
+use mathlib.Core.Path.{_≡_, refl, sym, ap, subst, _∙_}
+use mathlib.Core.Bool.{Bool, true, false}
+use mathlib.Core.Logic.{⊎-elim}
+use mathlib.Core.List.{List, map}
+use lib.ListN.{length, getD}
+use lib.IntN.{ℤ, pos, negsuc, negℤ, natAbs}
+use lib.Signed.{nonNeg}
+use Rattle.literal.specs.Literals.{Literal, slotOf, litAt, twin, signBy, eqZ}
+use Rattle.literal.specs.Clauses.{distinct, tautology}
+use Rattle.literal.proofs.Laws.{slot-lit, slot-twin, slot-below, lit-var}
+use Rattle.groups.specs.Groups.{leastMutual}
+use Rattle.tables.specs.Tables.{Tables, tables, classOf, valueOf}
+use Rattle.tables.specs.Tables as T
+use Rattle.tables.specs.Values.{classLiteral, ownTruth}
+use Rattle.tables.specs.Fates.{Fate, store, fateAt, shortened, droppedAt, visits}
+use Rattle.tables.specs.Fates as fates
+use Rattle.clauses.specs.Formed.{Formed}
+use Rattle.demand.specs.Core as core
+use Rattle.demand.specs.Moves as moves
+use Rattle.demand.proofs.Groups.{least, least-in, least-out, least-grouped, least-twin, clash-found}
+use Rattle.merge.specs.Merge.{edgesOf, clashes, representative, regrouped, mergedClasses, mergeClause, unlessTautology}
+use Rattle.merge.proofs.Regrouped.{regrouped-class, regrouped-value}
+use Rattle.merge.proofs.Keeping.{FormedTo, formed-visit, visit-beside}
+use Rattle.sound.specs.Formula.{graph}
+use Rattle.represented.specs.Represented.{Represented}
+use Rattle.represented.proofs.Literals.{class-is, class-lit}
+use Rattle.represented.proofs.Propagated.{Simulated, literalsAt, mark-represented}
+use Rattle.represented.proofs.Propagation.{moves-join}
+use Rattle.represented.proofs.Merged.{classed, merged-left, merged-dropped}
+use Rattle.represented.proofs.Equivalent.{slot-literal}
+use Rattle.represented.proofs.Shaping.{shaped-of, graph-of, owned-of}
+
+-- ---- visits
+
+pub visit-simulated : {v n c : ℕ} {t : Tables} {k : core.Core} → FormedTo v n c t → Represented v n false t k → c < n → Simulated v n false (fates.visit (mergeClause (t .variables)) c t) k
+unfolding fateAt mergeClause classed
+visit-simulated {v} {n} {c} {t} {k} F R lt = by-flag (T.standing (t .clauses) c) refl
+  where
+    by-fate : T.standing (t .clauses) c ≡ 1 → (b : Bool) → tautology (distinct (map (classLiteral (t .variables)) (literalsAt t c))) ≡ b
+        → Simulated v n false (store c (elim b as (λ x. Fate) [ true ↦ fates.dropped | false ↦ fates.left (distinct (map (classLiteral (t .variables)) (literalsAt t c))) ]) t) k
+    by-fate e true h = merged-dropped F R c lt e h
+    by-fate e false h = merged-left F R c lt e
+    by-flag : (x : ℕ) → T.standing (t .clauses) c ≡ x → Simulated v n false (store c (elim x as (λ y. Fate) [ zero ↦ fates.kept | suc _ ↦ mergeClause (t .variables) (literalsAt t c) ]) t) k
+    by-flag zero e = record { to = k; moves = moves.stay; tied = R }
+    by-flag (suc x) e = by-fate (let f = F .rule .parts .flag c lt in omega (arith, f, e)) (tautology (distinct (map (classLiteral (t .variables)) (literalsAt t c)))) refl
+
+pub visits-simulated : (v n m c : ℕ) (w : List ℤ) (t : Tables) (k : core.Core) → t .variables ≡ w → c + m ≤ n → FormedTo v n c t → Represented v n false t k → Simulated v n false (visits (mergeClause w) m c t) k
+unfolding visits
+visits-simulated v n zero c w t k same le F R = record { to = k; moves = moves.stay; tied = R }
+visits-simulated v n (suc m) c w t k same le F R =
+    let one : Simulated v n false (fates.visit (mergeClause w) c t) k = subst (λ (x : List ℤ). Simulated v n false (fates.visit (mergeClause x) c t) k) same (visit-simulated F R (omega (arith, le))) in
+    let formed : FormedTo v n (suc c) (fates.visit (mergeClause w) c t) = subst (λ (x : List ℤ). FormedTo v n (suc c) (fates.visit (mergeClause x) c t)) same (formed-visit v n c t F (omega (arith, le))) in
+    let rest = visits-simulated v n m (suc c) w (fates.visit (mergeClause w) c t) (one .to) (visit-beside w c t .variables ∙ same) (omega (arith, le)) formed (one .tied) in
+    record { to = rest .to; moves = moves-join (one .moves) (rest .moves); tied = rest .tied }
+
+-- ---- the opening
+
+module _ {v n : ℕ} {t : Tables} {k : core.Core} (F : FormedTo v n n t) (R : Represented v n false t k) where
+  abbrev rep : ℕ → ℕ
+  rep = least (graph (k .clauses)) (2 * v)
+
+  same-clashes : clashes (graph (k .clauses)) v ≡ clashes (edgesOf t n) v
+  same-clashes = ap (λ (adj : ℕ → List ℕ). clashes adj v) (graph-of F R)
+
+  pub clash-simulated : clashes (edgesOf t n) v ≡ true → Simulated v n true t k
+  clash-simulated h = record {
+    to = core.marked k;
+    moves = moves.go moves.stay (moves.change (clash-found v k (shaped-of F R) (same-clashes ∙ h)));
+    tied = mark-represented R;
+  }
+
+  -- the new class of a variable, on slots
+  new-class : (w : ℕ) → w < v → slotOf (classOf (mergedClasses v n t .variables) (w + 1)) ≡ rep (slotOf (classOf (t .variables) (w + 1)))
+  unfolding mergedClasses representative
+  new-class w lt =
+      let L : Literal v (pos (w + 1)) = record { above = omega arith; within = omega (arith, lt) } in
+      let C = class-lit R (F .vars) (pos (w + 1)) L in
+      ap slotOf (regrouped-class (representative (edgesOf t n) v) v (t .variables) w lt (omega (arith, F .vars .few, F .vars .room)))
+      ∙ slot-lit (leastMutual (edgesOf t n) (2 * v) (slotOf (classOf (t .variables) (w + 1))))
+      ∙ ap (λ (adj : ℕ → List ℕ). leastMutual adj (2 * v) (slotOf (classOf (t .variables) (w + 1)))) (sym (graph-of F R))
+      ∙ sym (least-in v k (shaped-of F R) (slotOf (classOf (t .variables) (w + 1))) (slot-below (classOf (t .variables) (w + 1)) v (C .above) (C .within)))
+
+  module _ (none : clashes (edgesOf t n) v ≡ false) where
+    -- of a literal
+    new-literal : (l : ℤ) → Literal v l → rep (slotOf (classLiteral (t .variables) l)) ≡ slotOf (classLiteral (mergedClasses v n t .variables) l)
+    unfolding mergedClasses representative
+    new-literal (pos zero) L = absurd (omega (arith, L .above))
+    new-literal (pos (suc w)) L = sym (subst (λ (x : ℕ). slotOf (classOf (mergedClasses v n t .variables) x) ≡ rep (slotOf (classOf (t .variables) x))) (add-one w) (new-class w (L .within)))
+    new-literal (negsuc w) L =
+        let o : ℤ = classOf (t .variables) (suc w) in
+        let q : slotOf (classOf (mergedClasses v n t .variables) (suc w)) ≡ rep (slotOf o) = subst (λ (x : ℕ). slotOf (classOf (mergedClasses v n t .variables) x) ≡ rep (slotOf (classOf (t .variables) x))) (add-one w) (new-class w (L .within)) in
+        let C = class-lit R (F .vars) (pos (suc w)) (record { above = omega arith; within = L .within }) in
+        ap rep (slot-twin o (C .above))
+        ∙ least-twin v k (shaped-of F R) (same-clashes ∙ none) (slotOf o) (slot-below o v (C .above) (C .within))
+        ∙ ap twin (sym q)
+        ∙ sym (slot-twin (classOf (mergedClasses v n t .variables) (suc w)) (above w (L .within)))
+      where
+        above : (w : ℕ) → w < v → 0 < natAbs (classOf (mergedClasses v n t .variables) (suc w))
+        above w lt =
+            let e = regrouped-class (representative (edgesOf t n) v) v (t .variables) w lt (omega (arith, F .vars .few, F .vars .room)) in
+            let s = leastMutual (edgesOf t n) (2 * v) (slotOf (classOf (t .variables) (w + 1))) in
+            subst (λ (x : ℕ). 0 < natAbs (classOf (mergedClasses v n t .variables) x)) (add-one w) (subst (λ (z : ℤ). 0 < natAbs z) (sym e) (let q = lit-var s in omega (arith, q)))
+
+    pub opening-simulated : Simulated v n false (mergedClasses v n t) k
+    unfolding mergedClasses
+    opening-simulated = record {
+      to = core.regroup rep k;
+      moves = moves.go moves.stay (moves.change (least-grouped v k (shaped-of F R) (owned-of F R)));
+      tied = record {
+        number = R .number;
+        clauses = R .clauses;
+        classes = λ s h. ap rep (R .classes s h) ∙ new-literal (litAt s) (slot-literal v s h);
+        facts = λ s h. R .facts s h ∙ ap (λ (z : ℤ). eqZ (signBy (nonNeg (litAt s)) z) (pos 1)) (sym (value-same s));
+        beyond = λ s h. (ap rep (R .beyond s h .0) ∙ least-out v k (shaped-of F R) s h, R .beyond s h .1);
+        marks = R .marks;
+      };
+    }
+      where
+        value-same : (s : ℕ) → valueOf (mergedClasses v n t .variables) (natAbs (litAt s)) ≡ valueOf (t .variables) (natAbs (litAt s))
+        value-same s = subst (λ (x : ℕ). valueOf (mergedClasses v n t .variables) x ≡ valueOf (t .variables) x) (let q : s / 2 + 1 ≡ natAbs (litAt s) = sym (lit-var s) in q) (regrouped-value (representative (edgesOf t n) v) v (t .variables) (s / 2))
