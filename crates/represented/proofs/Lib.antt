@@ -8,3 +8,4 @@ pub mod Swept
 pub mod Merged
 pub mod Shaping
 pub mod Merging
+pub mod Called

@@ -57,11 +57,11 @@ module _ (t : Tables) (st : State) (F : Formed (st .v) (st .n) (st .n) false (t 
   from-keeps fresh steps p G R =
       after-tie fresh (propagateVisits (st .n) steps 0 p .visits) (t .clauses) (propagateVisits (st .n) steps 0 p .progress) (visits-good (st .v) (st .n) steps 0 p G) (visits-follow (st .v) (st .n) steps 0 p k G R)
 
-begin-tied : (v n : ℕ) (t : Tables) (k : core.Core) → Represented v n false t k → Tied v n (begin n t) k
+pub begin-tied : (v n : ℕ) (t : Tables) (k : core.Core) → Represented v n false t k → Tied v n (begin n t) k
 begin-tied v zero t k R = R
 begin-tied v (suc n) t k R = R
 
-resumed-tied : (v n : ℕ) (p : Pass) (t : Tables) (k : core.Core) → Represented v n false t k → Tied v n (resumed p t) k
+pub resumed-tied : (v n : ℕ) (p : Pass) (t : Tables) (k : core.Core) → Represented v n false t k → Tied v n (resumed p t) k
 resumed-tied v n Idle t k R = R
 resumed-tied v n (Propagate j c) t k R = R
 resumed-tied v n (Merge j) t k R = R

@@ -1,0 +1,124 @@
+-- Propagate and Merge as their user sees them, refused calls included: what stands after the call is reached by moves from what stood before. Assumes nothing.
+use Prim.Native.Nat.{ℕ, zero, suc, _+_, _-_, _≤_, _<_, min}
+use native.Mathlib.Nat.{min-le-right}
+use native.Mathlib.Omega.{arith}
+use mathlib.Core.Path.{_≡_, refl, sym, ap, subst, _∙_}
+use mathlib.Core.Bool.{Bool, true, false}
+use mathlib.Core.List.{List}
+use lib.Dec.{ltb}
+use borrow.Author.Tests.{ltb-false}
+use Rattle.state.specs.declared.State.{State}
+use Rattle.state.specs.declared.Pass.the-variants.{Idle, Merge}
+use Rattle.state.specs.declared.Answer.the-variants.{Open, Done}
+use Rattle.state.specs.declared.Refusal.the-variants.{Unsettled}
+use Rattle.tables.specs.Tables.{Tables}
+use Rattle.tables.specs.Clauses.{gone}
+use Rattle.tables.specs.Fates.{visits}
+use Rattle.tables.specs.Passes.{advance, firstUnsettled}
+use Rattle.tables.specs.Calls.{After, answered, refuse, marked, state}
+use Rattle.shape.specs.Entry.{entryOf}
+use Rattle.shape.specs.declared.Entry.{Entry}
+use Rattle.shape.specs.declared.Entry.the-variants.{No, Opens, Resumes}
+use Rattle.shape.proofs.Entering.{opens-entered, resumes-entered}
+use Rattle.clauses.specs.Formed.{Formed}
+use Rattle.clauses.proofs.Entered.{entered-formed, entered-cursor}
+use Rattle.propagate.specs.Propagate.{Progress, going, settled, contradicted, begin, resumed, propagateVisits, propagateFrom, replied, propagateBy, propagateCall}
+use Rattle.propagate.proofs.Stepping.{Good, visits-good}
+use Rattle.propagate.proofs.Shaped.{begin-good, resumed-good}
+use Rattle.merge.specs.Merge.{edgesOf, clashes, mergedClasses, mergeClause, mergeFrom, mergeOpen, mergeSettled, mergeCursor, mergeBy, mergeCall}
+use Rattle.merge.proofs.Keeping.{FormedTo}
+use Rattle.merge.proofs.Merged.{merged-formed}
+use Rattle.merge.proofs.Calling.{opens-formed, resumes-ready, all-settled}
+use Rattle.demand.specs.Core as core
+use Rattle.demand.specs.Moves as moves
+use Rattle.represented.specs.Represented.{Represented}
+use Rattle.represented.proofs.Propagated.{Simulated}
+use Rattle.represented.proofs.Propagation.{Tied, Follows, visits-follow, moves-join}
+use Rattle.represented.proofs.PropagateKeeps.{begin-tied, resumed-tied}
+use Rattle.represented.proofs.Merging.{visits-simulated, clash-simulated, opening-simulated}
+
+-- the call's answer, state and tables, and what stood before it
+abbrev pub Reached : State → core.Core → After → Type 0
+Reached st k a = Simulated (st .v) (st .n) (a .state .mark) (a .tables) k
+
+refused : (st : State) {t : Tables} {k : core.Core} → Represented (st .v) (st .n) (st .mark) t k → Simulated (st .v) (st .n) (st .mark) t k
+refused st {k = k} R = record { to = k; moves = moves.stay; tied = R }
+
+unmarked : (st : State) {t : Tables} {k : core.Core} → st .mark ≡ false → Represented (st .v) (st .n) (st .mark) t k → Represented (st .v) (st .n) false t k
+unmarked st {t} {k} e R = subst (λ (b : Bool). Represented (st .v) (st .n) b t k) e R
+
+-- ---- Propagate
+
+module _ (st : State) (k : core.Core) where
+  replied-reached : (fresh : Bool) (m : ℕ) (before : List ℕ) (q : Progress) → Follows (st .v) (st .n) q k → Reached st k (replied fresh before st m q)
+  replied-reached fresh m before (going i changed t) S = record { to = S .to; moves = S .moves; tied = S .tied }
+  replied-reached fresh m before (settled t) S = record { to = S .to; moves = S .moves; tied = S .tied }
+  replied-reached fresh m before (contradicted t) S = record { to = S .to; moves = S .moves; tied = S .tied }
+
+  propagate-from : (fresh : Bool) (steps : ℕ) (p : Progress) (t : Tables) → Good (st .v) (st .n) p → Tied (st .v) (st .n) p k → Reached st k (propagateFrom fresh steps p t st)
+  unfolding propagateFrom
+  propagate-from fresh steps p t G R = replied-reached fresh (propagateVisits (st .n) steps 0 p .visits) (t .clauses) (propagateVisits (st .n) steps 0 p .progress) (visits-follow (st .v) (st .n) steps 0 p k G R)
+
+pub propagate-reached : (steps : ℕ) (t : Tables) (st : State) (k : core.Core) → Represented (st .v) (st .n) (st .mark) t k → Reached st k (propagateCall steps t st)
+unfolding propagateCall
+propagate-reached steps t st k R = by (entryOf 1 t st) refl
+  where
+    by : (e : Entry) → entryOf 1 t st ≡ e → Reached st k (propagateBy e steps t st)
+    by (No r) q = refused st R
+    by Opens q =
+        let E = opens-entered 1 t st q in
+        propagate-from st k false steps (begin (st .n) t) t (begin-good (st .v) (st .n) t (entered-formed E (λ z. omega arith))) (begin-tied (st .v) (st .n) t k (unmarked st (E .unmarked) R))
+    by Resumes q =
+        let E = resumes-entered 1 t st q in
+        propagate-from st k (st .fresh) steps (resumed (st .pass) t) t (resumed-good (st .v) (st .n) (st .pass) t (entered-formed E (λ z. omega arith)) (entered-cursor E)) (resumed-tied (st .v) (st .n) (st .pass) t k (unmarked st (E .unmarked) R))
+
+-- ---- Merge
+
+module _ (st : State) where
+  merge-from : (fresh : Bool) (steps c : ℕ) (t : Tables) (k : core.Core) → FormedTo (st .v) (st .n) c t → c ≤ st .n → Represented (st .v) (st .n) false t k → Reached st k (mergeFrom fresh steps c t st)
+  unfolding advance
+  merge-from fresh steps c t k F le R =
+      go (ltb (c + min steps (st .n - c)) (st .n)) (visits-simulated (st .v) (st .n) (min steps (st .n - c)) c (t .variables) t k refl (omega (arith, min-le-right steps (st .n - c), le)) F R)
+    where
+      go : (b : Bool) → Simulated (st .v) (st .n) false (visits (mergeClause (t .variables)) (min steps (st .n - c)) c t) k → Reached st k (elim b as (λ x. After) [
+        | true ↦ answered (Open (gone (min steps (st .n - c)) (st .n) (t .clauses) (visits (mergeClause (t .variables)) (min steps (st .n - c)) c t .clauses))) (state (st .v) (st .n) (Merge (c + min steps (st .n - c))) fresh false) (visits (mergeClause (t .variables)) (min steps (st .n - c)) c t)
+        | false ↦ answered (Done (gone (min steps (st .n - c)) (st .n) (t .clauses) (visits (mergeClause (t .variables)) (min steps (st .n - c)) c t .clauses))) (state (st .v) (st .n) Idle fresh false) (visits (mergeClause (t .variables)) (min steps (st .n - c)) c t)
+      ])
+      go true S = S
+      go false S = S
+
+  module _ (steps : ℕ) (t : Tables) (k : core.Core) (F : FormedTo (st .v) (st .n) (st .n) t) (R : Represented (st .v) (st .n) false t k) where
+    opened : clashes (edgesOf t (st .n)) (st .v) ≡ false → firstUnsettled t (st .n) ≡ st .n → FormedTo (st .v) (st .n) 0 (mergedClasses (st .v) (st .n) t)
+    unfolding mergedClasses
+    opened e s = merged-formed t F e s
+
+    merge-open : firstUnsettled t (st .n) ≡ st .n → Reached st k (mergeOpen steps t st)
+    unfolding mergeOpen
+    merge-open s = go (clashes (edgesOf t (st .n)) (st .v)) refl
+      where
+        go : (b : Bool) → clashes (edgesOf t (st .n)) (st .v) ≡ b → Reached st k (elim b as (λ x. After) [
+          | true ↦ answered (Done (gone 0 (st .n) (t .clauses) (t .clauses))) (marked st) t
+          | false ↦ mergeFrom false steps 0 (mergedClasses (st .v) (st .n) t) st
+        ])
+        go true e = clash-simulated F R e
+        go false e =
+            let o = opening-simulated F R e in
+            let r = merge-from false steps 0 (mergedClasses (st .v) (st .n) t) (o .to) (opened e s) (omega arith) (o .tied) in
+            record { to = r .to; moves = moves-join (o .moves) (r .moves); tied = r .tied }
+
+    merge-settled : Represented (st .v) (st .n) (st .mark) t k → Reached st k (mergeSettled steps t st)
+    unfolding mergeSettled
+    merge-settled Q = go (ltb (firstUnsettled t (st .n)) (st .n)) refl
+      where
+        go : (b : Bool) → ltb (firstUnsettled t (st .n)) (st .n) ≡ b → Reached st k (elim b as (λ x. After) [ true ↦ refuse (Unsettled (firstUnsettled t (st .n) + 1)) st t | false ↦ mergeOpen steps t st ])
+        go true e = refused st Q
+        go false e = merge-open (all-settled steps st t (firstUnsettled t (st .n)) refl (ltb-false (firstUnsettled t (st .n)) (st .n) e))
+
+pub merge-reached : (steps : ℕ) (t : Tables) (st : State) (k : core.Core) → Represented (st .v) (st .n) (st .mark) t k → Reached st k (mergeCall steps t st)
+unfolding mergeCall
+merge-reached steps t st k R = by (entryOf 2 t st) refl
+  where
+    by : (e : Entry) → entryOf 2 t st ≡ e → Reached st k (mergeBy e steps t st)
+    by (No r) q = refused st R
+    by Opens q = merge-settled st steps t k (opens-formed steps t st q) (unmarked st (opens-entered 2 t st q .unmarked) R) R
+    by Resumes q = let P = resumes-ready t st q in merge-from st (st .fresh) steps (mergeCursor (st .pass)) t k (P .formed) (P .within) (unmarked st (resumes-entered 2 t st q .unmarked) R)
