@@ -9,3 +9,4 @@ pub mod Merged
 pub mod Shaping
 pub mod Merging
 pub mod Called
+pub mod Held

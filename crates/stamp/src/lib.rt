@@ -1,7 +1,31 @@
 // Stamp: whole in one call, over an order of all literals.
+use shape::Entry;
+use state::Answer;
+use state::Outcome;
+use state::Pass;
+use state::Refusal;
+use state::State;
 ghost use mathlib.Core.Path.{_≡_};
-ghost use Prim.Native.Nat.{_≤_};
-ghost use Rattle.stamp.specs.Stamp.{firstBad};
+ghost use mathlib.Core.Bool.{Bool, false};
+ghost use mathlib.Core.List.{List, map};
+ghost use Prim.Native.Nat.{ℕ, _*_, _≤_};
+ghost use lib.IntN.{ℤ};
+ghost use Rattle.literal.specs.Literals.{slotOf};
+ghost use Rattle.graph.specs.Clauses.{implications};
+ghost use Rattle.groups.specs.Groups.{cyclic};
+ghost use Rattle.tables.specs.Tables.{tables};
+ghost use Rattle.tables.specs.Clauses.{slotsFrom};
+ghost use Rattle.tables.specs.Calls.{after};
+ghost use Rattle.clauses.specs.Formed.{Formed};
+ghost use Rattle.stamping.specs.Stamping.{Proper};
+ghost use Rattle.stamp.specs.Stamp.{firstBad, stampsOf, stampAcyclic, stampCall};
+ghost use Rattle.stamp.specs.Asking.{askOrdered, askOf, Full, Records, Blank, writtenTables};
+
+// Whether the call is refused before the graph is walked, or is fit.
+pub enum Ruling {
+    No(Refusal),
+    Fit,
+}
 
 // Refusal 8: the first entry of an order that is no literal of the variables 1 to v, or stands before; the order's length if there is none.
 pub fn check_order(order: &[i32], v: u32) -> usize
@@ -23,4 +47,161 @@ pub fn check_order(order: &[i32], v: u32) -> usize
         i += 1;
     }
     i
+}
+
+// Refusals 8 and 6, in this order.
+fn ask_ordered(
+    clauses: &[u32],
+    literals: &[i32],
+    variables: &[i32],
+    st: State,
+    order: &[i32],
+) -> Ruling
+    requires { ⌜ Formed (st .v) (st .n) (st .n) false (now clauses) (now literals) (now variables) ⌝ }
+    ensures { λ r. ⌜ ((times : List ℕ) (links : List ℤ) →
+        r ≡ askOrdered (now (order .entry)) (tables (now (clauses .entry)) (now (literals .entry)) (now (variables .entry)) times links) st) ⌝ }
+{
+    let v = st.v;
+    let slots = 2 * v as usize;
+    if order.len() != slots {
+        return Ruling::No(Refusal::Order(0));
+    }
+    let wrong = check_order(order, v);
+    if wrong < slots {
+        return Ruling::No(Refusal::Order(wrong));
+    }
+    let n = st.n as usize;
+    let unsettled = settled::first_unsettled(clauses, literals, variables, n);
+    if unsettled < n {
+        return Ruling::No(Refusal::Unsettled(unsettled as u32 + 1));
+    }
+    Ruling::Fit
+}
+
+// The topmost refusal but for a cycle, if one applies.
+fn ask(
+    clauses: &[u32],
+    literals: &[i32],
+    variables: &[i32],
+    times: &[u32],
+    links: &[i32],
+    st: State,
+    order: &[i32],
+) -> Ruling
+    ensures { λ r. ⌜ r ≡ askOf (now (order .entry)) (tables (now (clauses .entry)) (now (literals .entry)) (now (variables .entry)) (now (times .entry)) (now (links .entry))) st ⌝ }
+{
+    let entry = shape::entry_of(clauses, literals, variables, times, links, st, 0);
+    match entry {
+        Entry::No(r) => Ruling::No(r),
+        Entry::Opens => ask_ordered(clauses, literals, variables, st, order),
+        // Stamp resumes no pass
+        Entry::Resumes => Ruling::No(Refusal::OtherPass),
+    }
+}
+
+// Walks the graph in scratch columns and, unless it is cyclic, writes the records; whether it is cyclic.
+fn write_stamps(
+    v: usize,
+    n: usize,
+    clauses: &[u32],
+    literals: &[i32],
+    order: &[i32],
+    slots: &mut [u32],
+    disc: &mut [u32],
+    fin: &mut [u32],
+    par: &mut [u32],
+    top: &mut [u32],
+    times: &mut [u32],
+    links: &mut [i32],
+) -> bool
+    requires { ⌜ Proper v n (now clauses) (now literals) × Full v (now order) ⌝ }
+    requires { ⌜ Blank v (now slots) (now disc) (now fin) (now par) (now top) × Records v (now times) (now links) ⌝ }
+    ensures { λ r. ⌜ (r ≡ cyclic (implications (slotsFrom (now (clauses .entry)) (now (literals .entry)) n 0)) (2 * v))
+        × ((variables : List ℤ) → tables (now (clauses .entry)) (now (literals .entry)) variables (now (times .exit)) (now (links .exit))
+        ≡ writtenTables r v (stampsOf (slotsFrom (now (clauses .entry)) (now (literals .entry)) n 0) (2 * v) (map slotOf (now (order .entry))))
+        (tables (now (clauses .entry)) (now (literals .entry)) variables (now (times .entry)) (now (links .entry)))) ⌝ }
+{
+    stamping::list_slots(order, slots);
+    if stamping::stamp_columns(v, n, clauses, literals, slots, disc, fin, par, top) {
+        return true;
+    }
+    stamping::copy_times(disc, fin, times);
+    stamping::copy_links(par, top, links);
+    false
+}
+
+// The call past refusals 8 and 6, which Run uses: refusal 7, or the stamps. Nothing is written where the graph is cyclic.
+pub fn stamp_acyclic(
+    clauses: &[u32],
+    literals: &[i32],
+    times: &mut [u32],
+    links: &mut [i32],
+    st: State,
+    order: &[i32],
+) -> Outcome
+    requires { ⌜ Proper (st .v) (st .n) (now clauses) (now literals) × Full (st .v) (now order) ⌝ }
+    requires { ⌜ Records (st .v) (now times) (now links) ⌝ }
+    ensures { λ r. ⌜ ((variables : List ℤ) → after r (tables (now (clauses .entry)) (now (literals .entry)) variables (now (times .exit)) (now (links .exit)))
+        ≡ stampAcyclic (now (order .entry)) (tables (now (clauses .entry)) (now (literals .entry)) variables (now (times .entry)) (now (links .entry))) st) ⌝ }
+{
+    let v = st.v as usize;
+    let n = st.n as usize;
+    let size = 2 * v;
+    let mut slots = [0u32; 2048];
+    let mut disc = [0u32; 2048];
+    let mut fin = [0u32; 2048];
+    let mut par = [0u32; 2048];
+    let mut top = [0u32; 2048];
+    if write_stamps(
+        v,
+        n,
+        clauses,
+        literals,
+        order,
+        &mut slots[..size],
+        &mut disc[..size],
+        &mut fin[..size],
+        &mut par[..size],
+        &mut top[..size],
+        times,
+        links,
+    ) {
+        return Outcome {
+            answer: Answer::Refused(Refusal::Cyclic),
+            state: st,
+        };
+    }
+    Outcome {
+        answer: Answer::Stamped,
+        state: State {
+            v: st.v,
+            n: st.n,
+            pass: Pass::Idle,
+            fresh: true,
+            mark: false,
+        },
+    }
+}
+
+// The exported call.
+pub fn stamp(
+    clauses: &[u32],
+    literals: &[i32],
+    variables: &[i32],
+    times: &mut [u32],
+    links: &mut [i32],
+    st: State,
+    order: &[i32],
+) -> Outcome
+    ensures { λ r. ⌜ after r (tables (now (clauses .entry)) (now (literals .entry)) (now (variables .entry)) (now (times .exit)) (now (links .exit)))
+        ≡ stampCall (now (order .entry)) (tables (now (clauses .entry)) (now (literals .entry)) (now (variables .entry)) (now (times .entry)) (now (links .entry))) st ⌝ }
+{
+    let ruling = ask(clauses, literals, variables, times, links, st, order);
+    match ruling {
+        Ruling::No(r) => Outcome {
+            answer: Answer::Refused(r),
+            state: st,
+        },
+        Ruling::Fit => stamp_acyclic(clauses, literals, times, links, st, order),
+    }
 }

@@ -1,26 +1,24 @@
 -- The loops over columns: the slots of a list, the records of two columns, the test of each edge. What is left to store, from here, makes the whole. Assumes nothing.
+-- ---- a list, element by element
 use Prim.Native.Nat.{ℕ, suc, _+_, _*_, _≤_, _<_}
 use native.Mathlib.Numerals.{add-one}
 use native.Mathlib.Omega.{arith}
 use mathlib.Core.Path.{_≡_, refl, sym, ap, subst, _∙_}
-use mathlib.Core.Bool.{Bool, true, false}
+use mathlib.Core.Bool.{true, false}
 use mathlib.Core.List.{List, [], _∷_, _++_}
-use lib.ListN.{length, getD, set, take, drop, length-set}
+use lib.ListN.{length, getD, set, drop, length-set}
 use lib.Seq.{sets, sets-eq, drop-cons, drop-length}
-use lib.Dec.{ltb}
-use lib.IntN.{ℤ, natAbs}
+use lib.IntN.{ℤ}
 use mir.Syntax.{w32}
 use mir.Val.{toZ, ofZ}
 use borrow.Author.Tests.{lt-ltb, le-ltb}
 use Rattle.base.specs.Lists.{interleave}
-use Rattle.literal.specs.Literals.{Small, litAt}
+use Rattle.literal.specs.Literals.{litAt}
 use Rattle.literal.proofs.Laws.{lit-var}
 use Rattle.literal.proofs.Signed.{back}
 use Rattle.walk.specs.Walk.{Stamps}
 use Rattle.walk.specs.Forest.{fin}
 use Rattle.cycles.specs.Forward.{forward}
-
--- ---- a list, element by element
 
 module _ {A : Type 0} where
   step : (l : List A) (i : ℕ) (x : A) → i < length l → drop i l ≡ getD l i x ∷ drop (i + 1) l

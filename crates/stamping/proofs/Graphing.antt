@@ -1,4 +1,5 @@
 -- How the calls of `stamp_graph` fit: the tables' edges and the order are fit to be walked, and the test on the finishes says whether the graph is cyclic. Assumes nothing.
+-- ---- tables that keep the shape rule
 use Prim.Native.Nat.{ℕ, suc, _+_, _*_, _/_, _≤_, _<_}
 use native.Mathlib.Omega.{arith}
 use mathlib.Core.Path.{_≡_, refl, sym, ap, subst, _∙_}
@@ -8,14 +9,13 @@ use lib.ListN.{length, getD, take, replicate, length-replicate}
 use lib.Seq.{length-take-le}
 use lib.IntN.{ℤ, pos, natAbs}
 use Rattle.base.specs.Lists.{absent}
-use Rattle.literal.specs.Literals.{slotOf, twin}
+use Rattle.literal.specs.Literals.{slotOf}
 use Rattle.literal.proofs.Laws.{lit-slot, lit-var}
 use Rattle.literal.proofs.Twins.{twin-below}
 use Rattle.walk.specs.Walk.{Stamps, stampAll}
 use Rattle.walk.specs.Ready.{stamps}
 use Rattle.walk.proofs.Cycle.{mem-at}
 use Rattle.walk.proofs.Theorems.{Stamped, stamp-theorem}
-use Rattle.graph.specs.Edges.{Edges}
 use Rattle.graph.specs.Clauses.{froms, tos, implications, Once, empty, more}
 use Rattle.graph.proofs.Implications.{tos-mem}
 use Rattle.groups.specs.Groups.{blank, cyclic}
@@ -24,12 +24,10 @@ use Rattle.cycles.proofs.Forward.{edge-below, cyclic-forward}
 use Rattle.tables.specs.Clauses.{literalsOf, slotsAt, slotsFrom}
 use Rattle.clauses.specs.Formed.{Formed}
 use Rattle.clauses.proofs.Forming.{clause-fits}
-use Rattle.pairs.specs.Pairs.{Listed, Room}
+use Rattle.pairs.specs.Pairs.{Room}
 use Rattle.pairs.proofs.Listing.{formed-listed, mem-map, from-clauses, slots-in, froms-mem, fit-edges}
 use Rattle.components.proofs.Chain.{front-zeros}
 use Rattle.stamping.specs.Stamping.{Holding, Columned, Walkable, Finished, Proper, Ordered, Scratch}
-
--- ---- tables that keep the shape rule
 
 slot-variable : (l : ℤ) → 0 < natAbs l → natAbs l ≡ slotOf l / 2 + 1
 slot-variable l above = ap natAbs (sym (lit-slot l above)) ∙ lit-var (slotOf l)

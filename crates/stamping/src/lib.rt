@@ -124,7 +124,17 @@ pub fn stamp_edges(
     let k = from.len();
     graph::build(from, to, offsets, targets);
     graph::mark_roots(to, root);
-    stamp_order(order, root, roots, offsets, &targets[..k], disc, fin, par, top);
+    stamp_order(
+        order,
+        root,
+        roots,
+        offsets,
+        &targets[..k],
+        disc,
+        fin,
+        par,
+        top,
+    );
 }
 
 // Stamps every slot of `order` over the graph of the first n clauses; whether the graph is cyclic. All but the tables, the order and the four stamp columns is scratch.

@@ -1,23 +1,18 @@
-use mathlib.Core.Bool.{true, false}
-use Rattle.literal.specs.Literals.{inRange}
-use Rattle.literal.proofs.Signed.{InRange}
-use Prim.Native.Nat.{ℕ, _+_, _-_, _≤_, _<_}
+-- `stamp::check_order` meets its contract. Assumes nothing.
+use Prim.Native.Nat.{ℕ, _+_, _-_, _<_}
 use native.Mathlib.Omega.{arith}
+use mathlib.Core.Bool.{true, false}
 use mathlib.Core.Path.{_≡_, sym, ap, subst, _∙_}
 use lib.ListN.{length, getD, set}
 use lib.IntN.{ℤ, pos}
-use Rattle.literal.specs.Literals.{slotOf}
-use Rattle.literal.proofs.Laws.{slot-below}
-use Rattle.literal.proofs.Signed.{read, in-range}
 use borrow.Author.Tests.{not-true, not-false}
-use Rattle.stamp.proofs.Ordering.{Looking, looking-none, outside, repeated, new, looked}
 use borrow.Author.Needs.{needs}
+use Rattle.literal.specs.Literals.{inRange, slotOf}
+use Rattle.literal.proofs.Signed.{InRange, read, in-range}
+use Rattle.literal.proofs.Laws.{slot-below}
+use Rattle.stamp.proofs.Ordering.{Looking, looking-none, outside, repeated, new, looked}
 use Rattle.stamp.proofs.check_order.Statement.{statement}
 use Rattle.stamp.proofs.check_order.Tie as tie
-use Rattle.stamp.proofs.check_order.Reads as reads
-use Rattle.stamp.proofs.check_order.Lts as lts
-use Rattle.literal.proofs.in_range.Reads as in-range-reads
-use Rattle.literal.proofs.slot_of.Reads as slot-of-reads
 
 abbrev Inv-loop : tie.InvT-loop
 Inv-loop order v seen₀ i₀ seen i = Looking v order seen i
@@ -25,7 +20,6 @@ Inv-loop order v seen₀ i₀ seen i = Looking v order seen i
 abbrev μ-loop : tie.MeasureT-loop
 μ-loop order v seen₀ i₀ seen i = length order - i
 
--- <pre>
 -- past the test of the entry's range
 module _ (c : tie.Else1 Inv-loop μ-loop) where
   abbrev entry : ℤ
@@ -44,58 +38,44 @@ module _ (c : tie.After-slot-of Inv-loop μ-loop) where
 
   slot-low : c .slot-of .result < 2048
   slot-low = omega (arith, slot-is, slot-below (entry (c .before)) (c .before .before .before .before .before .before .args .v) (range (c .before) .above) (range (c .before) .within), c .before .before .before .before .before .before .pre)
--- </pre>
 
--- src/lib.rt:13:5
 loop-holds : tie.Need-loop-holds Inv-loop μ-loop
 loop-holds c = looking-none _ _ (c .pre)
 
--- src/lib.rt:14:17
 mul-l : tie.Need-mul-l Inv-loop μ-loop
 mul-l c = search needs
 
--- src/lib.rt:14:17
 shared-slice-copy-out-l : tie.Need-shared-slice-copy-out-l Inv-loop μ-loop
 shared-slice-copy-out-l c = search needs
 
--- src/lib.rt:15:13
 in-range-requires : tie.Need-in-range-requires Inv-loop μ-loop
 in-range-requires c κs = search needs
 
--- src/lib.rt:16:13
 returns : tie.Need-returns Inv-loop μ-loop
 returns c = outside (c .before .before .before .before .before .pre) (c .before .before .before .before .loop .inv) (c .before .before .before .loop-test .taken) (sym (ap (λ (z : ℤ). inRange z (c .before .before .before .before .before .args .v)) (read (c .before .before .before .before .before .args .order .now) (c .before .before .before .before .loop .i) (c .before .before .l .given))) ∙ sym (c .before .in-range .ensures) ∙ not-true _ (c .if1 .taken))
 
--- src/lib.rt:18:13
 slot-of-requires : tie.Need-slot-of-requires Inv-loop μ-loop
 slot-of-requires c κs = rw (read (c .before .before .before .before .before .args .order .now) (c .before .before .before .before .loop .i) (c .before .before .l .given)) (range c .above, range c .low)
 
--- src/lib.rt:19:12
 array-read-if2 : tie.Need-array-read-if2 Inv-loop μ-loop
 array-read-if2 c = slot-low c
 
--- src/lib.rt:20:13
 returns-2 : tie.Need-returns-2 Inv-loop μ-loop
 returns-2 c = repeated (c .before .before .before .before .before .before .before .pre) (c .before .before .before .before .before .before .loop .inv) (c .before .before .before .before .before .loop-test .taken) (ranged (c .before .before)) (range (c .before .before) .above) (range (c .before .before) .within) (sym (ap (λ (k : ℕ). getD (c .before .before .before .before .before .before .loop .seen) k false) (slot-is (c .before))) ∙ c .if2 .taken)
 
--- src/lib.rt:22:9
 array-write-seen : tie.Need-array-write-seen Inv-loop μ-loop
 array-write-seen c = slot-low (c .before)
 
--- src/lib.rt:23:9
 add-i : tie.Need-add-i Inv-loop μ-loop
 add-i c = search needs
 
--- src/lib.rt:13:5
 loop-less : tie.Need-loop-less Inv-loop μ-loop
 loop-less c = search needs
 
--- src/lib.rt:13:5
 loop-again : tie.Need-loop-again Inv-loop μ-loop
 loop-again c = subst (λ (k : ℕ). Looking (c .before .before .before .before .before .before .before .args .v) (c .before .before .before .before .before .before .before .args .order .now) (set (c .before .before .before .before .before .before .loop .seen) k true) (c .before .before .before .before .before .before .loop .i + 1)) (sym (slot-is (c .before)))
     (new (c .before .before .before .before .before .before .before .pre) (c .before .before .before .before .before .before .loop .inv) (c .before .before .before .before .before .loop-test .taken) (ranged (c .before .before)) (range (c .before .before) .above) (range (c .before .before) .within) (sym (ap (λ (k : ℕ). getD (c .before .before .before .before .before .before .loop .seen) k false) (slot-is (c .before))) ∙ c .if2 .left))
 
--- src/lib.rt:7:1
 returns-3 : tie.Need-returns-3 Inv-loop μ-loop
 returns-3 c = looked (c .before .loop .inv) (c .loop-test .left)
 

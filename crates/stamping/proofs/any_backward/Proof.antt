@@ -1,17 +1,16 @@
+-- `stamping::any_backward` meets its contract. Assumes nothing.
 use Prim.Native.Nat.{ℕ, _-_, _≤_}
 use native.Mathlib.Omega.{arith}
 use mathlib.Core.Path.{_≡_, refl, sym, ap, _∙_}
 use mathlib.Core.Bool.{not}
 use mathlib.Core.List.{List}
 use lib.ListN.{length, drop}
+use borrow.Author.Needs.{needs}
 use Rattle.walk.specs.Ready.{stamps}
 use Rattle.cycles.specs.Forward.{forward}
 use Rattle.stamping.proofs.Copying.{forward-on, forward-stops, forward-end}
-use borrow.Author.Needs.{needs}
 use Rattle.stamping.proofs.any_backward.Statement.{statement}
 use Rattle.stamping.proofs.any_backward.Tie as tie
-use Rattle.stamping.proofs.any_backward.Reads as reads
-use Rattle.stamping.proofs.any_backward.Lts as lts
 
 abbrev Inv-loop : tie.InvT-loop
 Inv-loop from to fin i₀ i = (i ≤ length from) × ((t : ℕ) (d p s : List ℕ) → forward (stamps t d fin p s) (drop i from) (drop i to) ≡ forward (stamps t d fin p s) from to)
@@ -19,69 +18,53 @@ Inv-loop from to fin i₀ i = (i ≤ length from) × ((t : ℕ) (d p s : List �
 abbrev μ-loop : tie.MeasureT-loop
 μ-loop from to fin i₀ i = length from - i
 
--- src/lib.rt:32:5
 loop-holds : tie.Need-loop-holds Inv-loop μ-loop
 loop-holds c = (omega arith, λ t d p s. refl)
 
--- src/lib.rt:33:20
 mul-tail : tie.Need-mul-tail Inv-loop μ-loop
 mul-tail c = search needs
 
--- src/lib.rt:33:20
 shared-slice-read-tail : tie.Need-shared-slice-read-tail Inv-loop μ-loop
 shared-slice-read-tail c = search needs
 
--- src/lib.rt:33:20
 cast-tail : tie.Need-cast-tail Inv-loop μ-loop
 cast-tail c = omega (arith, c .shared-slice-known .given (c .before .before .loop .i))
 
--- src/lib.rt:34:20
 mul-head : tie.Need-mul-head Inv-loop μ-loop
 mul-head c = search needs
 
--- src/lib.rt:34:20
 shared-slice-read-head : tie.Need-shared-slice-read-head Inv-loop μ-loop
 shared-slice-read-head c = search needs
 
--- src/lib.rt:34:20
 cast-head : tie.Need-cast-head Inv-loop μ-loop
 cast-head c = omega (arith, c .shared-slice-known2 .given (c .before .before .before .loop .i))
 
--- src/lib.rt:35:9
 add-i : tie.Need-add-i Inv-loop μ-loop
 add-i c = search needs
 
--- src/lib.rt:36:12
 mul-if1 : tie.Need-mul-if1 Inv-loop μ-loop
 mul-if1 c = let h = c .before .before .before .before .pre .tails (c .before .before .before .loop .i) (c .before .before .loop-test .taken) in search needs
 
--- src/lib.rt:36:12
 shared-slice-read-if1 : tie.Need-shared-slice-read-if1 Inv-loop μ-loop
 shared-slice-read-if1 c = c .before .before .before .before .before .pre .tails (c .before .before .before .before .loop .i) (c .before .before .before .loop-test .taken)
 
--- src/lib.rt:36:25
 mul-if1-2 : tie.Need-mul-if1-2 Inv-loop μ-loop
 mul-if1-2 c = let h = c .before .before .before .before .before .pre .heads (c .before .before .before .before .loop .i) (c .before .before .before .loop-test .taken) in search needs
 
--- src/lib.rt:36:25
 shared-slice-read-if1-2 : tie.Need-shared-slice-read-if1-2 Inv-loop μ-loop
 shared-slice-read-if1-2 c = c .before .before .before .before .before .before .pre .heads (c .before .before .before .before .before .loop .i) (c .before .before .before .before .loop-test .taken)
 
--- src/lib.rt:37:13
 returns : tie.Need-returns Inv-loop μ-loop
 returns c = λ t d p s. let a = c .before .before .before .before .before .before .before .args in let l = c .before .before .before .before .before .before .loop in
     sym (ap not (sym (l .inv .1 t d p s) ∙ forward-stops (stamps t d (a .fin .now) p s) (a .from .now) (a .to .now) (l .i) (c .before .before .before .before .before .loop-test .taken) (c .before .before .before .before .before .before .before .pre .pairs) (c .if1 .taken)))
 
--- src/lib.rt:32:5
 loop-less : tie.Need-loop-less Inv-loop μ-loop
 loop-less c = search needs
 
--- src/lib.rt:32:5
 loop-again : tie.Need-loop-again Inv-loop μ-loop
 loop-again c = let a = c .before .before .before .before .before .before .before .args in let l = c .before .before .before .before .before .before .loop in
     (omega arith, λ t d p s. sym (forward-on (stamps t d (a .fin .now) p s) (a .from .now) (a .to .now) (l .i) (c .before .before .before .before .before .loop-test .taken) (c .before .before .before .before .before .before .before .pre .pairs) (c .if1 .left)) ∙ l .inv .1 t d p s)
 
--- src/lib.rt:27:1
 returns-2 : tie.Need-returns-2 Inv-loop μ-loop
 returns-2 c = λ t d p s. let a = c .before .before .args in let l = c .before .loop in
     sym (ap not (sym (l .inv .1 t d p s) ∙ forward-end (stamps t d (a .fin .now) p s) (a .from .now) (a .to .now) (l .i) (l .inv .0) (c .loop-test .left)))

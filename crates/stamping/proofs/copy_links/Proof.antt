@@ -1,22 +1,15 @@
-use Prim.Native.Nat.{_+_, _*_, _≤_}
-use mathlib.Core.List.{_++_}
-use lib.ListN.{drop}
-use Rattle.base.specs.Lists.{interleave}
-use Rattle.stamping.proofs.Copying.{copying-as, lit-stored}
-use Prim.Native.Nat.{ℕ, _-_, _<_}
+-- `stamping::copy_links` meets its contract. Assumes nothing.
+use Prim.Native.Nat.{_+_, _*_, ℕ, _-_}
 use native.Mathlib.Omega.{arith}
-use mathlib.Core.Path.{_≡_, refl, sym, ap, _∙_}
-use mathlib.Core.List.{map}
-use lib.ListN.{length, getD, length-set, length-map, List·getD-map}
-use lib.IntN.{ℤ, pos}
-use Rattle.literal.specs.Literals.{litAt}
-use Rattle.stamping.proofs.Copying.{Copying, copying-none, copying-step, copying-done}
+use mathlib.Core.List.{_++_, map}
+use mathlib.Core.Path.{sym, ap, _∙_}
+use lib.ListN.{drop, length, getD, length-set, length-map, List·getD-map}
 use borrow.Author.Needs.{needs}
+use Rattle.base.specs.Lists.{interleave}
+use Rattle.literal.specs.Literals.{litAt}
+use Rattle.stamping.proofs.Copying.{copying-as, lit-stored, Copying, copying-none, copying-done}
 use Rattle.stamping.proofs.copy_links.Statement.{statement}
 use Rattle.stamping.proofs.copy_links.Tie as tie
-use Rattle.stamping.proofs.copy_links.Reads as reads
-use Rattle.stamping.proofs.copy_links.Lts as lts
-use Rattle.literal.proofs.lit_at.Reads as lit-at-reads
 
 abbrev Inv-loop : tie.InvT-loop
 Inv-loop par top links₀ s₀ links s = Copying (map litAt par) (map litAt top) links₀ links s
@@ -24,75 +17,57 @@ Inv-loop par top links₀ s₀ links s = Copying (map litAt par) (map litAt top)
 abbrev μ-loop : tie.MeasureT-loop
 μ-loop par top links₀ s₀ links s = length par - s
 
--- src/lib.rt:64:5
 loop-holds : tie.Need-loop-holds Inv-loop μ-loop
 loop-holds c = copying-none _ _ _
 
--- src/lib.rt:65:18
 mul-at : tie.Need-mul-at Inv-loop μ-loop
 mul-at c = search needs
 
--- src/lib.rt:66:37
 mul-lit-at : tie.Need-mul-lit-at Inv-loop μ-loop
 mul-lit-at c = search needs
 
--- src/lib.rt:66:37
 shared-slice-read-lit-at : tie.Need-shared-slice-read-lit-at Inv-loop μ-loop
 shared-slice-read-lit-at c = search needs
 
--- src/lib.rt:66:37
 cast-lit-at : tie.Need-cast-lit-at Inv-loop μ-loop
 cast-lit-at c = omega (arith, c .before .before .before .before .before .pre .1 (c .before .before .loop .s) (c .before .loop-test .taken) .0)
 
--- src/lib.rt:66:21
 lit-at-requires : tie.Need-lit-at-requires Inv-loop μ-loop
 lit-at-requires c κs = omega (arith, c .before .before .before .before .before .pre .1 (c .before .before .loop .s) (c .before .loop-test .taken) .0)
 
--- src/lib.rt:66:9
 mul-links : tie.Need-mul-links Inv-loop μ-loop
 mul-links c = search needs
 
--- src/lib.rt:66:9
 slice-set-from-links : tie.Need-slice-set-from-links Inv-loop μ-loop
 slice-set-from-links c = search needs
 
--- src/lib.rt:67:41
 mul-lit-at-2 : tie.Need-mul-lit-at-2 Inv-loop μ-loop
 mul-lit-at-2 c = search needs
 
--- src/lib.rt:67:41
 shared-slice-read-lit-at-2 : tie.Need-shared-slice-read-lit-at-2 Inv-loop μ-loop
 shared-slice-read-lit-at-2 c = search needs
 
--- src/lib.rt:67:41
 cast-lit-at-2 : tie.Need-cast-lit-at-2 Inv-loop μ-loop
 cast-lit-at-2 c = omega (arith, c .before .before .before .before .before .before .before .pre .1 (c .before .before .before .before .loop .s) (c .before .before .before .loop-test .taken) .1)
 
--- src/lib.rt:67:25
 lit-at-requires-2 : tie.Need-lit-at-requires-2 Inv-loop μ-loop
 lit-at-requires-2 c κs = omega (arith, c .before .before .before .before .before .before .before .pre .1 (c .before .before .before .before .loop .s) (c .before .before .before .loop-test .taken) .1)
 
--- src/lib.rt:67:15
 add-t6 : tie.Need-add-t6 Inv-loop μ-loop
 add-t6 c = search needs
 
--- src/lib.rt:67:9
 mul-t15 : tie.Need-mul-t15 Inv-loop μ-loop
 mul-t15 c = search needs
 
--- src/lib.rt:67:9
 slice-set-from-links-2 : tie.Need-slice-set-from-links-2 Inv-loop μ-loop
 slice-set-from-links-2 c = simp length-set (omega (arith, c .before .before .before .before .before .loop .inv .size, c .before .before .before .before .loop-test .taken, c .before .before .before .before .before .before .before .before .pre .0 .1))
 
--- src/lib.rt:68:9
 add-s : tie.Need-add-s Inv-loop μ-loop
 add-s c = search needs
 
--- src/lib.rt:64:5
 loop-less : tie.Need-loop-less Inv-loop μ-loop
 loop-less c = search needs
 
--- src/lib.rt:64:5
 loop-again : tie.Need-loop-again Inv-loop μ-loop
 loop-again c = let a = c .before .before .before .before .before .before .before .before .args in let l = c .before .before .before .before .before .loop in
     let lt = c .before .before .before .before .loop-test .taken in
@@ -101,11 +76,9 @@ loop-again c = let a = c .before .before .before .before .before .before .before
     (lit-stored (getD (a .top .now) (l .s) 0) _ (c .before .before .before .before .before .before .before .before .pre .1 (l .s) lt .1) (c .lit-at2 .ensures) ∙ sym (List·getD-map litAt (a .top .now) (l .s) 0))
     (omega (arith, lt, length-map (a .par .now) litAt)) (omega (arith, c .before .before .before .before .before .before .before .before .pre .0 .0, length-map (a .par .now) litAt, length-map (a .top .now) litAt)) (l .inv)
 
--- src/lib.rt:58:1
 same-length : tie.Need-same-length Inv-loop μ-loop
 same-length c = search needs
 
--- src/lib.rt:58:1
 returns : tie.Need-returns Inv-loop μ-loop
 returns c = let a = c .before .before .before .before .args in let l = c .before .loop in
     let many = length-map (a .par .now) litAt in

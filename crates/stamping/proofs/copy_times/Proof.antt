@@ -1,13 +1,11 @@
-use Prim.Native.Nat.{ℕ, _-_, _<_}
+-- `stamping::copy_times` meets its contract. Assumes nothing.
+use Prim.Native.Nat.{_-_}
 use native.Mathlib.Omega.{arith}
-use mathlib.Core.Path.{_≡_, refl, sym, ap, _∙_}
-use lib.ListN.{length, getD, length-set}
-use Rattle.stamping.proofs.Copying.{Copying, copying-none, copying-step, copying-done}
+use lib.ListN.{length, length-set}
 use borrow.Author.Needs.{needs}
+use Rattle.stamping.proofs.Copying.{Copying, copying-none, copying-step, copying-done}
 use Rattle.stamping.proofs.copy_times.Statement.{statement}
 use Rattle.stamping.proofs.copy_times.Tie as tie
-use Rattle.stamping.proofs.copy_times.Reads as reads
-use Rattle.stamping.proofs.copy_times.Lts as lts
 
 abbrev Inv-loop : tie.InvT-loop
 Inv-loop disc fin times₀ s₀ times s = Copying disc fin times₀ times s
@@ -15,68 +13,52 @@ Inv-loop disc fin times₀ s₀ times s = Copying disc fin times₀ times s
 abbrev μ-loop : tie.MeasureT-loop
 μ-loop disc fin times₀ s₀ times s = length disc - s
 
--- src/lib.rt:49:5
 loop-holds : tie.Need-loop-holds Inv-loop μ-loop
 loop-holds c = copying-none _ _ _
 
--- src/lib.rt:50:18
 mul-at : tie.Need-mul-at Inv-loop μ-loop
 mul-at c = search needs
 
--- src/lib.rt:51:21
 mul-times : tie.Need-mul-times Inv-loop μ-loop
 mul-times c = search needs
 
--- src/lib.rt:51:21
 shared-slice-read-times : tie.Need-shared-slice-read-times Inv-loop μ-loop
 shared-slice-read-times c = search needs
 
--- src/lib.rt:51:9
 mul-times-2 : tie.Need-mul-times-2 Inv-loop μ-loop
 mul-times-2 c = search needs
 
--- src/lib.rt:51:9
 slice-write-times : tie.Need-slice-write-times Inv-loop μ-loop
 slice-write-times c = search needs
 
--- src/lib.rt:52:25
 mul-times-3 : tie.Need-mul-times-3 Inv-loop μ-loop
 mul-times-3 c = search needs
 
--- src/lib.rt:52:25
 shared-slice-read-times-2 : tie.Need-shared-slice-read-times-2 Inv-loop μ-loop
 shared-slice-read-times-2 c = search needs
 
--- src/lib.rt:52:15
 add-times : tie.Need-add-times Inv-loop μ-loop
 add-times c = search needs
 
--- src/lib.rt:52:9
 mul-times-4 : tie.Need-mul-times-4 Inv-loop μ-loop
 mul-times-4 c = search needs
 
--- src/lib.rt:52:9
 slice-write-times-2 : tie.Need-slice-write-times-2 Inv-loop μ-loop
 slice-write-times-2 c = simp length-set (omega (arith, c .before .before .before .loop .inv .size, c .before .before .loop-test .taken, c .before .before .before .before .pre))
 
--- src/lib.rt:53:9
 add-s : tie.Need-add-s Inv-loop μ-loop
 add-s c = search needs
 
--- src/lib.rt:49:5
 loop-less : tie.Need-loop-less Inv-loop μ-loop
 loop-less c = search needs
 
--- src/lib.rt:49:5
 loop-again : tie.Need-loop-again Inv-loop μ-loop
 loop-again c = let a = c .before .before .before .before .args in let l = c .before .before .before .loop in
     copying-step (a .disc .now) (a .fin .now) (a .times .now) (l .times) (l .s) 0 0 (c .before .before .loop-test .taken) (c .before .before .before .before .pre .0) (l .inv)
 
--- src/lib.rt:44:1
 same-length : tie.Need-same-length Inv-loop μ-loop
 same-length c = search needs
 
--- src/lib.rt:44:1
 returns : tie.Need-returns Inv-loop μ-loop
 returns c = let a = c .before .before .args in let l = c .before .loop in
     copying-done (a .disc .now) (a .fin .now) (a .times .now) (l .times) (l .s) (c .loop-test .left) (c .before .before .pre .0) (c .before .before .pre .1) (l .inv)

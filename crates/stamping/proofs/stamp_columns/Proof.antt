@@ -1,79 +1,61 @@
+-- `stamping::stamp_columns` meets its contract. Assumes nothing.
 use Prim.Native.Nat.{_+_, _*_}
 use native.Mathlib.Omega.{arith}
 use mathlib.Core.Path.{sym}
 use mathlib.Core.Bool.{false}
 use lib.ListN.{take, replicate}
+use borrow.Author.Needs.{needs}
 use Rattle.components.proofs.Chain.{front-zeros}
 use Rattle.stamping.proofs.Graphing.{front-flags, own-scratch}
-use borrow.Author.Needs.{needs}
 use Rattle.stamping.proofs.stamp_columns.Statement.{statement}
 use Rattle.stamping.proofs.stamp_columns.Tie as tie
-use Rattle.stamping.proofs.stamp_columns.Reads as reads
-use Rattle.stamping.proofs.stamp_columns.Lts as lts
-use Rattle.stamping.proofs.stamp_graph.Reads as stamp-graph-reads
 
--- src/lib.rt:192:17
 mul-slots : tie.Need-mul-slots
 mul-slots c = search needs
 
--- src/lib.rt:193:16
 add-ends : tie.Need-add-ends
 add-ends c = search needs
 
--- src/lib.rt:206:9
 slice-aggregate-stamp-graph : tie.Need-slice-aggregate-stamp-graph
 slice-aggregate-stamp-graph c = search needs
 
--- src/lib.rt:207:9
 slice-aggregate-stamp-graph-2 : tie.Need-slice-aggregate-stamp-graph-2
 slice-aggregate-stamp-graph-2 c = search needs
 
--- src/lib.rt:208:9
 array-borrow-prefix-offsets : tie.Need-array-borrow-prefix-offsets
 array-borrow-prefix-offsets c = search needs
 
--- src/lib.rt:208:9
 slice-aggregate-stamp-graph-3 : tie.Need-slice-aggregate-stamp-graph-3
 slice-aggregate-stamp-graph-3 c = sym (front-zeros (2 * c .before .before .before .before .before .before .before .before .before .args .v + 1) 2049 (omega (arith, c .before .before .before .before .before .before .before .before .before .pre .0 .0 .listed .few)))
 
--- src/lib.rt:209:9
 slice-aggregate-stamp-graph-4 : tie.Need-slice-aggregate-stamp-graph-4
 slice-aggregate-stamp-graph-4 c = search needs
 
--- src/lib.rt:210:9
 array-borrow-prefix-root : tie.Need-array-borrow-prefix-root
 array-borrow-prefix-root c = search needs
 
--- src/lib.rt:210:9
 slice-aggregate-stamp-graph-5 : tie.Need-slice-aggregate-stamp-graph-5
 slice-aggregate-stamp-graph-5 c = sym (front-flags (2 * c .before .before .before .before .before .before .before .before .before .before .before .args .v) 2048 (omega (arith, c .before .before .before .before .before .before .before .before .before .before .before .pre .0 .0 .listed .few)))
 
--- src/lib.rt:211:9
 slice-aggregate-stamp-graph-6 : tie.Need-slice-aggregate-stamp-graph-6
 slice-aggregate-stamp-graph-6 c = search needs
 
--- src/lib.rt:200:5
 stamp-graph-requires : tie.Need-stamp-graph-requires
 stamp-graph-requires c κs = let s = c .before .before .before .before .before .before .before .before .before .before .before .before .before .before .before .before in
     (s .pre .0, (own-scratch (take (2 * s .args .v) (replicate 2048 false)) (s .pre .0 .0) (front-flags (2 * s .args .v) 2048 (omega (arith, s .pre .0 .0 .listed .few))), s .pre .1))
 
--- src/lib.rt:174:1
 same-length : tie.Need-same-length
 same-length c = search needs
 
--- src/lib.rt:174:1
 same-length-2 : tie.Need-same-length-2
 same-length-2 c = search needs
 
--- src/lib.rt:174:1
 same-length-3 : tie.Need-same-length-3
 same-length-3 c = search needs
 
--- src/lib.rt:174:1
 same-length-4 : tie.Need-same-length-4
 same-length-4 c = search needs
 
--- src/lib.rt:174:1
 returns : tie.Need-returns
 returns c = search needs
 

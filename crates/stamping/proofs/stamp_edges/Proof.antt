@@ -1,22 +1,17 @@
-use Prim.Native.Nat.{ℕ, _+_, _<_}
+-- `stamping::stamp_edges` meets its contract. Assumes nothing.
+use Prim.Native.Nat.{ℕ, _+_}
 use native.Mathlib.Omega.{arith}
 use mathlib.Core.Path.{_≡_, sym, _∙_}
 use mathlib.Core.List.{List}
 use lib.ListN.{length, take}
 use lib.Seq.{length-take-le}
+use borrow.Author.Needs.{needs}
 use Rattle.walk.specs.Ready.{Graph}
 use Rattle.graph.specs.Edges.{Built}
 use Rattle.stamping.proofs.Walking.{graph-fits, stamps-as, columns-of}
-use borrow.Author.Needs.{needs}
 use Rattle.stamping.proofs.stamp_edges.Statement.{statement}
 use Rattle.stamping.proofs.stamp_edges.Tie as tie
-use Rattle.stamping.proofs.stamp_edges.Reads as reads
-use Rattle.stamping.proofs.stamp_edges.Lts as lts
-use Rattle.graph.proofs.build.Reads as build-reads
-use Rattle.graph.proofs.mark_roots.Reads as mark-roots-reads
-use Rattle.stamping.proofs.stamp_order.Reads as stamp-order-reads
 
--- <pre>
 -- once the graph is built
 module _ (b : tie.After-build) where
   abbrev O : List ℕ
@@ -36,62 +31,47 @@ module _ (b : tie.After-build) where
 
   fits : Graph O (take (length (b .before .before .before .before .before .before .before .before .before .before .before .before .before .before .args .from .now)) T) size
   fits = graph-fits (b .before .before .before .before .before .before .before .before .before .before .before .before .before .before .pre .0) O T long built
--- </pre>
 
--- src/lib.rt:123:5
 build-requires : tie.Need-build-requires
 build-requires c κs = search needs
 
--- src/lib.rt:124:5
 mark-roots-requires : tie.Need-mark-roots-requires
 mark-roots-requires c κs = λ i lt. omega (arith, c .before .before .before .before .before .before .before .before .before .before .before .before .before .before .before .before .before .before .before .pre .0 .heads i lt, c .before .before .before .before .before .before .before .before .before .before .before .before .before .before .before .before .before .before .before .pre .0 .flags)
 
--- src/lib.rt:125:46
 slice-reshare-prefix-stamp-order : tie.Need-slice-reshare-prefix-stamp-order
 slice-reshare-prefix-stamp-order c = search needs
 
--- src/lib.rt:125:46
 slice-aggregate-stamp-order : tie.Need-slice-aggregate-stamp-order
 slice-aggregate-stamp-order c = sym (length-take-le (length (c .before .before .before .before .before .before .before .before .before .before .before .before .before .before .before .before .before .before .before .before .before .before .before .before .before .before .args .from .now)) (T (c .before .before .before .before .before .before .before .before .before .before .before .before)) (built (c .before .before .before .before .before .before .before .before .before .before .before .before) .room))
 
--- src/lib.rt:125:5
 stamp-order-requires : tie.Need-stamp-order-requires
 stamp-order-requires c κs = let W = c .before .before .before .before .before .before .before .before .before .before .before .before .before .before .before .before .before .before .before .before .before .before .before .before .before .before .before .before .before .before .pre .0 in let C = c .before .before .before .before .before .before .before .before .before .before .before .before .before .before .before .before .before .before .before .before .before .before .before .before .before .before .before .before .before .before .pre .1 in
     (fits (c .before .before .before .before .before .before .before .before .before .before .before .before .before .before .before .before), ((C .fins, (C .pars, C .tops)), ((c .before .before .before .before .before .before .before .before .before .before .mark-roots .kept .1 .0 ∙ W .flags, W .picks), W .below)))
 
--- src/lib.rt:102:1
 same-length : tie.Need-same-length
 same-length c = search needs
 
--- src/lib.rt:102:1
 same-length-2 : tie.Need-same-length-2
 same-length-2 c = search needs
 
--- src/lib.rt:102:1
 same-length-3 : tie.Need-same-length-3
 same-length-3 c = search needs
 
--- src/lib.rt:102:1
 same-length-4 : tie.Need-same-length-4
 same-length-4 c = search needs
 
--- src/lib.rt:102:1
 same-length-5 : tie.Need-same-length-5
 same-length-5 c = search needs
 
--- src/lib.rt:102:1
 same-length-6 : tie.Need-same-length-6
 same-length-6 c = search needs
 
--- src/lib.rt:102:1
 same-length-7 : tie.Need-same-length-7
 same-length-7 c = search needs
 
--- src/lib.rt:102:1
 same-length-8 : tie.Need-same-length-8
 same-length-8 c = search needs
 
--- src/lib.rt:102:1
 returns : tie.Need-returns
 returns c = let b = c .before .before .before .before .before .before .before .before .before .before .before .before .before .before .before .before .before .before .before .before .before .before .before .before .before .before .before in
     let a = c .before .before .before .before .before .before .before .before .before .before .before .before .before .before .before .before .before .before .before .before .before .before .before .before .before .before .before .before .before .before .before .before .before .before .before .before .before .before .before .before .before .args in

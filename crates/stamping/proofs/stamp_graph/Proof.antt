@@ -1,3 +1,4 @@
+-- `stamping::stamp_graph` meets its contract. Assumes nothing.
 use Prim.Native.Nat.{ℕ, _*_, _≤_}
 use native.Mathlib.Omega.{arith}
 use mathlib.Core.Path.{_≡_, refl, sym, subst, _∙_}
@@ -5,6 +6,7 @@ use mathlib.Core.Bool.{not}
 use mathlib.Core.List.{List}
 use lib.ListN.{length, take}
 use lib.Seq.{length-take-le}
+use borrow.Author.Needs.{needs}
 use Rattle.base.specs.Lists.{absent}
 use Rattle.walk.specs.Walk.{stampAll}
 use Rattle.walk.specs.Ready.{stamps}
@@ -16,16 +18,9 @@ use Rattle.tables.specs.Clauses.{slotsFrom}
 use Rattle.pairs.proofs.Listing.{listed-wider, few-edges, front-froms, front-tos}
 use Rattle.stamping.specs.Stamping.{Holding, Walkable, Finished}
 use Rattle.stamping.proofs.Graphing.{room, walkable, finished, cyclic-is}
-use borrow.Author.Needs.{needs}
 use Rattle.stamping.proofs.stamp_graph.Statement.{statement}
 use Rattle.stamping.proofs.stamp_graph.Tie as tie
-use Rattle.stamping.proofs.stamp_graph.Reads as reads
-use Rattle.stamping.proofs.stamp_graph.Lts as lts
-use Rattle.pairs.proofs.list_pairs.Reads as list-pairs-reads
-use Rattle.stamping.proofs.any_backward.Reads as any-backward-reads
-use Rattle.stamping.proofs.stamp_edges.Reads as stamp-edges-reads
 
--- <pre>
 -- once the edges are listed
 module _ (l : tie.After-list-pairs) where
   abbrev count : ℕ
@@ -88,103 +83,80 @@ module _ (e : tie.After-stamp-edges) where
       as-clauses (e .before .before .before .before .before .before .before .before .before .before .before .before .before .before .before) (λ f t. Holding (stampAll (outs f t) (λ q. absent q t) (a .order .now) (blank (2 * a .v) (a .fin .now) (a .par .now) (a .top .now))) disc′ fin′ par′ top′)
       (subst (λ (n : ℕ). Holding (stampAll (outs (take (count (e .before .before .before .before .before .before .before .before .before .before .before .before .before .before .before)) (from′ (e .before .before .before .before .before .before .before .before .before .before .before .before .before .before .before))) (take (count (e .before .before .before .before .before .before .before .before .before .before .before .before .before .before .before)) (to′ (e .before .before .before .before .before .before .before .before .before .before .before .before .before .before .before)))) (λ q. absent q (take (count (e .before .before .before .before .before .before .before .before .before .before .before .before .before .before .before)) (to′ (e .before .before .before .before .before .before .before .before .before .before .before .before .before .before .before)))) (a .order .now) (blank n (a .fin .now) (a .par .now) (a .top .now))) disc′ fin′ par′ top′)
       (e .before .before .before .before .before .before .before .before .before .before .before .before .before .before .before .before .before .before .before .before .before .before .before .before .before .before .before .before .before .before .pre .1 .1 .discs) (e .stamp-edges .ensures))
--- </pre>
 
--- src/lib.rt:156:9
 list-pairs-requires : tie.Need-list-pairs-requires
 list-pairs-requires c κs = (listed-wider (c .before .before .before .before .before .before .before .before .before .before .before .before .before .before .pre .0 .0 .listed), (c .before .before .before .before .before .before .before .before .before .before .before .before .before .before .pre .1 .0 .froms, c .before .before .before .before .before .before .before .before .before .before .before .before .before .before .pre .1 .0 .tos))
 
--- src/lib.rt:158:9
 slice-reshare-prefix-stamp-edges : tie.Need-slice-reshare-prefix-stamp-edges
 slice-reshare-prefix-stamp-edges c = from-long (c .before .before .before .before)
 
--- src/lib.rt:158:9
 slice-aggregate-stamp-edges : tie.Need-slice-aggregate-stamp-edges
 slice-aggregate-stamp-edges c = sym (length-take-le (count (c .before .before .before .before .before)) (from′ (c .before .before .before .before .before)) (from-long (c .before .before .before .before .before)))
 
--- src/lib.rt:159:9
 slice-reshare-prefix-stamp-edges-2 : tie.Need-slice-reshare-prefix-stamp-edges-2
 slice-reshare-prefix-stamp-edges-2 c = to-long (c .before .before .before .before .before)
 
--- src/lib.rt:159:9
 slice-aggregate-stamp-edges-2 : tie.Need-slice-aggregate-stamp-edges-2
 slice-aggregate-stamp-edges-2 c = sym (length-take-le (count (c .before .before .before .before .before .before)) (to′ (c .before .before .before .before .before .before)) (to-long (c .before .before .before .before .before .before)))
 
--- src/lib.rt:157:5
 stamp-edges-requires : tie.Need-stamp-edges-requires
 stamp-edges-requires c κs = let a = c .before .before .before .before .before .before .before .before .before .before .before .before .before .before .before .before .before .before .before .before .before .before .before .before .before .before .before .before .before .args in let C = c .before .before .before .before .before .before .before .before .before .before .before .before .before .before .before .before .before .before .before .before .before .before .before .before .before .before .before .before .before .pre .1 .1 in (
-      as-listed (c .before .before .before .before .before .before .before .before .before .before .before .before .before .before) (λ f t. Walkable (length (a .disc .now)) f t (a .order .now) (a .offsets .now) (a .targets .now) (a .root .now) (a .roots .now))
+  as-listed (c .before .before .before .before .before .before .before .before .before .before .before .before .before .before) (λ f t. Walkable (length (a .disc .now)) f t (a .order .now) (a .offsets .now) (a .targets .now) (a .root .now) (a .roots .now))
       (subst (λ (n : ℕ). Walkable n (froms (clauses (c .before .before .before .before .before .before .before .before .before .before .before .before .before .before))) (tos (clauses (c .before .before .before .before .before .before .before .before .before .before .before .before .before .before))) (a .order .now) (a .offsets .now) (a .targets .now) (a .root .now) (a .roots .now)) (sym (C .discs)) (walkable (c .before .before .before .before .before .before .before .before .before .before .before .before .before .before .before .before .before .before .before .before .before .before .before .before .before .before .before .before .before .pre .0 .0) (c .before .before .before .before .before .before .before .before .before .before .before .before .before .before .before .before .before .before .before .before .before .before .before .before .before .before .before .before .before .pre .0 .1) (c .before .before .before .before .before .before .before .before .before .before .before .before .before .before .before .before .before .before .before .before .before .before .before .before .before .before .before .before .before .pre .1 .0))),
-      record { discs = refl; fins = C .fins ∙ sym (C .discs); pars = C .pars ∙ sym (C .discs); tops = C .tops ∙ sym (C .discs) },
-    )
+  record { discs = refl; fins = C .fins ∙ sym (C .discs); pars = C .pars ∙ sym (C .discs); tops = C .tops ∙ sym (C .discs) },
+)
 
--- src/lib.rt:170:18
 slice-reshare-prefix-any-backward : tie.Need-slice-reshare-prefix-any-backward
 slice-reshare-prefix-any-backward c = from-long (c .before .before .before .before .before .before .before .before .before .before .before .before .before .before .before .before .before .before .before .before .before .before .before .before .before .before .before .before .before .before .before)
 
--- src/lib.rt:170:18
 slice-aggregate-any-backward : tie.Need-slice-aggregate-any-backward
 slice-aggregate-any-backward c = sym (length-take-le (count (c .before .before .before .before .before .before .before .before .before .before .before .before .before .before .before .before .before .before .before .before .before .before .before .before .before .before .before .before .before .before .before .before)) (from′ (c .before .before .before .before .before .before .before .before .before .before .before .before .before .before .before .before .before .before .before .before .before .before .before .before .before .before .before .before .before .before .before .before)) (from-long (c .before .before .before .before .before .before .before .before .before .before .before .before .before .before .before .before .before .before .before .before .before .before .before .before .before .before .before .before .before .before .before .before)))
 
--- src/lib.rt:170:30
 slice-reshare-prefix-any-backward-2 : tie.Need-slice-reshare-prefix-any-backward-2
 slice-reshare-prefix-any-backward-2 c = to-long (c .before .before .before .before .before .before .before .before .before .before .before .before .before .before .before .before .before .before .before .before .before .before .before .before .before .before .before .before .before .before .before .before)
 
--- src/lib.rt:170:30
 slice-aggregate-any-backward-2 : tie.Need-slice-aggregate-any-backward-2
 slice-aggregate-any-backward-2 c = sym (length-take-le (count (c .before .before .before .before .before .before .before .before .before .before .before .before .before .before .before .before .before .before .before .before .before .before .before .before .before .before .before .before .before .before .before .before .before)) (to′ (c .before .before .before .before .before .before .before .before .before .before .before .before .before .before .before .before .before .before .before .before .before .before .before .before .before .before .before .before .before .before .before .before .before)) (to-long (c .before .before .before .before .before .before .before .before .before .before .before .before .before .before .before .before .before .before .before .before .before .before .before .before .before .before .before .before .before .before .before .before .before)))
 
--- src/lib.rt:170:5
 any-backward-requires : tie.Need-any-backward-requires
 any-backward-requires c κs = as-listed (c .before .before .before .before .before .before .before .before .before .before .before .before .before .before .before .before .before .before .before .before .before .before .before .before .before .before .before .before .before .before .before .before .before .before) (λ f t. Finished f t (fin′ (c .before .before .before .before .before .before .before .before .before .before .before .before .before .before .before .before .before .before .before))) (finished (c .before .before .before .before .before .before .before .before .before .before .before .before .before .before .before .before .before .before .before .before .before .before .before .before .before .before .before .before .before .before .before .before .before .before .before .before .before .before .before .before .before .before .before .before .before .before .before .before .before .pre .0 .0) (c .before .before .before .before .before .before .before .before .before .before .before .before .before .before .before .before .before .before .before .before .before .before .before .before .before .before .before .before .before .before .before .before .before .before .before .before .before .before .before .before .before .before .before .before .before .before .before .before .before .pre .0 .1) (c .before .before .before .before .before .before .before .before .before .before .before .before .before .before .before .before .before .before .before .before .before .before .before .before .before .before .before .before .before .before .before .before .before .before .before .before .before .before .before .before .before .before .before .before .before .before .before .before .before .pre .1 .0) (fin′ (c .before .before .before .before .before .before .before .before .before .before .before .before .before .before .before .before .before .before .before)) (fin-long (c .before .before .before .before .before .before .before .before .before .before .before .before .before .before .before .before .before .before .before)))
 
--- src/lib.rt:131:1
 same-length : tie.Need-same-length
 same-length c = search needs
 
--- src/lib.rt:131:1
 same-length-2 : tie.Need-same-length-2
 same-length-2 c = search needs
 
--- src/lib.rt:131:1
 same-length-3 : tie.Need-same-length-3
 same-length-3 c = search needs
 
--- src/lib.rt:131:1
 same-length-4 : tie.Need-same-length-4
 same-length-4 c = search needs
 
--- src/lib.rt:131:1
 same-length-5 : tie.Need-same-length-5
 same-length-5 c = search needs
 
--- src/lib.rt:131:1
 same-length-6 : tie.Need-same-length-6
 same-length-6 c = search needs
 
--- src/lib.rt:131:1
 same-length-7 : tie.Need-same-length-7
 same-length-7 c = search needs
 
--- src/lib.rt:131:1
 same-length-8 : tie.Need-same-length-8
 same-length-8 c = search needs
 
--- src/lib.rt:131:1
 same-length-9 : tie.Need-same-length-9
 same-length-9 c = search needs
 
--- src/lib.rt:131:1
 same-length-10 : tie.Need-same-length-10
 same-length-10 c = search needs
 
--- src/lib.rt:131:1
 returns : tie.Need-returns
 returns c = let s = c .before .before .before .before .before .before .before .before .before .before .before .before .before .before .before .before .before .before .before .before .before .before .before .before .before .before .before .before .before .before .before .before .before .before .before .before .before .before .before .before .before .before .before .before .before .before .before .before .before .before in let e = c .before .before .before .before .before .before .before .before .before .before .before .before .before .before .before .before .before .before .before .before in (
-      cyclic-is (s .pre .0 .0) (s .pre .0 .1) (s .pre .1 .1) (held e) (disc-long e) (c .any-backward .result)
+  cyclic-is (s .pre .0 .0) (s .pre .0 .1) (s .pre .1 .1) (held e) (disc-long e) (c .any-backward .result)
       (λ t d p x. as-clauses (c .before .before .before .before .before .before .before .before .before .before .before .before .before .before .before .before .before .before .before .before .before .before .before .before .before .before .before .before .before .before .before .before .before .before .before) (λ f h. c .any-backward .result ≡ not (forward (stamps t d (fin′ e) p x) f h)) (c .any-backward .ensures t d p x)),
-      held e,
-    )
+  held e,
+)
 
 pub stamp-graph-spec : {M : Type 1} → statement M
 stamp-graph-spec =

@@ -1,27 +1,22 @@
-use Rattle.stamping.proofs.Walking.{stamped}
+-- `stamping::stamp_order` meets its contract. Assumes nothing.
+use Prim.Native.Nat.{ℕ, _-_, _<_}
+use native.Mathlib.Nat.{le-refl}
+use native.Mathlib.Omega.{arith}
+use mathlib.Core.List.{List, List·Memᴰ}
+use mathlib.Core.Bool.{Bool, false}
+use mathlib.Core.Path.{_≡_, sym, subst}
+use lib.Seq.{length-take-le}
+use lib.ListN.{length, getD, take}
+use borrow.Author.Needs.{needs}
 use Rattle.walk.proofs.Drive.{begun, starts-columns}
 use Rattle.base.proofs.Lists.{mem-filter}
 use Rattle.walk.proofs.Cycle.{mem-at}
 use Rattle.walk.proofs.Run.{mem-below}
 use Rattle.walk.specs.Ready.{Graph, Columns, stamps}
 use Rattle.walk.specs.Walk.{Stamps, fresh}
-use Rattle.base.specs.Lists.{filter}
-use lib.Seq.{length-take-le}
-use lib.ListN.{length, getD, take}
-use native.Mathlib.Nat.{le-refl}
-use native.Mathlib.Omega.{arith}
-use mathlib.Core.List.{List, List·Memᴰ}
-use mathlib.Core.Bool.{Bool, false}
-use mathlib.Core.Path.{_≡_, refl, sym, ap, subst, _∙_}
-use Prim.Native.Nat.{ℕ, _+_, _-_, _≤_, _<_}
-use borrow.Author.Needs.{needs}
+use Rattle.stamping.proofs.Walking.{stamped}
 use Rattle.stamping.proofs.stamp_order.Statement.{statement}
 use Rattle.stamping.proofs.stamp_order.Tie as tie
-use Rattle.stamping.proofs.stamp_order.Reads as reads
-use Rattle.stamping.proofs.stamp_order.Lts as lts
-use Rattle.walk.proofs.clear.Reads as clear-reads
-use Rattle.walk.proofs.start_each.Reads as start-each-reads
-use Rattle.graph.proofs.list_roots.Reads as list-roots-reads
 
 -- once the columns are blank
 module _ (c : tie.After-clear) where
@@ -57,23 +52,18 @@ module _ (c : tie.After-start-each) where
       let a = c .before .before .before .before .before .before .before .before .before .before .before .before .before .before .before .before .before .before .before .before .before .before .before .args in
       starts-columns (a .offsets .now) (a .targets .now) (front (c .before .before .before .before .before .before .before .before)) (size (c .before .before .before .before .before .before .before .before)) (fresh (D (c .before .before .before .before .before .before .before .before))) (stamps 0 (D (c .before .before .before .before .before .before .before .before)) (a .fin .now) (a .par .now) (a .top .now)) σ₁ (c .before .before .before .before .before .before .before .before .before .before .before .before .before .before .before .before .before .before .before .before .before .before .before .pre .0) (front-in (c .before .before .before .before .before .before .before .before)) (blank (c .before .before .before .before .before .before .before .before) .1) (c .start-each .ensures (fresh (D (c .before .before .before .before .before .before .before .before))) (le-refl _))
 
--- src/lib.rt:30:9
 list-roots-requires : tie.Need-list-roots-requires
 list-roots-requires c κs = (c .before .before .before .before .before .before .before .before .before .before .pre .1 .1 .0 .1, λ i lt. omega (arith, c .before .before .before .before .before .before .before .before .before .before .pre .1 .1 .1 i lt, c .before .before .before .before .before .before .before .before .before .before .pre .1 .1 .0 .0))
 
--- src/lib.rt:31:5
 clear-requires : tie.Need-clear-requires
 clear-requires c κs = search needs
 
--- src/lib.rt:32:29
 slice-reshare-prefix-start-each : tie.Need-slice-reshare-prefix-start-each
 slice-reshare-prefix-start-each c = search needs
 
--- src/lib.rt:32:29
 slice-aggregate-start-each : tie.Need-slice-aggregate-start-each
 slice-aggregate-start-each c = sym (length-take-le (c .before .before .before .before .before .before .before .list-roots .result) (c .before .before .before .before .before .before .before .list-roots .last .1 .1 .0) (omega (arith, c .before .before .before .before .before .before .before .list-roots .ensures .0, c .before .before .before .before .before .before .before .list-roots .kept .1 .1 .0, c .before .before .before .before .before .before .before .before .before .before .before .before .before .before .before .before .before .before .pre .1 .1 .0 .1)))
 
--- src/lib.rt:32:9
 start-each-requires : tie.Need-start-each-requires
 start-each-requires c κs =
     let k = c .before .before .before .before .before .before .before in
@@ -85,7 +75,6 @@ start-each-requires c κs =
       ),
     )
 
--- src/lib.rt:33:5
 start-each-requires-2 : tie.Need-start-each-requires-2
 start-each-requires-2 c κs =
     let w = c .before .before .before .before .before .before .before .before .before .before .before .before in
@@ -98,27 +87,21 @@ start-each-requires-2 c κs =
       ),
     )
 
--- src/lib.rt:10:1
 same-length : tie.Need-same-length
 same-length c = search needs
 
--- src/lib.rt:10:1
 same-length-2 : tie.Need-same-length-2
 same-length-2 c = search needs
 
--- src/lib.rt:10:1
 same-length-3 : tie.Need-same-length-3
 same-length-3 c = search needs
 
--- src/lib.rt:10:1
 same-length-4 : tie.Need-same-length-4
 same-length-4 c = search needs
 
--- src/lib.rt:10:1
 same-length-5 : tie.Need-same-length-5
 same-length-5 c = search needs
 
--- src/lib.rt:10:1
 returns : tie.Need-returns
 returns c =
     let w = c .before .before .before .before .before .before .before .before .before .before .before .before .before .before .before .before .before .before .before .before .before in

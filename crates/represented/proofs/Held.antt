@@ -1,0 +1,144 @@
+-- The invariant of a list of calls after a load of the clauses f: what stands is reached by moves from f, the tables hold it and keep the shape rule, and fresh stamps are those of the last Stamp.
+-- Propagate and Merge keep it. Assumes nothing.
+use Prim.Native.Nat.{ℕ, zero, suc, _+_, _-_, _*_, _≤_, _<_, min}
+use native.Mathlib.Omega.{arith}
+use mathlib.Core.Path.{_≡_, refl, sym, ap, subst, subst₂, _∙_}
+use mathlib.Core.Bool.{Bool, true, false}
+use mathlib.Core.Logic.{_⊎_, inl, inr, ⊎-elim}
+use mathlib.Core.List.{List}
+use lib.Dec.{ltb}
+use Rattle.walk.specs.Walk.{Stamps}
+use Rattle.stamps.specs.Columns.{columns}
+use Rattle.hidden.proofs.Agree.{Agree}
+use Rattle.state.specs.declared.State.{State}
+use Rattle.state.specs.declared.Pass.{Pass}
+use Rattle.state.specs.declared.Pass.the-variants.{Idle, Propagate, Merge, Sweep}
+use Rattle.state.specs.declared.Answer.the-variants.{Open, Done}
+use Rattle.state.specs.declared.Refusal.the-variants.{Unsettled}
+use Rattle.tables.specs.Tables.{Tables}
+use Rattle.tables.specs.Clauses.{gone}
+use Rattle.tables.specs.Fates.{visits}
+use Rattle.tables.specs.Passes.{advance, firstUnsettled}
+use Rattle.tables.specs.Calls.{After, answered, refuse, marked, state}
+use Rattle.shape.specs.Shape.{Shape}
+use Rattle.shape.specs.Entry.{entryOf, passNumber}
+use Rattle.shape.specs.declared.Entry.{Entry}
+use Rattle.shape.specs.declared.Entry.the-variants.{No, Opens, Resumes}
+use Rattle.shape.proofs.Entering.{resumes-entered}
+use Rattle.propagate.specs.Propagate.{Progress, going, settled, contradicted, begin, resumed, propagateVisits, propagateFrom, replied, propagateBy, propagateCall}
+use Rattle.propagate.proofs.Shaped.{propagate-shaped}
+use Rattle.merge.specs.Merge.{edgesOf, clashes, mergedClasses, mergeClause, mergeFrom, mergeOpen, mergeSettled, mergeCursor, mergeBy, mergeCall}
+use Rattle.merge.proofs.Shaped.{merge-shaped}
+use Rattle.sound.specs.Formula.{Clause}
+use Rattle.demand.specs.Core.{Core, load}
+use Rattle.demand.specs.Moves.{Freshness, spent, fresh, Move, spend, Moves, stay, go}
+use Rattle.represented.specs.Represented.{Represented}
+use Rattle.represented.proofs.Propagation.{moves-join}
+use Rattle.represented.proofs.Called.{Reached, propagate-reached, merge-reached}
+
+-- the clauses that Sweep has visited while stamps are fresh; no other pass is open then
+abbrev pub At : Pass → ℕ → Type 0
+At Idle c = c ≡ 0
+At (Propagate i changed) c = ⊥
+At (Merge i) c = ⊥
+At (Sweep i) c = c ≡ i
+
+-- the stamps are spent, or those of a Stamp
+pub data StampsOf (t : Tables) (st : State) : Freshness → Type 0 where
+  stale : {w : Freshness} → st .fresh ≡ false → StampsOf t st w
+  from : (σ : Stamps) (c : ℕ) → Agree (2 * st .v) (columns (t .times) (t .links)) σ → At (st .pass) c → StampsOf t st (fresh σ c)
+
+pub record Held (f : List Clause) (t : Tables) (st : State) : Type 0 where
+  pub core : Core
+  pub stamped : Freshness
+  pub moves : Moves (st .v) (load f) spent core stamped
+  pub shape : Shape t st
+  pub tied : Represented (st .v) (st .n) (st .mark) t core
+  pub stamps : StampsOf t st stamped
+
+-- a call that leaves V and N, and no fresh stamps
+pub record Spends (st : State) (a : After) : Type 0 where
+  pub v : a .state .v ≡ st .v
+  pub n : a .state .n ≡ st .n
+  pub fresh : a .state .fresh ≡ false
+
+pub held-spent : {f : List Clause} {t : Tables} {st : State} (H : Held f t st) (a : After) → Spends st a → Shape (a .tables) (a .state) → Reached st (H .core) a → Held f (a .tables) (a .state)
+held-spent {f} H a E S R = record {
+  core = R .to;
+  stamped = spent;
+  moves = subst (λ (x : ℕ). Moves x (load f) spent (R .to) spent) (sym (E .v)) (moves-join (go (H .moves) spend) (R .moves));
+  shape = S;
+  tied = subst₂ (λ (x y : ℕ). Represented x y (a .state .mark) (a .tables) (R .to)) (sym (E .v)) (sym (E .n)) (R .tied);
+  stamps = stale (E .fresh);
+}
+
+-- an open Propagate or Merge has no fresh stamps
+at-resumed : (p : Pass) (c : ℕ) → At p c → (passNumber p ≡ 0) ⊎ (passNumber p ≡ 3)
+at-resumed Idle c a = inl refl
+at-resumed (Sweep i) c a = inr refl
+
+pub resumed-stale : {t : Tables} {st : State} {w : Freshness} (own : ℕ) → 0 < own → own < 3 → passNumber (st .pass) ≡ own → StampsOf t st w → st .fresh ≡ false
+resumed-stale own above below e (stale h) = h
+resumed-stale {st = st} own above below e (from σ c A at) = absurd (⊎-elim (λ z. omega (arith, z, e, above)) (λ z. omega (arith, z, e, below)) (at-resumed (st .pass) c at))
+
+-- ---- Propagate
+
+replied-spends : (st : State) (b : Bool) → b ≡ false → (m : ℕ) (before : List ℕ) (q : Progress) → Spends st (replied b before st m q)
+replied-spends st b e m before (going i changed t) = record { v = refl; n = refl; fresh = e }
+replied-spends st b e m before (settled t) = record { v = refl; n = refl; fresh = e }
+replied-spends st b e m before (contradicted t) = record { v = refl; n = refl; fresh = refl }
+
+propagate-spends : (st : State) (b : Bool) → b ≡ false → (steps : ℕ) (p : Progress) (t : Tables) → Spends st (propagateFrom b steps p t st)
+unfolding propagateFrom
+propagate-spends st b e steps p t = replied-spends st b e (propagateVisits (st .n) steps 0 p .visits) (t .clauses) (propagateVisits (st .n) steps 0 p .progress)
+
+pub propagate-held : {f : List Clause} (steps : ℕ) (t : Tables) (st : State) → Held f t st → Held f (propagateCall steps t st .tables) (propagateCall steps t st .state)
+unfolding propagateCall
+propagate-held {f} steps t st H = by (entryOf 1 t st) refl (propagate-shaped steps t st (H .shape)) (propagate-reached steps t st (H .core) (H .tied))
+  where
+    by : (e : Entry) → entryOf 1 t st ≡ e → Shape (propagateBy e steps t st .tables) (propagateBy e steps t st .state) → Reached st (H .core) (propagateBy e steps t st) → Held f (propagateBy e steps t st .tables) (propagateBy e steps t st .state)
+    by (No r) q S R = H
+    by Opens q S R = held-spent H (propagateFrom false steps (begin (st .n) t) t st) (propagate-spends st false refl steps (begin (st .n) t) t) S R
+    by Resumes q S R =
+        held-spent H (propagateFrom (st .fresh) steps (resumed (st .pass) t) t st)
+        (propagate-spends st (st .fresh) (resumed-stale 1 (omega arith) (omega arith) (resumes-entered 1 t st q .pass) (H .stamps)) steps (resumed (st .pass) t) t) S R
+
+-- ---- Merge
+
+merge-spends : (st : State) (b : Bool) → b ≡ false → (steps c : ℕ) (t : Tables) → Spends st (mergeFrom b steps c t st)
+unfolding advance
+merge-spends st b e steps c t = go (ltb (c + min steps (st .n - c)) (st .n))
+  where
+    go : (x : Bool) → Spends st (elim x as (λ y. After) [
+      | true ↦ answered (Open (gone (min steps (st .n - c)) (st .n) (t .clauses) (visits (mergeClause (t .variables)) (min steps (st .n - c)) c t .clauses))) (state (st .v) (st .n) (Merge (c + min steps (st .n - c))) b false) (visits (mergeClause (t .variables)) (min steps (st .n - c)) c t)
+      | false ↦ answered (Done (gone (min steps (st .n - c)) (st .n) (t .clauses) (visits (mergeClause (t .variables)) (min steps (st .n - c)) c t .clauses))) (state (st .v) (st .n) Idle b false) (visits (mergeClause (t .variables)) (min steps (st .n - c)) c t)
+    ])
+    go true = record { v = refl; n = refl; fresh = e }
+    go false = record { v = refl; n = refl; fresh = e }
+
+open-spends : (st : State) (steps : ℕ) (t : Tables) → Spends st (mergeOpen steps t st)
+unfolding mergeOpen
+open-spends st steps t = go (clashes (edgesOf t (st .n)) (st .v))
+  where
+    go : (b : Bool) → Spends st (elim b as (λ x. After) [
+      | true ↦ answered (Done (gone 0 (st .n) (t .clauses) (t .clauses))) (marked st) t
+      | false ↦ mergeFrom false steps 0 (mergedClasses (st .v) (st .n) t) st
+    ])
+    go true = record { v = refl; n = refl; fresh = refl }
+    go false = merge-spends st false refl steps 0 (mergedClasses (st .v) (st .n) t)
+
+pub merge-held : {f : List Clause} (steps : ℕ) (t : Tables) (st : State) → Held f t st → Held f (mergeCall steps t st .tables) (mergeCall steps t st .state)
+unfolding mergeCall mergeSettled
+merge-held {f} steps t st H = by (entryOf 2 t st) refl (merge-shaped steps t st (H .shape)) (merge-reached steps t st (H .core) (H .tied))
+  where
+    opens : (b : Bool) → Shape (elim b as (λ x. After) [ true ↦ refuse (Unsettled (firstUnsettled t (st .n) + 1)) st t | false ↦ mergeOpen steps t st ] .tables) (elim b as (λ x. After) [ true ↦ refuse (Unsettled (firstUnsettled t (st .n) + 1)) st t | false ↦ mergeOpen steps t st ] .state)
+        → Reached st (H .core) (elim b as (λ x. After) [ true ↦ refuse (Unsettled (firstUnsettled t (st .n) + 1)) st t | false ↦ mergeOpen steps t st ])
+        → Held f (elim b as (λ x. After) [ true ↦ refuse (Unsettled (firstUnsettled t (st .n) + 1)) st t | false ↦ mergeOpen steps t st ] .tables) (elim b as (λ x. After) [ true ↦ refuse (Unsettled (firstUnsettled t (st .n) + 1)) st t | false ↦ mergeOpen steps t st ] .state)
+    opens true S R = H
+    opens false S R = held-spent H (mergeOpen steps t st) (open-spends st steps t) S R
+    by : (e : Entry) → entryOf 2 t st ≡ e → Shape (mergeBy e steps t st .tables) (mergeBy e steps t st .state) → Reached st (H .core) (mergeBy e steps t st) → Held f (mergeBy e steps t st .tables) (mergeBy e steps t st .state)
+    by (No r) q S R = H
+    by Opens q S R = opens (ltb (firstUnsettled t (st .n)) (st .n)) S R
+    by Resumes q S R =
+        held-spent H (mergeFrom (st .fresh) steps (mergeCursor (st .pass)) t st)
+        (merge-spends st (st .fresh) (resumed-stale 2 (omega arith) (omega arith) (resumes-entered 2 t st q .pass) (H .stamps)) steps (mergeCursor (st .pass)) t) S R

@@ -1,0 +1,100 @@
+-- `stamp::stamp_acyclic` meets its contract. Assumes nothing.
+use Prim.Native.Nat.{_*_}
+use native.Mathlib.Omega.{arith}
+use mathlib.Core.Path.{sym}
+use borrow.Author.Needs.{needs}
+use Rattle.tables.specs.Tables.{tables}
+use Rattle.components.proofs.Chain.{front-zeros}
+use Rattle.stamp.proofs.Asking.{acyclic-refused, acyclic-stamped}
+use Rattle.stamp.proofs.Writing.{own-blank}
+use Rattle.stamp.proofs.stamp_acyclic.Statement.{statement}
+use Rattle.stamp.proofs.stamp_acyclic.Tie as tie
+
+cast-v : tie.Need-cast-v
+cast-v c = search needs
+
+cast-n : tie.Need-cast-n
+cast-n c = search needs
+
+mul-size : tie.Need-mul-size
+mul-size c = search needs
+
+array-borrow-prefix-slots : tie.Need-array-borrow-prefix-slots
+array-borrow-prefix-slots c = search needs
+
+slice-aggregate-write-stamps : tie.Need-slice-aggregate-write-stamps
+slice-aggregate-write-stamps c = sym (front-zeros (2 * c .before .before .before .before .before .args .st .v) 2048 (omega (arith, c .before .before .before .before .before .pre .0 .0 .listed .few)))
+
+array-borrow-prefix-disc : tie.Need-array-borrow-prefix-disc
+array-borrow-prefix-disc c = search needs
+
+slice-aggregate-write-stamps-2 : tie.Need-slice-aggregate-write-stamps-2
+slice-aggregate-write-stamps-2 c = sym (front-zeros (2 * c .before .before .before .before .before .before .args .st .v) 2048 (omega (arith, c .before .before .before .before .before .before .pre .0 .0 .listed .few)))
+
+array-borrow-prefix-fin : tie.Need-array-borrow-prefix-fin
+array-borrow-prefix-fin c = search needs
+
+slice-aggregate-write-stamps-3 : tie.Need-slice-aggregate-write-stamps-3
+slice-aggregate-write-stamps-3 c = sym (front-zeros (2 * c .before .before .before .before .before .before .before .args .st .v) 2048 (omega (arith, c .before .before .before .before .before .before .before .pre .0 .0 .listed .few)))
+
+array-borrow-prefix-par : tie.Need-array-borrow-prefix-par
+array-borrow-prefix-par c = search needs
+
+slice-aggregate-write-stamps-4 : tie.Need-slice-aggregate-write-stamps-4
+slice-aggregate-write-stamps-4 c = sym (front-zeros (2 * c .before .before .before .before .before .before .before .before .args .st .v) 2048 (omega (arith, c .before .before .before .before .before .before .before .before .pre .0 .0 .listed .few)))
+
+array-borrow-prefix-top : tie.Need-array-borrow-prefix-top
+array-borrow-prefix-top c = search needs
+
+slice-aggregate-write-stamps-5 : tie.Need-slice-aggregate-write-stamps-5
+slice-aggregate-write-stamps-5 c = sym (front-zeros (2 * c .before .before .before .before .before .before .before .before .before .args .st .v) 2048 (omega (arith, c .before .before .before .before .before .before .before .before .before .pre .0 .0 .listed .few)))
+
+write-stamps-requires : tie.Need-write-stamps-requires
+write-stamps-requires c κs = let s = c .before .before .before .before .before .before .before .before .before .before .before in (s .pre .0, (own-blank (s .args .st .v) (s .pre .0 .0 .listed .few), s .pre .1))
+
+same-length : tie.Need-same-length
+same-length c = search needs
+
+same-length-2 : tie.Need-same-length-2
+same-length-2 c = search needs
+
+returns : tie.Need-returns
+returns c = λ variables. let a = c .before .before .before .before .before .before .before .before .before .before .before .before .before .before .before .before .before .before .before .before .before .args in let w = c .before .before .before .before .before .before .before .before .before .write-stamps in
+    acyclic-refused (a .order .now) (tables (a .clauses .now) (a .literals .now) variables (a .times .now) (a .links .now)) (a .st)
+    (tables (a .clauses .now) (a .literals .now) variables (w .last .1 .1 .1 .1 .1 .1 .1 .1 .1 .1 .0) (w .last .1 .1 .1 .1 .1 .1 .1 .1 .1 .1 .1 .0)) (w .result) (w .ensures .0) (c .if1 .taken) (w .ensures .1 variables)
+
+same-length-3 : tie.Need-same-length-3
+same-length-3 c = search needs
+
+same-length-4 : tie.Need-same-length-4
+same-length-4 c = search needs
+
+returns-2 : tie.Need-returns-2
+returns-2 c = λ variables. let a = c .before .before .before .before .before .before .before .before .before .before .before .before .before .before .before .before .before .before .before .before .before .args in let w = c .before .before .before .before .before .before .before .before .before .write-stamps in
+    acyclic-stamped (a .order .now) (tables (a .clauses .now) (a .literals .now) variables (a .times .now) (a .links .now)) (a .st)
+    (tables (a .clauses .now) (a .literals .now) variables (w .last .1 .1 .1 .1 .1 .1 .1 .1 .1 .1 .0) (w .last .1 .1 .1 .1 .1 .1 .1 .1 .1 .1 .1 .0)) (w .result) (w .ensures .0) (c .if1 .left) (w .ensures .1 variables)
+
+pub stamp-acyclic-spec : {M : Type 1} → statement M
+stamp-acyclic-spec =
+    tie.close
+    (tie.spec
+    cast-v
+    cast-n
+    mul-size
+    array-borrow-prefix-slots
+    slice-aggregate-write-stamps
+    array-borrow-prefix-disc
+    slice-aggregate-write-stamps-2
+    array-borrow-prefix-fin
+    slice-aggregate-write-stamps-3
+    array-borrow-prefix-par
+    slice-aggregate-write-stamps-4
+    array-borrow-prefix-top
+    slice-aggregate-write-stamps-5
+    write-stamps-requires
+    same-length
+    same-length-2
+    returns
+    same-length-3
+    same-length-4
+    returns-2)

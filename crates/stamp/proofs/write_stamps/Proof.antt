@@ -1,0 +1,133 @@
+-- `stamp::write_stamps` meets its contract. Assumes nothing.
+use Prim.Native.Nat.{ℕ, _*_}
+use native.Mathlib.Omega.{arith}
+use mathlib.Core.Path.{_≡_, refl, sym, subst, _∙_}
+use mathlib.Core.List.{List, map}
+use lib.ListN.{length}
+use borrow.Author.Needs.{needs}
+use Rattle.literal.specs.Literals.{slotOf}
+use Rattle.tables.specs.Clauses.{slotsFrom}
+use Rattle.stamping.specs.Stamping.{Holding, Ordered}
+use Rattle.stamp.specs.Stamp.{stampsOf}
+use Rattle.stamp.proofs.Writing.{full-ordered, full-literals, blank-columned, blank-walk, entries-below, records-are}
+use Rattle.stamp.proofs.write_stamps.Statement.{statement}
+use Rattle.stamp.proofs.write_stamps.Tie as tie
+
+-- once the slots are listed
+module _ (l : tie.After-list-slots) where
+  abbrev slots′ : List ℕ
+  slots′ = l .list-slots .last .1 .0
+
+  ordered : Ordered (2 * l .before .before .before .before .before .before .before .before .before .args .v) slots′
+  ordered = subst (Ordered (2 * l .before .before .before .before .before .before .before .before .before .args .v)) (sym (l .list-slots .ensures)) (full-ordered (l .before .before .before .before .before .before .before .before .before .pre .0 .1))
+
+-- once they are stamped
+module _ (w : tie.After-stamp-columns) where
+  abbrev disc′ : List ℕ
+  disc′ = w .stamp-columns .last .1 .1 .1 .1 .1 .0
+
+  abbrev fin′ : List ℕ
+  fin′ = w .stamp-columns .last .1 .1 .1 .1 .1 .1 .0
+
+  abbrev par′ : List ℕ
+  par′ = w .stamp-columns .last .1 .1 .1 .1 .1 .1 .1 .0
+
+  abbrev top′ : List ℕ
+  top′ = w .stamp-columns .last .1 .1 .1 .1 .1 .1 .1 .1 .0
+
+  disc-long : length disc′ ≡ 2 * w .before .before .before .before .before .before .before .before .before .before .before .before .before .before .before .before .before .args .v
+  disc-long = w .stamp-columns .kept .1 .1 .1 .1 .1 .0 ∙ blank-columned (w .before .before .before .before .before .before .before .before .before .before .before .before .before .before .before .before .before .pre .1 .0) .discs
+
+  fin-long : length fin′ ≡ 2 * w .before .before .before .before .before .before .before .before .before .before .before .before .before .before .before .before .before .args .v
+  fin-long = w .stamp-columns .kept .1 .1 .1 .1 .1 .1 .0 ∙ blank-columned (w .before .before .before .before .before .before .before .before .before .before .before .before .before .before .before .before .before .pre .1 .0) .fins
+
+  par-long : length par′ ≡ 2 * w .before .before .before .before .before .before .before .before .before .before .before .before .before .before .before .before .before .args .v
+  par-long = w .stamp-columns .kept .1 .1 .1 .1 .1 .1 .1 .0 ∙ blank-columned (w .before .before .before .before .before .before .before .before .before .before .before .before .before .before .before .before .before .pre .1 .0) .pars
+
+  top-long : length top′ ≡ 2 * w .before .before .before .before .before .before .before .before .before .before .before .before .before .before .before .before .before .args .v
+  top-long = w .stamp-columns .kept .1 .1 .1 .1 .1 .1 .1 .1 .0 ∙ blank-columned (w .before .before .before .before .before .before .before .before .before .before .before .before .before .before .before .before .before .pre .1 .0) .tops
+
+  held : Holding (stampsOf (slotsFrom (w .before .before .before .before .before .before .before .before .before .before .before .before .before .before .before .before .before .args .clauses .now) (w .before .before .before .before .before .before .before .before .before .before .before .before .before .before .before .before .before .args .literals .now) (w .before .before .before .before .before .before .before .before .before .before .before .before .before .before .before .before .before .args .n) 0) (2 * w .before .before .before .before .before .before .before .before .before .before .before .before .before .before .before .before .before .args .v) (map slotOf (w .before .before .before .before .before .before .before .before .before .before .before .before .before .before .before .before .before .args .order .now))) disc′ fin′ par′ top′
+  held = blank-walk (w .before .before .before .before .before .before .before .before .before .before .before .before .before .before .before .before .before .pre .0 .0) (w .before .before .before .before .before .before .before .before .before .before .before .before .before .before .before .before .before .pre .0 .1) (w .before .before .before .before .before .before .before .before .before .before .before .before .before .before .before .before .before .pre .1 .0) (slots′ (w .before .before .before .before .before .before .before .before)) disc′ fin′ par′ top′ (w .before .before .before .before .before .before .before .before .list-slots .ensures) (w .stamp-columns .ensures .1)
+
+list-slots-requires : tie.Need-list-slots-requires
+list-slots-requires c κs = (full-literals (c .before .before .before .before .before .before .before .before .pre .0 .1) (c .before .before .before .before .before .before .before .before .pre .0 .0 .listed .few), c .before .before .before .before .before .before .before .before .pre .1 .0 .lists ∙ sym (c .before .before .before .before .before .before .before .before .pre .0 .1 .many))
+
+stamp-columns-requires : tie.Need-stamp-columns-requires
+stamp-columns-requires c κs = ((c .before .before .before .before .before .before .before .before .before .before .before .before .before .before .before .before .pre .0 .0, ordered (c .before .before .before .before .before .before .before)), blank-columned (c .before .before .before .before .before .before .before .before .before .before .before .before .before .before .before .before .pre .1 .0))
+
+same-length : tie.Need-same-length
+same-length c = search needs
+
+same-length-2 : tie.Need-same-length-2
+same-length-2 c = search needs
+
+same-length-3 : tie.Need-same-length-3
+same-length-3 c = search needs
+
+same-length-4 : tie.Need-same-length-4
+same-length-4 c = search needs
+
+same-length-5 : tie.Need-same-length-5
+same-length-5 c = search needs
+
+returns : tie.Need-returns
+returns c = (sym (c .if1 .taken) ∙ c .before .before .before .before .before .before .before .before .before .stamp-columns .ensures .0, λ variables. refl)
+
+copy-times-requires : tie.Need-copy-times-requires
+copy-times-requires c κs = (fin-long (c .before .before .before .before .before .before .before .before .before .before .before .before) ∙ sym (disc-long (c .before .before .before .before .before .before .before .before .before .before .before .before)), omega (arith, disc-long (c .before .before .before .before .before .before .before .before .before .before .before .before), c .before .before .before .before .before .before .before .before .before .before .before .before .before .before .before .before .before .before .before .before .before .before .before .before .before .before .before .before .before .pre .1 .1 .first))
+
+copy-links-requires : tie.Need-copy-links-requires
+copy-links-requires c κs = let s = c .before .before .before .before .before .before .before .before .before .before .before .before .before .before .before .before .before .before .before .before .before .before .before .before .before .before .before .before .before .before .before .before .before .before .before in let w = c .before .before .before .before .before .before .before .before .before .before .before .before .before .before .before .before .before .before in
+    ((top-long w ∙ sym (par-long w), omega (arith, par-long w, s .pre .1 .1 .second)), λ q lt. entries-below (s .pre .0 .0) (s .pre .0 .1) (s .pre .1 .0) (held w) (disc-long w) q (omega (arith, lt, par-long w)))
+
+same-length-6 : tie.Need-same-length-6
+same-length-6 c = search needs
+
+same-length-7 : tie.Need-same-length-7
+same-length-7 c = search needs
+
+same-length-8 : tie.Need-same-length-8
+same-length-8 c = search needs
+
+same-length-9 : tie.Need-same-length-9
+same-length-9 c = search needs
+
+same-length-10 : tie.Need-same-length-10
+same-length-10 c = search needs
+
+same-length-11 : tie.Need-same-length-11
+same-length-11 c = search needs
+
+same-length-12 : tie.Need-same-length-12
+same-length-12 c = search needs
+
+returns-2 : tie.Need-returns-2
+returns-2 c = let s = c .before .before .before .before .before .before .before .before .before .before .before .before .before .before .before .before .before .before .before .before .before .before .before .before .before .before .before .before .before .before .before .before .before .before .before .before .before in let w = c .before .before .before .before .before .before .before .before .before .before .before .before .before .before .before .before .before .before .before .before in (
+  sym (c .before .before .before .before .before .before .before .before .before .before .before .if1 .left) ∙ w .stamp-columns .ensures .0,
+  λ variables. records-are (s .pre .0 .0) (s .pre .0 .1) (s .pre .1 .0) (held w) (disc-long w) (par-long w) variables (s .args .times .now) (c .before .before .before .before .before .before .before .copy-times .last .1 .1 .0) (s .args .links .now) (c .before .copy-links .last .1 .1 .0)
+      (c .before .before .before .before .before .before .before .copy-times .ensures) (c .before .copy-links .ensures),
+)
+
+pub write-stamps-spec : {M : Type 1} → statement M
+write-stamps-spec =
+    tie.close
+    (tie.spec
+    list-slots-requires
+    stamp-columns-requires
+    same-length
+    same-length-2
+    same-length-3
+    same-length-4
+    same-length-5
+    returns
+    copy-times-requires
+    copy-links-requires
+    same-length-6
+    same-length-7
+    same-length-8
+    same-length-9
+    same-length-10
+    same-length-11
+    same-length-12
+    returns-2)
