@@ -2,19 +2,18 @@
 --     inner-filter    of slots by rising discovery, those that hold no other
 --     outer-filter    and those that no other holds
 -- Assumes nothing.
-use Prim.Native.Nat.{ℕ, zero, suc, _≤_, _<_}
+use Prim.Native.Nat.{ℕ, _≤_, _<_}
 use native.Mathlib.Omega.{arith}
-use mathlib.Core.Path.{_≡_, refl, sym, ap, subst, _∙_}
+use mathlib.Core.Path.{_≡_, refl, sym, ap, _∙_}
 use mathlib.Core.Bool.{Bool, true, false, not, _&&_, _||_}
-use mathlib.Core.Logic.{_⊎_, inl, inr, ⊎-elim}
 use mathlib.Core.List.{List, [], _∷_, List·Memᴰ, List·Memᴰ·head, List·Memᴰ·tail}
 use lib.Dec.{ltb, eqb}
-use borrow.Author.Tests.{ltb-true, ltb-false, lt-ltb, le-ltb, eq-eqb, not-true}
+use borrow.Author.Tests.{ltb-true, ltb-false, lt-ltb, le-ltb, eq-eqb}
 use Rattle.base.specs.Lists.{any, filter}
 use Rattle.base.proofs.Lists.{any-here, any-next}
 use Rattle.literal.proofs.Signed.{and-left, and-right}
 use Rattle.walk.specs.Walk.{Stamps}
-use Rattle.walk.specs.Forest.{dis, fin, Holds}
+use Rattle.walk.specs.Forest.{dis, fin}
 use Rattle.hidden.specs.Hidden.{holds}
 use Rattle.hidden.proofs.Basics.{clash, same-truth, and-both, differ, differs, filter-same}
 use Rattle.hidden.proofs.Intervals.{Nested, holds-true, true-holds, inside}
@@ -89,15 +88,18 @@ module _ (size : ℕ) (σ : Stamps) (N : Nested size σ) where
     where
       lx : x < size
       lx = below x (List·Memᴰ·head refl)
+
       -- x holds one behind it
       first : holdsOne σ (x ∷ xs) x ≡ ltb (least σ xs) (fin σ x)
       first =
           any-next (λ m. not (eqb m x) && holds σ x m) x xs (self x (holds σ x x))
           ∙ any-same _ _ xs (λ m k. later x m lx (below m (List·Memᴰ·tail k)) (rise .0 m k))
           ∙ sym (least-any σ (fin σ x) (small x (List·Memᴰ·head refl)) xs)
+
       -- none behind it holds x
       rest : filter (λ y. not (holdsOne σ xs y)) xs ≡ filter (λ y. not (holdsOne σ (x ∷ xs) y)) xs
       rest = filter-same _ _ xs (λ y k. ap not (sym (any-next (λ m. not (eqb m y) && holds σ y m) x xs (earlier x y lx (below y (List·Memᴰ·tail k)) (rise .0 y k) (not (eqb x y)) (λ h. differ x y h)))))
+
       go : inner σ xs ≡ filter (λ y. not (holdsOne σ xs y)) xs → (b : Bool) → ltb (least σ xs) (fin σ x) ≡ b → (c : Bool) → c ≡ ltb (least σ xs) (fin σ x)
           → _≡_ {A = List ℕ} (elim b [ true ↦ inner σ xs | false ↦ x ∷ inner σ xs ]) (elim (not c) [ true ↦ x ∷ filter (λ y. not (holdsOne σ (x ∷ xs) y)) xs | false ↦ filter (λ y. not (holdsOne σ (x ∷ xs) y)) xs ])
       go r true e true k = r ∙ rest
@@ -116,17 +118,22 @@ module _ (size : ℕ) (σ : Stamps) (N : Nested size σ) where
     where
       lx : x < size
       lx = below x (List·Memᴰ·head refl)
+
       -- x is held by none behind it
       none : heldByOne σ (x ∷ xs) x ≡ false
       none = any-next (λ m. not (eqb m x) && holds σ m x) x xs (self x (holds σ x x)) ∙ any-same _ (λ m. false) xs (λ m k. earlier x m lx (below m (List·Memᴰ·tail k)) (rise .0 m k) (not (eqb m x)) (λ h e. differ m x h (sym e))) ∙ no-any xs
+
       or-no : (a : Bool) → (a || false) ≡ a
       or-no true = refl
       or-no false = refl
+
       first : (before x || heldByOne σ (x ∷ xs) x) ≡ ltb (fin σ x) d
       first = ap (λ (b : Bool). before x || b) none ∙ or-no (before x) ∙ same x (List·Memᴰ·head refl)
+
       -- x counts with those in front
       and-x : ℕ → Bool
       and-x y = before y || (not (eqb x y) && holds σ x y)
+
       moved : (y : ℕ) → (and-x y || heldByOne σ xs y) ≡ (before y || heldByOne σ (x ∷ xs) y)
       moved y = cases (before y) (not (eqb x y) && holds σ x y) refl
         where
@@ -134,10 +141,13 @@ module _ (size : ℕ) (σ : Stamps) (N : Nested size σ) where
           cases true b e = refl
           cases false true e = sym (any-here (λ m. not (eqb m y) && holds σ m y) x xs e)
           cases false false e = sym (any-next (λ m. not (eqb m y) && holds σ m y) x xs e)
+
       rest : filter (λ y. not (and-x y || heldByOne σ xs y)) xs ≡ filter (λ y. not (before y || heldByOne σ (x ∷ xs) y)) xs
       rest = filter-same _ _ xs (λ y k. ap not (moved y))
+
       ends : (y : ℕ) → List·Memᴰ y xs → and-x y ≡ (ltb (fin σ y) d || ltb (fin σ y) (fin σ x))
       ends y k = λ i. same y (List·Memᴰ·tail k) i || later′ x y lx (below y (List·Memᴰ·tail k)) (rise .0 y k) i
+
       goes : fin σ x < d → (y : ℕ) → (ltb (fin σ y) d || ltb (fin σ y) (fin σ x)) ≡ ltb (fin σ y) d
       goes lt y = by (ltb (fin σ y) d) refl (ltb (fin σ y) (fin σ x)) refl
         where
@@ -145,6 +155,7 @@ module _ (size : ℕ) (σ : Stamps) (N : Nested size σ) where
           by true p b q = refl
           by false p true q = absurd (omega (arith, lt, ltb-false (fin σ y) d p, ltb-true (fin σ y) (fin σ x) q))
           by false p false q = refl
+
       stays : d ≤ fin σ x → (y : ℕ) → (ltb (fin σ y) d || ltb (fin σ y) (fin σ x)) ≡ ltb (fin σ y) (fin σ x)
       stays le y = by (ltb (fin σ y) d) refl (ltb (fin σ y) (fin σ x)) refl
         where
@@ -152,6 +163,7 @@ module _ (size : ℕ) (σ : Stamps) (N : Nested size σ) where
           by true p true q = refl
           by true p false q = absurd (omega (arith, le, ltb-true (fin σ y) d p, ltb-false (fin σ y) (fin σ x) q))
           by false p b q = refl
+
       go : ((e : ℕ) (h : ℕ → Bool) → ((y : ℕ) → List·Memᴰ y xs → h y ≡ ltb (fin σ y) e) → outer σ e xs ≡ filter (λ y. not (h y || heldByOne σ xs y)) xs)
           → (b : Bool) → ltb (fin σ x) d ≡ b → (c : Bool) → c ≡ ltb (fin σ x) d
           → _≡_ {A = List ℕ} (elim b [ true ↦ outer σ d xs | false ↦ x ∷ outer σ (fin σ x) xs ])

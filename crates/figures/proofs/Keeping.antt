@@ -1,18 +1,18 @@
 -- The loops over slots and literals, step by step. Assumes nothing.
-use Prim.Native.Nat.{ℕ, zero, suc, _+_, _*_, _-_, _/_, _≤_, _<_}
+use Prim.Native.Nat.{ℕ, zero, suc, _+_, _*_, _-_, _≤_, _<_}
 use native.Mathlib.Numerals.{add-one}
 use native.Mathlib.Omega.{arith}
 use mathlib.Core.Path.{_≡_, refl, sym, ap, subst, _∙_}
-use mathlib.Core.Bool.{Bool, true, false}
-use mathlib.Core.Logic.{_⊎_, inl, inr, ⊎-elim}
-use mathlib.Core.List.{List, [], _∷_, _++_, append-nil, map, List·Memᴰ}
+use mathlib.Core.Bool.{true, false}
+use mathlib.Core.Logic.{⊎-elim}
+use mathlib.Core.List.{List, [], _∷_, _++_, append-nil, map}
 use lib.ListN.{length, take, drop, getD, set, length-set, drop-of-length-le}
-use lib.Seq.{drop-cons, set-split, take-suc-set, drop-set-lt, take-set-le, getD-set-other, append-snoc, length-take-le, drop-at, drop-length, getD-take, take-take, take-all}
+use lib.Seq.{drop-cons, set-split, take-suc-set, take-set-le, getD-set-other, append-snoc, length-take-le, drop-at, drop-length, getD-take, take-take, take-all}
 use lib.Dec.{ltb, eqb}
 use lib.IntN.{ℤ, pos, negℤ, natAbs}
 use borrow.Author.Tests.{eq-eqb, ne-eqb}
 use Rattle.base.specs.Decide.{same-or, le-or}
-use Rattle.base.specs.Lists.{any, filter}
+use Rattle.base.specs.Lists.{any}
 use Rattle.base.proofs.Lists.{filter-in, filter-out, any-here, any-next}
 use Rattle.literal.specs.Literals.{Literal, slotOf, Small}
 use Rattle.literal.proofs.Compact.{Compact, start, stay, gone}
@@ -20,7 +20,6 @@ use Rattle.literal.proofs.Signed.{abs-neg, small-neg}
 use Rattle.literal.proofs.Laws.{slot-below}
 use Rattle.walk.specs.Walk.{Stamps}
 use Rattle.walk.specs.Forest.{fin}
-use Rattle.walk.proofs.Cycle.{mem-at}
 use Rattle.stamps.specs.Columns.{columns}
 use Rattle.intervals.specs.Slots.{began, ended, Slots}
 use Rattle.intervals.proofs.Sorting.{slot-at}
@@ -120,6 +119,7 @@ module _ {times xs₀ xs : List ℕ} {finished n i : ℕ} (N : Narrowing times x
     where
       test : (links : List ℤ) → ltb (least (columns times links) (drop i xs₀)) (fin (columns times links) (getD xs (i - 1) 0)) ≡ false
       test links = shown-le (N .smallest links) e h
+
       placed : (y : ℕ) → drop (n - 1) (set xs (n - 1) y) ≡ y ∷ drop n xs
       placed y =
           ap (drop (n - 1)) (set-split xs (n - 1) y (omega (arith, N .room, N .within))) ∙ drop-at (take (n - 1) xs) (y ∷ drop (suc (n - 1)) xs) (n - 1) (length-take-le (n - 1) xs (omega (arith, N .room)))
@@ -241,7 +241,7 @@ module _ {xs : List ℕ} {s low high : ℕ} (H : Halving xs s low high) where
       behind = λ k h l e.
           ⊎-elim
           (λ (q : mid ≡ k). other (ap (λ (j : ℕ). getD xs j 0) q ∙ e))
-          (λ (d : mid ≡ k → ⊥). ⊎-elim (λ (t : began times (getD xs mid 0) ≡ began times s). other (S .alone mid (omega (arith, hi, H .within)) t) )
+          (λ (d : mid ≡ k → ⊥). ⊎-elim (λ (t : began times (getD xs mid 0) ≡ began times s). other (S .alone mid (omega (arith, hi, H .within)) t))
           (λ (t : began times (getD xs mid 0) ≡ began times s → ⊥). omega (arith, le, t, S .rises mid k (omega (arith, h, d)) l, ap (began times) e)) (same-or (began times (getD xs mid 0)) (began times s)))
           (same-or mid k);
     }

@@ -3,3 +3,4 @@ pub mod Keeping
 pub mod Hiding
 pub mod Shortening
 pub mod Shortened
+pub mod Judging

@@ -1,14 +1,14 @@
 -- What a clause with nested intervals gives the calls of figure 5. Assumes nothing.
-use Prim.Native.Nat.{ℕ, zero, suc, _+_, _*_, _-_, _≤_, _<_}
+use Prim.Native.Nat.{ℕ, zero, suc, _*_, _-_, _≤_, _<_}
 use native.Mathlib.Omega.{arith}
-use mathlib.Core.Path.{_≡_, refl, sym, ap, subst, _∙_}
+use mathlib.Core.Path.{_≡_, sym, ap, subst, _∙_}
 use mathlib.Core.Bool.{Bool, true, false, not}
-use mathlib.Core.Logic.{_⊎_, inl, inr, ⊎-elim}
-use mathlib.Core.List.{List, [], _∷_, _++_, map, List·Memᴰ, List·Memᴰ·head, List·Memᴰ·tail, List·Memᴰ·cases-cons, List·Memᴰ·not-nil, Memᴰ·of-map}
+use mathlib.Core.Logic.{inl, inr, ⊎-elim}
+use mathlib.Core.List.{List, [], _∷_, _++_, map, List·Memᴰ, List·Memᴰ·cases-cons, List·Memᴰ·not-nil, Memᴰ·of-map}
 use lib.ListN.{length, take, drop, getD, length-map, length-drop, replicate}
-use lib.Seq.{length-take-le, take-append-le}
+use lib.Seq.{take-append-le}
 use lib.Dec.{ltb}
-use lib.IntN.{ℤ, pos, negℤ, natAbs}
+use lib.IntN.{ℤ, pos, negℤ}
 use Rattle.base.specs.Decide.{same-or}
 use Rattle.base.specs.Lists.{filter}
 use Rattle.base.proofs.Lists.{mem-filter}
@@ -22,9 +22,9 @@ use Rattle.stamps.specs.Columns.{columns}
 use Rattle.hidden.specs.Hidden.{byDiscovery, shorten}
 use Rattle.hidden.proofs.Intervals.{Nested, Within}
 use Rattle.hidden.proofs.Sorted.{Rising, sorted-out, sorted-rising}
-use Rattle.intervals.specs.Slots.{began, Slots}
-use Rattle.intervals.proofs.Sorting.{length-sorted, sorted-slots}
-use Rattle.figures.specs.Stamped.{Searched, Lits, Sorted, Inside, Clause}
+use Rattle.intervals.specs.Slots.{Slots}
+use Rattle.intervals.proofs.Sorting.{length-sorted}
+use Rattle.figures.specs.Stamped.{Lits, Sorted, Inside, Clause}
 use Rattle.figures.specs.Figures.{least, inner, outer, keptBy}
 use Rattle.figures.proofs.Hiding.{heldByOne, outer-filter}
 use Rattle.figures.proofs.Shortening.{innerSlots, outerTwins, inner-mem, twins-below, kept-shortened}
@@ -123,9 +123,6 @@ module _ {times : List ℕ} {C : List ℤ} (K : Clause times C) where
 
   pub inner-length : length (innerSlots σ C) ≤ length C
   inner-length = omega (arith, inner-shorter σ (byDiscovery σ (map slotOf C)), length-sorted σ (map slotOf C), length-map C slotOf)
-
-  twins : List ℕ
-  twins = byDiscovery σ (map twin (innerSlots σ C))
 
   outer-is : outerTwins σ C ≡ filter (λ y. not (heldByOne σ (byDiscovery σ (map twin (innerSlots σ C))) y)) (byDiscovery σ (map twin (innerSlots σ C)))
   outer-is = outer-filter (2 * K .vars) σ (K .nested) (byDiscovery σ (map twin (innerSlots σ C))) (twins-below (2 * K .vars) σ (K .nested) C clause-within clause-small) (sorted-rising σ (map twin (innerSlots σ C)))

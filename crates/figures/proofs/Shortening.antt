@@ -1,24 +1,22 @@
 -- What the code of figure 5 keeps is the two filters. Assumes nothing.
-use Prim.Native.Nat.{ℕ, zero, suc, _*_, _≤_, _<_}
-use native.Mathlib.Omega.{arith}
+use Prim.Native.Nat.{ℕ, _≤_, _<_}
 use mathlib.Core.Path.{_≡_, refl, sym, ap, subst, _∙_}
-use mathlib.Core.Bool.{Bool, true, false, not, _&&_, _||_}
-use mathlib.Core.Logic.{_⊎_, inl, inr, ⊎-elim}
-use mathlib.Core.List.{List, [], _∷_, map, List·Memᴰ, List·Memᴰ·head, List·Memᴰ·tail, List·Memᴰ·cases-cons, Memᴰ·map, Memᴰ·of-map}
+use mathlib.Core.Bool.{Bool, true, false, not, _&&_}
+use mathlib.Core.List.{List, [], _∷_, map, List·Memᴰ, Memᴰ·map, Memᴰ·of-map}
 use lib.Dec.{eqb}
-use lib.IntN.{ℤ, negℤ, natAbs}
+use lib.IntN.{ℤ, natAbs}
 use borrow.Author.Tests.{eqb-true, eq-eqb}
 use Rattle.base.specs.Lists.{any, filter}
 use Rattle.base.proofs.Lists.{mem-filter}
 use Rattle.literal.specs.Literals.{slotOf, twin}
 use Rattle.literal.proofs.Laws.{slot-twin}
 use Rattle.walk.specs.Walk.{Stamps}
-use Rattle.walk.specs.Forest.{dis, fin}
+use Rattle.walk.specs.Forest.{fin}
 use Rattle.hidden.specs.Hidden.{holds, byDiscovery, unhidden, shorten}
-use Rattle.hidden.proofs.Basics.{clash, same-truth, filter-same, filter-map, any-in, any-out, sub-mem}
+use Rattle.hidden.proofs.Basics.{clash, same-truth, filter-same, filter-map, any-in, any-out}
 use Rattle.hidden.proofs.Intervals.{Nested, Within, twin-eq}
-use Rattle.hidden.proofs.Sorted.{Rising, sorted-in, sorted-out, sorted-rising}
-use Rattle.figures.specs.Figures.{least, inner, outer, among, keptBy}
+use Rattle.hidden.proofs.Sorted.{sorted-in, sorted-out, sorted-rising}
+use Rattle.figures.specs.Figures.{inner, outer, among, keptBy}
 use Rattle.figures.proofs.Hiding.{holdsOne, heldByOne, Below, any-same, inner-filter, outer-filter}
 
 -- ---- some element of a filtered, mapped or sorted list
@@ -56,9 +54,11 @@ among-test s p xs =
     left : (a b : Bool) → (a && b) ≡ true → a ≡ true
     left true b h = refl
     left false b h = h
+
     right : (a b : Bool) → (a && b) ≡ true → b ≡ true
     right true b h = h
     right false b h = clash h refl
+
     both : (m : ℕ) → List·Memᴰ m xs → (b : Bool) → p m ≡ b → (p m && eqb m s) ≡ true → (among s xs && p s) ≡ true
     both m k b e h = let q = right (p m) (eqb m s) h in λ i. any-in (λ y. eqb y s) xs k q i && (ap p (sym (eqb-true m s q)) ∙ left (p m) (eqb m s) h) i
 
@@ -91,9 +91,6 @@ abbrev pub outerTwins : Stamps → List ℤ → List ℕ
 outerTwins σ C = outer σ 0 (byDiscovery σ (map twin (innerSlots σ C)))
 
 module _ (size : ℕ) (σ : Stamps) (N : Nested size σ) (C : List ℤ) (w : Within size (map slotOf C)) (small : (q : ℕ) → q < size → fin σ q ≤ 4294967295) where
-  sorted : List ℕ
-  sorted = byDiscovery σ (map slotOf C)
-
   pub sorted-below : Below size (byDiscovery σ (map slotOf C))
   sorted-below x m = w x (sorted-out σ (map slotOf C) m) .0
 
@@ -141,6 +138,7 @@ module _ (size : ℕ) (σ : Stamps) (N : Nested size σ) (C : List ℤ) (w : Wit
           ∙ any-same _ _ (filter stays (map slotOf C)) (λ x m. twins-same x (slotOf l))
           ∙ among-filter (slotOf l) stays (map slotOf C)
           ∙ ap (λ (b : Bool). b && stays (slotOf l)) (among-in (slotOf l) (map slotOf C) k)
+
       two : heldByOne σ (byDiscovery σ (map twin (innerSlots σ C))) (twin (slotOf l)) ≡ any (λ m. not (eqb m (slotOf l)) && holds σ (twin m) (twin (slotOf l))) (map slotOf (unhidden slotOf (holds σ) C))
       two =
           any-twins (λ m. not (eqb m (twin (slotOf l))) && holds σ m (twin (slotOf l)))

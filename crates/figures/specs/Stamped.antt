@@ -62,3 +62,10 @@ pub record Clause (times : List ℕ) (C : List ℤ) : Type 0 where
   pub nested : Nested (2 * vars) (columns times [])
   pub small : (q : ℕ) → q < 2 * vars → ended times q ≤ 4096
   pub each : (k : ℕ) → k < length C → Literal vars (getD C k (pos 0))
+
+-- literals of a clause, all with fresh stamps
+pub record Judged (times : List ℕ) (links C : List ℤ) : Type 0 where
+  pub vars : ℕ
+  pub stamped : Stamped vars times links
+  pub long : 4096 ≤ length times
+  pub each : (k : ℕ) → k < length C → Literal vars (getD C k (pos 0))

@@ -6,8 +6,8 @@ ghost use lib.ListN.{length, getD, drop, take, replicate};
 ghost use lib.IntN.{ℤ, pos};
 ghost use Rattle.literal.specs.Literals.{slotOf, twin};
 ghost use Rattle.stamps.specs.Columns.{columns};
-ghost use Rattle.hidden.specs.Hidden.{byDiscovery, passes, scan, shorten};
-ghost use Rattle.figures.specs.Stamped.{Two, Both, Searched, Lits, Sorted, Inside, Clause};
+ghost use Rattle.hidden.specs.Hidden.{byDiscovery, passes, scan, hiddenTautology, shorten};
+ghost use Rattle.figures.specs.Stamped.{Two, Both, Searched, Lits, Sorted, Inside, Clause, Judged};
 ghost use Rattle.figures.specs.Figures.{inner, outer, among, keptBy};
 ghost use Rattle.intervals.specs.Slots.{Slots};
 
@@ -31,7 +31,7 @@ fn passes(times: &[u32], links: &[i32], two: bool, neg: u32, pos: u32) -> bool
 }
 
 // The scan, over the sorted literals and the sorted complements: it stops with its verdict.
-pub fn scan(times: &[u32], links: &[i32], two: bool, pos: &[u32], neg: &[u32]) -> bool
+fn scan(times: &[u32], links: &[i32], two: bool, pos: &[u32], neg: &[u32]) -> bool
     requires { ⌜ Both (now times) (now links) (now pos) (now neg) ⌝ }
     ensures { λ r. ⌜ r ≡ scan (columns (now (times .entry)) (now (links .entry))) two (now (pos .entry)) (now (neg .entry)) ⌝ }
 {
@@ -61,7 +61,7 @@ pub fn scan(times: &[u32], links: &[i32], two: bool, pos: &[u32], neg: &[u32]) -
 // ---- the slots of a clause
 
 // The slots of the literals of a part.
-pub fn slots_of(part: &[i32], out: &mut [u32])
+fn slots_of(part: &[i32], out: &mut [u32])
     requires { ⌜ Lits (now part) × (length (now out) ≡ length (now part)) ⌝ }
     ensures { λ _. ⌜ now (out .exit) ≡ map slotOf (now (part .entry)) ⌝ }
 {
@@ -74,7 +74,7 @@ pub fn slots_of(part: &[i32], out: &mut [u32])
 }
 
 // The slots of the complements.
-pub fn twins_of(slots: &[u32], out: &mut [u32])
+fn twins_of(slots: &[u32], out: &mut [u32])
     requires { ⌜ ((k : ℕ) → k < length (now slots) → getD (now slots) k 0 < 65536) × (length (now out) ≡ length (now slots)) ⌝ }
     ensures { λ _. ⌜ now (out .exit) ≡ map twin (now (slots .entry)) ⌝ }
 {
@@ -83,6 +83,24 @@ pub fn twins_of(slots: &[u32], out: &mut [u32])
         out[i] = literal::twin_of(slots[i]);
         i += 1;
     }
+}
+
+// Whether the clause is a hidden tautology; its slots are left sorted in `slots`. `slots` and `twins` are as long as the part.
+pub fn hidden_tautology(
+    part: &[i32],
+    times: &[u32],
+    links: &[i32],
+    slots: &mut [u32],
+    twins: &mut [u32],
+) -> bool
+    requires { ⌜ Judged (now times) (now links) (now part) × (length (now slots) ≡ length (now part)) × (length (now twins) ≡ length (now part)) ⌝ }
+    ensures { λ r. ⌜ (r ≡ hiddenTautology (columns (now (times .entry)) (now (links .entry))) (map slotOf (now (part .entry)))) × (now (slots .exit) ≡ byDiscovery (columns (now (times .entry)) []) (map slotOf (now (part .entry)))) ⌝ }
+{
+    slots_of(part, slots);
+    twins_of(slots, twins);
+    intervals::sort_slots(slots, times);
+    intervals::sort_slots(twins, times);
+    scan(times, links, part.len() == 2, slots, twins)
 }
 
 // ---- figure 5

@@ -10,3 +10,5 @@ pub mod Shaping
 pub mod Merging
 pub mod Called
 pub mod Held
+pub mod HeldStamp
+pub mod HeldSweep

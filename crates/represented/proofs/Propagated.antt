@@ -23,7 +23,7 @@ use Rattle.tables.specs.Values as values
 use Rattle.tables.specs.Clauses.{literalsOf}
 use Rattle.tables.specs.Fates.{Fate, store, fateAt, shortened, droppedAt} 
 use Rattle.tables.specs.Fates as fates
-use Rattle.clauses.specs.Formed.{Formed, Known}
+use Rattle.clauses.specs.Formed.{Formed, Variables, Known}
 use Rattle.clauses.proofs.Stores.{recorded, storedAt, stored-view, stored-other, recorded-other, recorded-here}
 use Rattle.clauses.proofs.Forming.{clause-fits, record-inside, recorded-same, part-inside, set-classes}
 use Rattle.clauses.proofs.Known.{abs-signed, class-ranged, known-class, class-own, known-place}
@@ -116,6 +116,27 @@ literalsAt t i = literalsOf (t .clauses) (t .literals) i
 pub mark-represented : {v n : ℕ} {t : Tables} {k : core.Core} → Represented v n false t k → Represented v n true t (core.marked k)
 mark-represented R = record { number = R .number; clauses = R .clauses; classes = R .classes; facts = R .facts; beyond = R .beyond; marks = refl }
 
+-- the value of a literal that is not false is set, at its class literal
+module _ {v n : ℕ} {t : Tables} {k : core.Core} (R : Represented v n false t k) (rows : Variables v (t .variables)) (x : ℤ) (X : Literal v x) (kept : values.isFalse (t .variables) x ≡ false) where
+  pub learn-represented : Represented v n false (tables (t .clauses) (t .literals) (values.setTrue (t .variables) x) (t .times) (t .links)) (core.learn (k .class (slotOf x)) k)
+  learn-represented = record {
+    number = R .number;
+    clauses = R .clauses;
+    classes = λ s h. R .classes s h ∙ ap (λ (y : ℤ). slotOf (signBy (nonNeg (litAt s)) y)) (sym (set-classes rows (natAbs c) (class-ranged K .above) (class-ranged K .within) (class-own K) (signBy (nonNeg c) (pos 1)) tri (natAbs (litAt s))));
+    facts = λ s h.
+        ap (λ (y : ℕ). eqb s y || k .facts s) (class-is R rows x X)
+        ∙ facts-set (t .variables) c (class-ranged K .above) (known-place (known-class K)) s (k .facts s) (sym (R .facts s h)) (complement-true (t .variables) c (class-ranged K .above) ∙ kept);
+    beyond = λ s h. (R .beyond s h .0, ap (λ (b : Bool). b || k .facts s) (ne-eqb s (k .class (slotOf x)) (λ q. omega (arith, q, class-is R rows x X, slot-below c v (class-ranged K .above) (class-ranged K .within), h))) ∙ R .beyond s h .1);
+    marks = R .marks;
+  }
+    where
+      K : Known (t .variables) x
+      K = record { count = v; rows = rows; ranged = X }
+      c : ℤ
+      c = values.classLiteral (t .variables) x
+      tri : natAbs (signBy (nonNeg c) (pos 1)) ≤ 1
+      tri = omega (arith, abs-signed (nonNeg c) (pos 1))
+
 -- what a simulated step leaves: moves from k to some k′ that the tables represent
 pub record Simulated (v n : ℕ) (mark : Bool) (t : Tables) (k : core.Core) : Type 0 where
   pub to : core.Core
@@ -169,44 +190,24 @@ module _ {v n : ℕ} {t : Tables} {k : core.Core} (F : Formed v n n false (t .cl
   simulate-unit x e = record {
     to = core.learn (k .class (slotOf x)) (core.put i dropped (core.put i (standing (slotOf x ∷ [])) k));
     moves = go (go stay (change (subst (λ (D : List ℤ). Change k (core.put i (standing (map slotOf D)) k)) e shorter))) (change (unit i (getD-set-same (k .clauses) i (standing (slotOf x ∷ [])) dropped (omega (arith, R .number, lt)))));
-    tied = record {
-      number = put-twice .number;
-      clauses = put-twice .clauses;
-      classes = λ s h. R .classes s h ∙ ap (λ (y : ℤ). slotOf (signBy (nonNeg (litAt s)) y)) (sym (set-classes (F .vars) (natAbs c) (class-ranged K .above) (class-ranged K .within) (class-own K) (signBy (nonNeg c) (pos 1)) tri (natAbs (litAt s))));
-      facts = λ s h.
-          ap (λ (y : ℕ). eqb s y || k .facts s) (class-is R (F .vars) x X)
-          ∙ facts-set (t .variables) c (class-ranged K .above) (known-place (known-class K)) s (k .facts s) (sym (R .facts s h)) unopposed;
-      beyond = λ s h. (R .beyond s h .0, ap (λ (b : Bool). b || k .facts s) (ne-eqb s (k .class (slotOf x)) (λ q. omega (arith, q, class-is R (F .vars) x X, slot-below c v (class-ranged K .above) (class-ranged K .within), h))) ∙ R .beyond s h .1);
-      marks = R .marks;
-    };
+    tied = learn-represented put-twice (F .vars) x X kept;
   }
     where
       member : List·Memᴰ x (notFalse (t .variables) (literalsAt t i))
       member = subst (List·Memᴰ x) (sym e) (List·Memᴰ·head refl)
       X : Literal v x
       X = member-lit F R i lt (mem-filter (λ l. not (values.isFalse (t .variables) l)) (literalsAt t i) member)
-      K : Known (t .variables) x
-      K = record { count = v; rows = F .vars; ranged = X }
-      c : ℤ
-      c = values.classLiteral (t .variables) x
-      tri : natAbs (signBy (nonNeg c) (pos 1)) ≤ 1
-      tri = omega (arith, abs-signed (nonNeg c) (pos 1))
       put-twice : Represented v n false (tables (recorded (t .clauses) i 0 0) (storedAt (t .clauses) (t .literals) i []) (t .variables) (t .times) (t .links)) (core.put i dropped (core.put i (standing (slotOf x ∷ [])) k))
       put-twice =
           subst (Represented v n false (tables (recorded (t .clauses) i 0 0) (storedAt (t .clauses) (t .literals) i []) (t .variables) (t .times) (t .links)))
           (ap (λ (l : List Clause). core.withClauses l k) (sym (set-set (k .clauses) i (standing (slotOf x ∷ [])) dropped))) (put-represented F R i lt [] 0 dropped (omega arith) refl)
-      -- its complement has no true value
-      unopposed : eqZ (values.ownTruth (t .variables) (negℤ c)) (pos 1) ≡ false
-      unopposed = not-false-here
+      -- it is not false
+      kept : values.isFalse (t .variables) x ≡ false
+      kept = flip (values.isFalse (t .variables) x) (filter-test (λ l. not (values.isFalse (t .variables) l)) (literalsAt t i) member)
         where
-          kept : values.isFalse (t .variables) x ≡ false
-          kept = flip (values.isFalse (t .variables) x) (filter-test (λ l. not (values.isFalse (t .variables) l)) (literalsAt t i) member)
-            where
-              flip : (b : Bool) → not b ≡ true → b ≡ false
-              flip true h = sym h
-              flip false h = refl
-          not-false-here : eqZ (values.ownTruth (t .variables) (negℤ c)) (pos 1) ≡ false
-          not-false-here = complement-true (t .variables) c (class-ranged K .above) ∙ kept
+          flip : (b : Bool) → not b ≡ true → b ≡ false
+          flip true h = sym h
+          flip false h = refl
 
   -- none is left: the clause stands empty, and the mark is set
   pub simulate-conflict : notFalse (t .variables) (literalsAt t i) ≡ [] → Simulated v n true (shortened i [] t) k

@@ -1,5 +1,4 @@
 -- The call is its definition: the ruling from the tests of the code, what a fit call knows, and the answer from the ruling. Assumes nothing.
--- ---- the ruling
 use Prim.Native.Nat.{ℕ, zero, suc, _+_, _*_, _≤_, _<_}
 use native.Mathlib.Omega.{arith}
 use mathlib.Core.Path.{_≡_, refl, sym, ap, subst, _∙_}
@@ -21,7 +20,7 @@ use Rattle.groups.specs.Groups.{cyclic}
 use Rattle.tables.specs.Tables.{Tables}
 use Rattle.tables.specs.Clauses.{slotsFrom}
 use Rattle.tables.specs.Passes.{firstUnsettled}
-use Rattle.tables.specs.Calls.{After, answered, refuse, state}
+use Rattle.tables.specs.Calls.{After, answered, after, refuse, state}
 use Rattle.shape.specs.Entry.{passNumber, unlessMarked, entryBy, entryOf}
 use Rattle.shape.specs.Decision.{shapeOk}
 use Rattle.shape.specs.Shape.{Shape, settledTo}
@@ -31,12 +30,14 @@ use Rattle.clauses.specs.Formed.{Formed}
 use Rattle.clauses.proofs.Forming.{shape-formed}
 use Rattle.stamping.specs.Stamping.{Proper}
 use Rattle.stamping.proofs.Graphing.{formed-proper}
-use Rattle.stamp.specs.Stamp.{firstBad, stampsOf, stampAcyclic, stampSettled, stampOrdered, stampBy, stampCall}
-use Rattle.stamp.specs.Asking.{askSettled, askOrdered, askBy, askOf, Full, Records, writtenTables}
+use Rattle.stamp.specs.Stamp.{firstBad, stampsOf, stampFresh, stampAcyclic, stampSettled, stampOrdered, stampBy, stampCall}
+use Rattle.stamp.specs.Asking.{askSettled, askOrdered, askBy, askOf, Full, Records, writtenTables, answerOf}
 use Rattle.stamp.specs.declared.Ruling.{Ruling}
 use Rattle.stamp.specs.declared.Ruling.the-variants.{No, Fit}
 use Rattle.stamp.proofs.Ordering.{good-full}
 use Rattle.shape.specs.declared.Entry.the-variants as entry
+
+-- ---- the ruling
 
 module _ (order : List ℤ) (t : Tables) (st : State) where
   pub ask-length : (length order ≡ 2 * st .v → ⊥) → No (Order 0) ≡ askOrdered order t st
@@ -174,17 +175,15 @@ module _ (order : List ℤ) (t : Tables) (st : State) where
   call-fit e = sym (call-by ∙ ap (λ (x : Ruling). act x order t st) e)
 
   -- the core's two answers
-  pub acyclic-refused : (u : Tables) (r : Bool) → r ≡ cyclic (implications (slotsFrom (t .clauses) (t .literals) (st .n) 0)) (2 * st .v) → r ≡ true
-      → u ≡ writtenTables r (st .v) (stampsOf (slotsFrom (t .clauses) (t .literals) (st .n) 0) (2 * st .v) (map slotOf order)) t → refuse Cyclic st u ≡ stampAcyclic order t st
+  pub acyclic-no : cyclic (implications (slotsFrom (t .clauses) (t .literals) (st .n) 0)) (2 * st .v) ≡ true → stampAcyclic order t st ≡ refuse Cyclic st t
   unfolding stampAcyclic
-  acyclic-refused u r is e w =
-      ap (refuse Cyclic st) (w ∙ ap (λ (b : Bool). writtenTables b (st .v) (stampsOf (slotsFrom (t .clauses) (t .literals) (st .n) 0) (2 * st .v) (map slotOf order)) t) e)
-      ∙ (rw (sym is ∙ e, stampAcyclic))
+  acyclic-no e = rw (e, stampAcyclic)
 
-  pub acyclic-stamped : (u : Tables) (r : Bool) → r ≡ cyclic (implications (slotsFrom (t .clauses) (t .literals) (st .n) 0)) (2 * st .v) → r ≡ false
-      → u ≡ writtenTables r (st .v) (stampsOf (slotsFrom (t .clauses) (t .literals) (st .n) 0) (2 * st .v) (map slotOf order)) t
-      → answered Stamped (state (st .v) (st .n) Idle true false) u ≡ stampAcyclic order t st
+  pub acyclic-yes : cyclic (implications (slotsFrom (t .clauses) (t .literals) (st .n) 0)) (2 * st .v) ≡ false → stampAcyclic order t st ≡ stampFresh order t st
   unfolding stampAcyclic
-  acyclic-stamped u r is e w =
-      ap (answered Stamped (state (st .v) (st .n) Idle true false)) (w ∙ ap (λ (b : Bool). writtenTables b (st .v) (stampsOf (slotsFrom (t .clauses) (t .literals) (st .n) 0) (2 * st .v) (map slotOf order)) t) e)
-      ∙ (rw (sym is ∙ e, stampAcyclic))
+  acyclic-yes e = rw (e, stampAcyclic)
+
+  pub acyclic-by : (u : Tables) (r : Bool) → r ≡ cyclic (implications (slotsFrom (t .clauses) (t .literals) (st .n) 0)) (2 * st .v)
+      → u ≡ writtenTables r (st .v) (stampsOf (slotsFrom (t .clauses) (t .literals) (st .n) 0) (2 * st .v) (map slotOf order)) t → after (answerOf r st) u ≡ stampAcyclic order t st
+  acyclic-by u true is w = ap (refuse Cyclic st) w ∙ sym (acyclic-no (sym is))
+  acyclic-by u false is w = ap (answered Stamped (state (st .v) (st .n) Idle true false)) w ∙ sym (acyclic-yes (sym is))

@@ -1,5 +1,4 @@
 -- The look for the first wrong entry of an order: a slot is seen exactly if its literal stands before. Assumes nothing.
--- ---- the first number that passes a test
 use Prim.Native.Nat.{ℕ, zero, suc, _+_, _*_, _-_, _≤_, _<_}
 use native.Mathlib.Numerals.{add-one}
 use native.Mathlib.Omega.{arith}
@@ -21,6 +20,8 @@ use Rattle.literal.proofs.Laws.{lit-slot, slot-below}
 use Rattle.literal.proofs.Signed.{eq-eqZ, ne-eqZ, InRange, in-range}
 use Rattle.stamp.specs.Stamp.{badEntry, firstBad}
 use Rattle.stamp.specs.Asking.{Full}
+
+-- ---- the first number that passes a test
 
 first-hit : (test : ℕ → Bool) (n k : ℕ) → 0 < n → test k ≡ true → first test n k ≡ k
 unfolding first
@@ -140,7 +141,7 @@ has-at [] j l lt e = absurd (omega arith)
 has-at (x ∷ xs) zero l lt e = ap (λ (b : Bool). b || has l xs) (eq-eqZ x l e)
 has-at (x ∷ xs) (suc j) l lt e = ap (λ (b : Bool). eqZ x l || b) (has-at xs j l (omega arith) e) ∙ or-true (eqZ x l)
 
-getD-any : (l : List ℕ) (i a b : ℕ) → i < length l → getD l i a ≡ getD l i b
+pub getD-any : {A : Type 0} (l : List A) (i : ℕ) (a b : A) → i < length l → getD l i a ≡ getD l i b
 getD-any [] i a b lt = absurd (omega arith)
 getD-any (x ∷ l) zero a b lt = refl
 getD-any (x ∷ l) (suc i) a b lt = getD-any l i a b (omega arith)

@@ -1,5 +1,4 @@
 -- What is written: the columns that the walk leaves have a slot in every link, and the records made of them are the definition's. Assumes nothing.
--- ---- the order
 use Prim.Native.Nat.{ℕ, zero, suc, _+_, _*_, _≤_, _<_}
 use native.Mathlib.Nat.{le-refl}
 use native.Mathlib.Omega.{arith}
@@ -25,6 +24,8 @@ use Rattle.stamping.specs.Stamping.{Holding, Columned, Proper, Ordered, Literal
 use Rattle.stamping.proofs.Graphing.{walk-stamped}
 use Rattle.stamp.specs.Stamp.{stampsOf, stampedTables}
 use Rattle.stamp.specs.Asking.{Full, Blank}
+
+-- ---- the order
 
 pub full-ordered : {v : ℕ} {order : List ℤ} → Full v order → Ordered (2 * v) (map slotOf order)
 full-ordered {v} {order} F = record {

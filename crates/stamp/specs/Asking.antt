@@ -9,9 +9,13 @@ use lib.IntN.{ℤ, pos}
 use Rattle.literal.specs.Literals.{Literal, slotOf}
 use Rattle.walk.specs.Walk.{Stamps}
 use Rattle.state.specs.declared.State.{State}
-use Rattle.state.specs.declared.Refusal.the-variants.{Unsettled, Order}
+use Rattle.state.specs.declared.Pass.the-variants.{Idle}
+use Rattle.state.specs.declared.Refusal.the-variants.{Unsettled, Cyclic, Order}
+use Rattle.state.specs.declared.Answer.the-variants.{Refused, Stamped}
+use Rattle.state.specs.declared.Outcome.{Outcome}
 use Rattle.tables.specs.Tables.{Tables}
 use Rattle.tables.specs.Passes.{firstUnsettled}
+use Rattle.tables.specs.Calls.{state}
 use Rattle.shape.specs.Entry.{entryOf}
 use Rattle.shape.specs.declared.Entry.{Entry}
 use Rattle.shape.specs.declared.Entry.the-variants as entry
@@ -61,3 +65,8 @@ pub record Blank (v : ℕ) (slots d f p s : List ℕ) : Type 0 where
 abbrev pub writtenTables : Bool → ℕ → Stamps → Tables → Tables
 writtenTables true v σ t = t
 writtenTables false v σ t = stampedTables v σ t
+
+-- the answer of the core, by whether the graph is cyclic
+abbrev pub answerOf : Bool → State → Outcome
+answerOf true st = record { answer = Refused Cyclic; state = st }
+answerOf false st = record { answer = Stamped; state = state (st .v) (st .n) Idle true false }

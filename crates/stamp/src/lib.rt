@@ -19,7 +19,7 @@ ghost use Rattle.tables.specs.Calls.{after};
 ghost use Rattle.clauses.specs.Formed.{Formed};
 ghost use Rattle.stamping.specs.Stamping.{Proper};
 ghost use Rattle.stamp.specs.Stamp.{firstBad, stampsOf, stampAcyclic, stampCall};
-ghost use Rattle.stamp.specs.Asking.{askOrdered, askOf, Full, Records, Blank, writtenTables};
+ghost use Rattle.stamp.specs.Asking.{askOrdered, askOf, Full, Records, Blank, writtenTables, answerOf};
 
 // Whether the call is refused before the graph is walked, or is fit.
 pub enum Ruling {
@@ -130,6 +130,29 @@ fn write_stamps(
     false
 }
 
+// Refusal 7, or the answer with fresh stamps.
+fn answer(st: State, cyclic: bool) -> Outcome
+    ensures { λ r. ⌜ r ≡ answerOf cyclic st ⌝ }
+{
+    if cyclic {
+        return Outcome {
+            answer: Answer::Refused(Refusal::Cyclic),
+            state: st,
+        };
+    }
+    let fresh = State {
+        v: st.v,
+        n: st.n,
+        pass: Pass::Idle,
+        fresh: true,
+        mark: false,
+    };
+    Outcome {
+        answer: Answer::Stamped,
+        state: fresh,
+    }
+}
+
 // The call past refusals 8 and 6, which Run uses: refusal 7, or the stamps. Nothing is written where the graph is cyclic.
 pub fn stamp_acyclic(
     clauses: &[u32],
@@ -152,7 +175,7 @@ pub fn stamp_acyclic(
     let mut fin = [0u32; 2048];
     let mut par = [0u32; 2048];
     let mut top = [0u32; 2048];
-    if write_stamps(
+    let cyclic = write_stamps(
         v,
         n,
         clauses,
@@ -165,22 +188,8 @@ pub fn stamp_acyclic(
         &mut top[..size],
         times,
         links,
-    ) {
-        return Outcome {
-            answer: Answer::Refused(Refusal::Cyclic),
-            state: st,
-        };
-    }
-    Outcome {
-        answer: Answer::Stamped,
-        state: State {
-            v: st.v,
-            n: st.n,
-            pass: Pass::Idle,
-            fresh: true,
-            mark: false,
-        },
-    }
+    );
+    answer(st, cyclic)
 }
 
 // The exported call.

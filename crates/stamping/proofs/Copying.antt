@@ -1,5 +1,4 @@
 -- The loops over columns: the slots of a list, the records of two columns, the test of each edge. What is left to store, from here, makes the whole. Assumes nothing.
--- ---- a list, element by element
 use Prim.Native.Nat.{ℕ, suc, _+_, _*_, _≤_, _<_}
 use native.Mathlib.Numerals.{add-one}
 use native.Mathlib.Omega.{arith}
@@ -19,6 +18,8 @@ use Rattle.literal.proofs.Signed.{back}
 use Rattle.walk.specs.Walk.{Stamps}
 use Rattle.walk.specs.Forest.{fin}
 use Rattle.cycles.specs.Forward.{forward}
+
+-- ---- a list, element by element
 
 module _ {A : Type 0} where
   step : (l : List A) (i : ℕ) (x : A) → i < length l → drop i l ≡ getD l i x ∷ drop (i + 1) l

@@ -1,5 +1,4 @@
 -- How the calls of `stamp_graph` fit: the tables' edges and the order are fit to be walked, and the test on the finishes says whether the graph is cyclic. Assumes nothing.
--- ---- tables that keep the shape rule
 use Prim.Native.Nat.{ℕ, suc, _+_, _*_, _/_, _≤_, _<_}
 use native.Mathlib.Omega.{arith}
 use mathlib.Core.Path.{_≡_, refl, sym, ap, subst, _∙_}
@@ -28,6 +27,8 @@ use Rattle.pairs.specs.Pairs.{Room}
 use Rattle.pairs.proofs.Listing.{formed-listed, mem-map, from-clauses, slots-in, froms-mem, fit-edges}
 use Rattle.components.proofs.Chain.{front-zeros}
 use Rattle.stamping.specs.Stamping.{Holding, Columned, Walkable, Finished, Proper, Ordered, Scratch}
+
+-- ---- tables that keep the shape rule
 
 slot-variable : (l : ℤ) → 0 < natAbs l → natAbs l ≡ slotOf l / 2 + 1
 slot-variable l above = ap natAbs (sym (lit-slot l above)) ∙ lit-var (slotOf l)

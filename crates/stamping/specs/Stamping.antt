@@ -6,9 +6,11 @@ use mathlib.Core.List.{List, List·Memᴰ}
 use lib.ListN.{length, getD}
 use lib.IntN.{ℤ, pos}
 use Rattle.literal.specs.Literals.{Literal}
-use Rattle.walk.specs.Walk.{Stamps}
+use Rattle.base.specs.Lists.{absent}
+use Rattle.walk.specs.Walk.{Stamps, stampAll}
 use Rattle.graph.specs.Edges.{Edges}
-use Rattle.graph.specs.Clauses.{Once}
+use Rattle.graph.specs.Clauses.{Once, tos, implications}
+use Rattle.groups.specs.Groups.{blank, cyclic}
 use Rattle.tables.specs.Clauses.{slotsFrom}
 use Rattle.pairs.specs.Pairs.{Listed}
 
@@ -65,3 +67,8 @@ pub record Scratch (v n : ℕ) (from to offsets targets : List ℕ) (root : List
 -- each entry is a literal of at most 1,024 variables
 pub record Literals (order : List ℤ) : Type 0 where
   pub each : (i : ℕ) → i < length order → Literal 1024 (getD order i (pos 0))
+
+-- what the walk of an order over the graph of n clauses leaves, and whether that graph is cyclic
+pub record Walked (v n : ℕ) (clauses : List ℕ) (literals : List ℤ) (order f p s : List ℕ) (cycle : Bool) (d′ f′ p′ s′ : List ℕ) : Type 0 where
+  pub cyclic-is : cycle ≡ cyclic (implications (slotsFrom clauses literals n 0)) (2 * v)
+  pub stamps-are : Holding (stampAll (implications (slotsFrom clauses literals n 0)) (λ q. absent q (tos (slotsFrom clauses literals n 0))) order (blank (2 * v) f p s)) d′ f′ p′ s′

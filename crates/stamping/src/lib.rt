@@ -10,10 +10,8 @@ ghost use Rattle.walk.specs.Walk.{stampAll};
 ghost use Rattle.walk.specs.Ready.{adjOf, stamps, Graph};
 ghost use Rattle.cycles.specs.Forward.{forward};
 ghost use Rattle.graph.specs.Edges.{outs};
-ghost use Rattle.graph.specs.Clauses.{tos, implications};
-ghost use Rattle.groups.specs.Groups.{blank, cyclic};
-ghost use Rattle.tables.specs.Clauses.{slotsFrom};
-ghost use Rattle.stamping.specs.Stamping.{Literals, Finished, Walkable, Columned, Holding, Proper, Ordered, Scratch};
+ghost use Rattle.groups.specs.Groups.{blank};
+ghost use Rattle.stamping.specs.Stamping.{Literals, Finished, Walkable, Columned, Holding, Proper, Ordered, Scratch, Walked};
 
 // The slots of a list of literals.
 pub fn list_slots(order: &[i32], slots: &mut [u32])
@@ -158,9 +156,7 @@ pub fn stamp_graph(
     requires { ⌜ Proper v n (now clauses) (now literals) × Ordered (2 * v) (now order) ⌝ }
     requires { ⌜ Scratch v n (now from) (now to) (now offsets) (now targets) (now root) (now roots) ⌝ }
     requires { ⌜ Columned (2 * v) (now disc) (now fin) (now par) (now top) ⌝ }
-    ensures { λ r. ⌜ (r ≡ cyclic (implications (slotsFrom (now (clauses .entry)) (now (literals .entry)) n 0)) (2 * v)) × Holding
-        (stampAll (implications (slotsFrom (now (clauses .entry)) (now (literals .entry)) n 0)) (λ q. absent q (tos (slotsFrom (now (clauses .entry)) (now (literals .entry)) n 0)))
-        (now (order .entry)) (blank (2 * v) (now (fin .entry)) (now (par .entry)) (now (top .entry))))
+    ensures { λ r. ⌜ Walked v n (now (clauses .entry)) (now (literals .entry)) (now (order .entry)) (now (fin .entry)) (now (par .entry)) (now (top .entry)) r
         (now (disc .exit)) (now (fin .exit)) (now (par .exit)) (now (top .exit)) ⌝ }
 {
     let k = pairs::list_pairs(n, clauses, literals, from, to);
@@ -194,9 +190,7 @@ pub fn stamp_columns(
 ) -> bool
     requires { ⌜ Proper v n (now clauses) (now literals) × Ordered (2 * v) (now order) ⌝ }
     requires { ⌜ Columned (2 * v) (now disc) (now fin) (now par) (now top) ⌝ }
-    ensures { λ r. ⌜ (r ≡ cyclic (implications (slotsFrom (now (clauses .entry)) (now (literals .entry)) n 0)) (2 * v)) × Holding
-        (stampAll (implications (slotsFrom (now (clauses .entry)) (now (literals .entry)) n 0)) (λ q. absent q (tos (slotsFrom (now (clauses .entry)) (now (literals .entry)) n 0)))
-        (now (order .entry)) (blank (2 * v) (now (fin .entry)) (now (par .entry)) (now (top .entry))))
+    ensures { λ r. ⌜ Walked v n (now (clauses .entry)) (now (literals .entry)) (now (order .entry)) (now (fin .entry)) (now (par .entry)) (now (top .entry)) r
         (now (disc .exit)) (now (fin .exit)) (now (par .exit)) (now (top .exit)) ⌝ }
 {
     let slots = 2 * v;

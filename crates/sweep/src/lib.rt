@@ -1,2 +1,249 @@
-// Sweep: definitions alone so far, in specs/.
-pub const SWEEP: u8 = 3;
+// Sweep: hidden tautologies are dropped and hidden literals removed, by fresh stamps, clause by clause, resumable.
+use shape::Entry;
+use state::Answer;
+use state::Counts;
+use state::Outcome;
+use state::Pass;
+use state::Refusal;
+use state::State;
+ghost use mathlib.Core.Path.{_≡_};
+ghost use mathlib.Core.Bool.{true};
+ghost use mathlib.Core.List.{List};
+ghost use Prim.Native.Nat.{ℕ, _+_, _*_, _≤_, _<_, min};
+ghost use lib.ListN.{length};
+ghost use lib.IntN.{ℤ};
+ghost use Rattle.stamps.specs.Columns.{columns};
+ghost use Rattle.tables.specs.Tables.{Tables, tables};
+ghost use Rattle.tables.specs.Calls.{after};
+ghost use Rattle.tables.specs.Fates.{visit, visits};
+ghost use Rattle.sweep.specs.Sweep.{sweepClause, sweepFrom, sweepCursor, unlessStale, sweepCall};
+ghost use Rattle.sweep.specs.Visits.{partOf, partAfter, recordAfter, Ready, Sweepable, standsBefore};
+ghost use Rattle.figures.specs.Stamped.{Judged};
+
+// What a visit makes of a clause: nothing changes; so many literals are left; it is dropped.
+pub enum Visited {
+    Kept,
+    Left(u32),
+    Dropped,
+}
+
+// A visit to the part of a standing clause. `slots` and `twins` are as long as the part, and only worked in.
+fn visit_part(
+    part: &mut [i32],
+    times: &[u32],
+    links: &[i32],
+    slots: &mut [u32],
+    twins: &mut [u32],
+) -> Visited
+    requires { ⌜ Judged (now times) (now links) (now part) × (length (now part) ≤ 16384) × (length (now slots) ≡ length (now part)) × (length (now twins) ≡ length (now part)) ⌝ }
+    ensures { λ r. ⌜ partOf r (now (part .exit)) ≡ partAfter (sweepClause (columns (now (times .entry)) (now (links .entry))) (now (part .entry))) (now (part .entry)) ⌝ }
+{
+    if part.len() < 2 {
+        return Visited::Kept;
+    }
+    if figures::hidden_tautology(part, times, links, slots, twins) {
+        literal::zero_from(part, 0);
+        return Visited::Dropped;
+    }
+    let n = figures::shorten_part(part, slots, twins, times);
+    Visited::Left(n as u32)
+}
+
+// The record of clause k after a visit.
+fn put_record(clauses: &mut [u32], k: usize, seen: Visited)
+    requires { ⌜ (3 * k + 2 < length (now clauses)) × (k ≤ 4096) ⌝ }
+    ensures { λ _. ⌜ now (clauses .exit) ≡ recordAfter k seen (now (clauses .entry)) ⌝ }
+{
+    match seen {
+        Visited::Kept => {}
+        Visited::Left(n) => {
+            clauses[3 * k + 1] = n;
+        }
+        Visited::Dropped => {
+            clauses[3 * k + 1] = 0;
+            clauses[3 * k + 2] = 0;
+        }
+    }
+}
+
+// A visit to clause k. Its part of the literal table is lent on.
+fn visit_clause(
+    clauses: &mut [u32],
+    literals: &mut [i32],
+    times: &[u32],
+    links: &[i32],
+    slots: &mut [u32],
+    twins: &mut [u32],
+    k: usize,
+)
+    requires { ⌜ Sweepable k 1 (now clauses) (now literals) (now times) (now links) × (16384 ≤ length (now slots)) × (16384 ≤ length (now twins)) ⌝ }
+    ensures { λ _. ⌜ ((variables : List ℤ) → tables (now (clauses .exit)) (now (literals .exit)) variables (now (times .entry)) (now (links .entry))
+        ≡ visit (sweepClause (columns (now (times .entry)) (now (links .entry)))) k (tables (now (clauses .entry)) (now (literals .entry)) variables (now (times .entry)) (now (links .entry)))) ⌝ }
+{
+    let flag = clauses[3 * k + 2];
+    if flag == 0 {
+        return;
+    }
+    let start = clauses[3 * k] as usize;
+    let len = clauses[3 * k + 1] as usize;
+    let end = start + len;
+    let seen = visit_part(
+        &mut literals[start..end],
+        times,
+        links,
+        &mut slots[..len],
+        &mut twins[..len],
+    );
+    put_record(clauses, k, seen);
+}
+
+// Visits to m clauses from clause k on.
+fn sweep_visits(
+    clauses: &mut [u32],
+    literals: &mut [i32],
+    times: &[u32],
+    links: &[i32],
+    slots: &mut [u32],
+    twins: &mut [u32],
+    k: usize,
+    m: usize,
+)
+    requires { ⌜ Sweepable k m (now clauses) (now literals) (now times) (now links) × (16384 ≤ length (now slots)) × (16384 ≤ length (now twins)) ⌝ }
+    ensures { λ _. ⌜ ((n : ℕ) → k + m ≤ n → Ready n (now (clauses .entry)) (now (literals .entry)) (now (times .entry)) (now (links .entry)) → Ready n (now (clauses .exit)) (now (literals .exit)) (now (times .entry)) (now (links .entry)))
+        × ((variables : List ℤ) → tables (now (clauses .exit)) (now (literals .exit)) variables (now (times .entry)) (now (links .entry))
+        ≡ visits (sweepClause (columns (now (times .entry)) (now (links .entry)))) m k (tables (now (clauses .entry)) (now (literals .entry)) variables (now (times .entry)) (now (links .entry)))) ⌝ }
+{
+    let mut i = 0;
+    while i < m {
+        visit_clause(clauses, literals, times, links, slots, twins, k + i);
+        i += 1;
+    }
+}
+
+// ---- the call
+
+fn fewer(a: u32, b: u32) -> u32
+    ensures { λ r. ⌜ r ≡ min a b ⌝ }
+{
+    if a < b { a } else { b }
+}
+
+// The answer of a call that stands before clause k: Open exactly if visits are left.
+fn answer_at(st: State, k: u32, counts: Counts) -> Outcome
+    ensures { λ r. ⌜ ((t : Tables) → after r t ≡ standsBefore k counts t st) ⌝ }
+{
+    if k < st.n {
+        return Outcome {
+            answer: Answer::Open(counts),
+            state: State {
+                v: st.v,
+                n: st.n,
+                pass: Pass::Sweep(k),
+                fresh: true,
+                mark: false,
+            },
+        };
+    }
+    Outcome {
+        answer: Answer::Done(counts),
+        state: State {
+            v: st.v,
+            n: st.n,
+            pass: Pass::Idle,
+            fresh: false,
+            mark: false,
+        },
+    }
+}
+
+// Sweep from clause `cursor` on: as many visits as `steps` says, or as are left. The two tables of slots serve every visit.
+pub fn sweep_from(
+    clauses: &mut [u32],
+    literals: &mut [i32],
+    times: &[u32],
+    links: &[i32],
+    st: State,
+    cursor: u32,
+    steps: u32,
+) -> Outcome
+    requires { ⌜ Ready (st .n) (now clauses) (now literals) (now times) (now links) × (cursor ≤ st .n) ⌝ }
+    ensures { λ r. ⌜ ((variables : List ℤ) → after r (tables (now (clauses .exit)) (now (literals .exit)) variables (now (times .entry)) (now (links .entry)))
+        ≡ sweepFrom steps cursor (tables (now (clauses .entry)) (now (literals .entry)) variables (now (times .entry)) (now (links .entry))) st) ⌝ }
+{
+    let mut slots = [0u32; 16384];
+    let mut twins = [0u32; 16384];
+    let n = st.n;
+    let before = clauses::count_standing(clauses, n as usize);
+    let m = fewer(steps, n - cursor);
+    sweep_visits(
+        clauses,
+        literals,
+        times,
+        links,
+        &mut slots,
+        &mut twins,
+        cursor as usize,
+        m as usize,
+    );
+    let left = clauses::count_standing(clauses, n as usize);
+    answer_at(st, cursor + m, clauses::counts_of(m, before, left))
+}
+
+// The clause that Sweep stands before, 0 where it is not open.
+fn cursor_of(st: State) -> u32
+    ensures { λ r. ⌜ r ≡ sweepCursor (st .pass) ⌝ }
+{
+    let p = st.pass;
+    match p {
+        Pass::Idle => 0,
+        Pass::Propagate(_, _) => 0,
+        Pass::Merge(_) => 0,
+        Pass::Sweep(k) => k,
+    }
+}
+
+// A call that no refusal above 9 stops, whether it opens the pass or resumes it.
+fn sweep_entered(
+    clauses: &mut [u32],
+    literals: &mut [i32],
+    times: &[u32],
+    links: &[i32],
+    st: State,
+    n: u32,
+) -> Outcome
+    requires { ⌜ (st .fresh ≡ true → Ready (st .n) (now clauses) (now literals) (now times) (now links)) × (sweepCursor (st .pass) ≤ st .n) ⌝ }
+    ensures { λ r. ⌜ ((variables : List ℤ) → after r (tables (now (clauses .exit)) (now (literals .exit)) variables (now (times .entry)) (now (links .entry)))
+        ≡ unlessStale (st .fresh) n (tables (now (clauses .entry)) (now (literals .entry)) variables (now (times .entry)) (now (links .entry))) st) ⌝ }
+{
+    if !st.fresh {
+        return Outcome {
+            answer: Answer::Refused(Refusal::Stale),
+            state: st,
+        };
+    }
+    sweep_from(clauses, literals, times, links, st, cursor_of(st), n)
+}
+
+// Sweep: n visits, or as many as the pass has left. The call that finds no pass open opens it.
+pub fn sweep(
+    clauses: &mut [u32],
+    literals: &mut [i32],
+    variables: &[i32],
+    times: &[u32],
+    links: &[i32],
+    st: State,
+    n: u16,
+) -> Outcome
+    ensures { λ r. ⌜ after r (tables (now (clauses .exit)) (now (literals .exit)) (now (variables .entry)) (now (times .entry)) (now (links .entry)))
+        ≡ sweepCall n (tables (now (clauses .entry)) (now (literals .entry)) (now (variables .entry)) (now (times .entry)) (now (links .entry))) st ⌝ }
+{
+    let e = shape::entry_of(clauses, literals, variables, times, links, st, 3);
+    match e {
+        Entry::No(r) => Outcome {
+            answer: Answer::Refused(r),
+            state: st,
+        },
+        Entry::Opens => sweep_entered(clauses, literals, times, links, st, n as u32),
+        Entry::Resumes => sweep_entered(clauses, literals, times, links, st, n as u32),
+    }
+}

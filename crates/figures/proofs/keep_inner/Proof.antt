@@ -1,8 +1,5 @@
+-- `figures::keep_inner` meets its contract. Assumes nothing.
 use Rattle.figures.proofs.Keeping.{Narrowing, narrowing-none, narrowing-time, narrowing-stays, narrowing-goes, narrowing-done}
-use lib.ListN.{length, getD, length-set}
-use mathlib.Core.Path.{_≡_, refl, sym, ap, _∙_}
-use native.Mathlib.Omega.{arith}
-use Prim.Native.Nat.{ℕ, _+_, _*_, _-_, _/_, _≤_, _<_}
 use borrow.Author.Needs.{needs}
 use Rattle.figures.proofs.keep_inner.Statement.{statement}
 use Rattle.figures.proofs.keep_inner.Tie as tie
@@ -16,59 +13,45 @@ Inv-loop slots₀ times finished₀ n₀ i₀ slots finished n i = Narrowing tim
 abbrev μ-loop : tie.MeasureT-loop
 μ-loop slots₀ times finished₀ n₀ i₀ slots finished n i = i
 
--- src/lib.rt:98:5
 loop-holds : tie.Need-loop-holds Inv-loop μ-loop
 loop-holds c = narrowing-none (c .before .before .args .times .now) (c .before .before .args .slots .now)
 
--- src/lib.rt:99:9
 sub-i : tie.Need-sub-i Inv-loop μ-loop
 sub-i c = search needs
 
--- src/lib.rt:100:17
 mul-x : tie.Need-mul-x Inv-loop μ-loop
 mul-x c = search needs
 
--- src/lib.rt:100:17
 slice-read-x : tie.Need-slice-read-x Inv-loop μ-loop
 slice-read-x c = search needs
 
--- src/lib.rt:101:13
 finish-requires : tie.Need-finish-requires Inv-loop μ-loop
 finish-requires c κs = narrowing-time (c .before .before .loop .inv) (c .before .loop-test .taken) (c .before .before .before .before .before .pre)
 
--- src/lib.rt:103:13
 sub-n : tie.Need-sub-n Inv-loop μ-loop
 sub-n c = search needs
 
--- src/lib.rt:104:13
 mul-slots : tie.Need-mul-slots Inv-loop μ-loop
 mul-slots c = search needs
 
--- src/lib.rt:104:13
 slice-write-slots : tie.Need-slice-write-slots Inv-loop μ-loop
 slice-write-slots c = search needs
 
--- src/lib.rt:98:5
 loop-less : tie.Need-loop-less Inv-loop μ-loop
 loop-less c = search needs
 
--- src/lib.rt:98:5
 loop-again : tie.Need-loop-again Inv-loop μ-loop
 loop-again c = narrowing-stays (c .before .before .before .before .loop .inv) (c .before .before .before .loop-test .taken) (c .before .finish .result) (c .before .finish .ensures) (c .if1 .taken)
 
--- src/lib.rt:98:5
 loop-less-2 : tie.Need-loop-less-2 Inv-loop μ-loop
 loop-less-2 c = search needs
 
--- src/lib.rt:98:5
 loop-again-2 : tie.Need-loop-again-2 Inv-loop μ-loop
 loop-again-2 c = narrowing-goes (c .before .before .before .before .loop .inv) (c .before .before .before .loop-test .taken) (c .before .finish .result) (c .before .finish .ensures) (c .if1 .left)
 
--- src/lib.rt:91:1
 same-length : tie.Need-same-length Inv-loop μ-loop
 same-length c = search needs
 
--- src/lib.rt:91:1
 returns : tie.Need-returns Inv-loop μ-loop
 returns c = narrowing-done (c .before .loop .inv) (c .loop-test .left)
 

@@ -1,8 +1,8 @@
+-- `figures::keep_outer` meets its contract. Assumes nothing.
 use Rattle.figures.proofs.Keeping.{Widening, widening-none, widening-time, widening-stays, widening-goes, widening-done}
-use lib.ListN.{length, getD, length-set}
-use mathlib.Core.Path.{_≡_, refl, sym, ap, _∙_}
+use lib.ListN.{length, length-set}
 use native.Mathlib.Omega.{arith}
-use Prim.Native.Nat.{ℕ, _+_, _*_, _-_, _/_, _≤_, _<_}
+use Prim.Native.Nat.{_-_}
 use borrow.Author.Needs.{needs}
 use Rattle.figures.proofs.keep_outer.Statement.{statement}
 use Rattle.figures.proofs.keep_outer.Tie as tie
@@ -16,59 +16,45 @@ Inv-loop slots₀ times finished₀ n₀ i₀ slots finished n i = Widening time
 abbrev μ-loop : tie.MeasureT-loop
 μ-loop slots₀ times finished₀ n₀ i₀ slots finished n i = length slots - i
 
--- src/lib.rt:119:5
 loop-holds : tie.Need-loop-holds Inv-loop μ-loop
 loop-holds c = widening-none (c .before .before .args .times .now) (c .before .before .args .slots .now)
 
--- src/lib.rt:120:17
 mul-x : tie.Need-mul-x Inv-loop μ-loop
 mul-x c = search needs
 
--- src/lib.rt:120:17
 slice-read-x : tie.Need-slice-read-x Inv-loop μ-loop
 slice-read-x c = search needs
 
--- src/lib.rt:121:13
 finish-requires : tie.Need-finish-requires Inv-loop μ-loop
 finish-requires c κs = widening-time (c .before .before .loop .inv) (c .before .loop-test .taken) (c .before .before .before .before .before .pre)
 
--- src/lib.rt:122:9
 add-i : tie.Need-add-i Inv-loop μ-loop
 add-i c = search needs
 
--- src/lib.rt:124:13
 mul-slots : tie.Need-mul-slots Inv-loop μ-loop
 mul-slots c = search needs
 
--- src/lib.rt:124:13
 slice-write-slots : tie.Need-slice-write-slots Inv-loop μ-loop
 slice-write-slots c = search needs
 
--- src/lib.rt:125:13
 add-n : tie.Need-add-n Inv-loop μ-loop
 add-n c = search needs
 
--- src/lib.rt:119:5
 loop-less : tie.Need-loop-less Inv-loop μ-loop
 loop-less c = simp length-set (omega arith)
 
--- src/lib.rt:119:5
 loop-again : tie.Need-loop-again Inv-loop μ-loop
 loop-again c = widening-stays (c .before .before .before .before .loop .inv) (c .before .before .before .loop-test .taken) (c .before .finish .result) (c .before .finish .ensures) (c .if1 .taken)
 
--- src/lib.rt:119:5
 loop-less-2 : tie.Need-loop-less-2 Inv-loop μ-loop
 loop-less-2 c = search needs
 
--- src/lib.rt:119:5
 loop-again-2 : tie.Need-loop-again-2 Inv-loop μ-loop
 loop-again-2 c = widening-goes (c .before .before .before .before .loop .inv) (c .before .before .before .loop-test .taken) (c .before .finish .result) (c .before .finish .ensures) (c .if1 .left)
 
--- src/lib.rt:112:1
 same-length : tie.Need-same-length Inv-loop μ-loop
 same-length c = search needs
 
--- src/lib.rt:112:1
 returns : tie.Need-returns Inv-loop μ-loop
 returns c = widening-done (c .before .loop .inv) (c .loop-test .left)
 

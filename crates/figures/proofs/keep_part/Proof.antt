@@ -1,15 +1,16 @@
+-- `figures::keep_part` meets its contract. Assumes nothing.
 use Rattle.figures.specs.Figures.{keptBy}
 use Rattle.literal.proofs.Compact.{finish}
 use Rattle.literal.proofs.Signed.{read, neg-fits, neg-is}
 use Rattle.literal.specs.Literals.{Literal, slotOf}
 use Rattle.base.specs.Lists.{filter}
-use lib.IntN.{ℤ, pos, negℤ}
+use lib.IntN.{pos, negℤ}
 use mathlib.Core.List.{List, []}
-use Rattle.figures.proofs.Keeping.{Moving, moving-none, moving-literal, moving-searched, moving-stays, moving-goes, literal-small, literal-neg, neg-bound}
+use Rattle.figures.proofs.Keeping.{Moving, moving-literal, moving-searched, moving-stays, moving-goes, literal-small, literal-neg, neg-bound}
 use lib.ListN.{length, getD, length-set}
-use mathlib.Core.Path.{_≡_, refl, sym, ap, _∙_}
+use mathlib.Core.Path.{_≡_, refl, sym, _∙_}
 use native.Mathlib.Omega.{arith}
-use Prim.Native.Nat.{ℕ, _+_, _*_, _-_, _/_, _≤_, _<_}
+use Prim.Native.Nat.{ℕ, _-_}
 use borrow.Author.Needs.{needs}
 use Rattle.figures.proofs.keep_part.Statement.{statement}
 use Rattle.figures.proofs.keep_part.Tie as tie
@@ -36,75 +37,57 @@ lit c = moving-literal (c .before .before .loop .inv) (c .before .loop-test .tak
 slot : (c : tie.After-slot-of Inv-loop μ-loop) → c .slot-of .result ≡ slotOf (negℤ (getD (c .before .before .before .loop .part) (c .before .before .before .loop .i) (pos 0)))
 slot c = rw (neg-is (literal-small (lit (c .before)))) at (c .slot-of .ensures)
 
--- src/lib.rt:163:5
 loop-holds : tie.Need-loop-holds Inv-loop μ-loop
 loop-holds c = search needs
 
--- src/lib.rt:164:17
 mul-l : tie.Need-mul-l Inv-loop μ-loop
 mul-l c = search needs
 
--- src/lib.rt:164:17
 slice-copy-out-l : tie.Need-slice-copy-out-l Inv-loop μ-loop
 slice-copy-out-l c = search needs
 
--- src/lib.rt:165:9
 add-i : tie.Need-add-i Inv-loop μ-loop
 add-i c = search needs
 
--- src/lib.rt:166:34
 sub-slot-of : tie.Need-sub-slot-of Inv-loop μ-loop
 sub-slot-of c = neg-fits (literal-small (lit c))
 
--- src/lib.rt:166:17
 slot-of-requires : tie.Need-slot-of-requires Inv-loop μ-loop
 slot-of-requires c κs = rw (neg-is (literal-small (lit c))) (literal-neg (lit c))
 
--- src/lib.rt:166:17
 cast-s : tie.Need-cast-s Inv-loop μ-loop
 cast-s c = let h = neg-bound (lit (c .before)) in omega (arith, h, slot c)
 
--- src/lib.rt:167:12
 has-slot-requires : tie.Need-has-slot-requires Inv-loop μ-loop
 has-slot-requires c κs = let h = neg-bound (lit (c .before)) in rw (slot c) (c .before .before .before .before .before .before .pre .slots, omega (arith, h, c .before .before .before .before .before .before .pre .long), moving-searched (c .before .before .before .loop .inv) (c .before .before .loop-test .taken) (c .before .before .before .before .before .before .pre))
 
--- src/lib.rt:168:13
 mul-l-2 : tie.Need-mul-l-2 Inv-loop μ-loop
 mul-l-2 c = search needs
 
--- src/lib.rt:168:13
 slice-set-from-l : tie.Need-slice-set-from-l Inv-loop μ-loop
 slice-set-from-l c = search needs
 
--- src/lib.rt:169:13
 add-n : tie.Need-add-n Inv-loop μ-loop
 add-n c = search needs
 
--- src/lib.rt:163:5
 loop-less : tie.Need-loop-less Inv-loop μ-loop
 loop-less c = simp length-set (omega arith)
 
--- src/lib.rt:163:5
 loop-again : tie.Need-loop-again Inv-loop μ-loop
 loop-again c = let at = c .before .before .before .before .before .loop in let r = read (at .part) (at .i) (c .before .before .before .l .given) in rw r (moving-stays (at .inv) (c .before .before .before .before .loop-test .taken) (rw (slot (c .before .before)) at (sym (c .before .has-slot .ensures) ∙ c .if1 .taken)))
 
--- src/lib.rt:163:5
 loop-less-2 : tie.Need-loop-less-2 Inv-loop μ-loop
 loop-less-2 c = search needs
 
--- src/lib.rt:163:5
 loop-again-2 : tie.Need-loop-again-2 Inv-loop μ-loop
 loop-again-2 c = let at = c .before .before .before .before .before .loop in moving-goes (at .inv) (c .before .before .before .before .loop-test .taken) (rw (slot (c .before .before)) at (sym (c .before .has-slot .ensures) ∙ c .if1 .left))
 
--- src/lib.rt:172:5
 zero-from-requires : tie.Need-zero-from-requires Inv-loop μ-loop
 zero-from-requires c κs = search needs
 
--- src/lib.rt:156:1
 same-length : tie.Need-same-length Inv-loop μ-loop
 same-length c = search needs
 
--- src/lib.rt:156:1
 returns : tie.Need-returns Inv-loop μ-loop
 returns c = finish (c .before .before .before .before .loop .inv .compact) (c .before .before .before .loop-test .left) (λ s. nothing-left (c .before .before .before .before .before .before .before .args .slots .now)) (c .before .zero-from .ensures)
 

@@ -1,8 +1,9 @@
+-- `figures::outer_twins` meets its contract. Assumes nothing.
 use Rattle.figures.proofs.Shortened.{inside-small, inside-twins, twins-given}
 use Rattle.intervals.proofs.Sorting.{sorted-slots}
 use Rattle.intervals.specs.Slots.{Slots}
 use mathlib.Core.List.{[]}
-use mathlib.Core.Path.{_≡_, sym, subst}
+use mathlib.Core.Path.{sym, subst}
 use borrow.Author.Needs.{needs}
 use Rattle.figures.proofs.outer_twins.Statement.{statement}
 use Rattle.figures.proofs.outer_twins.Tie as tie
@@ -16,23 +17,18 @@ use Rattle.intervals.proofs.sort_slots.Reads as sort-slots-reads
 given : (c : tie.After-sort-slots-arg) → Slots (c .before .before .before .before .before .before .before .before .args .times .now) (c .before .before .before .twins-of .last .1 .0)
 given c = subst (Slots (c .before .before .before .before .before .before .before .before .args .times .now)) (sym (c .before .before .before .twins-of .ensures)) (inside-twins (c .before .before .before .before .before .before .before .before .pre .0))
 
--- src/lib.rt:181:5
 twins-of-requires : tie.Need-twins-of-requires
 twins-of-requires c κs = (inside-small (c .before .before .before .before .pre .0), c .before .before .before .before .pre .1)
 
--- src/lib.rt:182:5
 sort-slots-requires : tie.Need-sort-slots-requires
 sort-slots-requires c κs = given c
 
--- src/lib.rt:183:5
 keep-outer-requires : tie.Need-keep-outer-requires
 keep-outer-requires c κs = subst (Slots (c .before .before .before .before .before .before .before .before .before .before .before .before .args .times .now)) (sym (c .before .before .before .sort-slots .ensures [])) (sorted-slots (given (c .before .before .before .before)) [])
 
--- src/lib.rt:177:1
 same-length : tie.Need-same-length
 same-length c = search needs
 
--- src/lib.rt:177:1
 returns : tie.Need-returns
 returns c = twins-given (c .before .before .before .before .before .before .before .before .before .before .before .before .before .before .before .args .times .now) (c .before .before .before .before .before .before .before .before .before .before .before .before .before .before .before .args .slots .now) (c .before .before .before .before .before .before .before .before .before .before .twins-of .last .1 .0) (c .before .before .before .before .before .before .sort-slots .last .0) (c .before .before .before .before .before .before .before .before .before .before .twins-of .ensures) (c .before .before .before .before .before .before .sort-slots .ensures) (c .before .before .keep-outer .last .0) (c .before .before .keep-outer .ensures)
 

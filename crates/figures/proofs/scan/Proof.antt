@@ -1,11 +1,11 @@
+-- `figures::scan` meets its contract. Assumes nothing.
 use Rattle.figures.specs.Stamped.{Two}
 use borrow.Author.Tests.{not-true, not-false}
-use mathlib.Core.Path.{_≡_, refl, sym, _∙_}
+use mathlib.Core.Path.{sym, _∙_}
 use Rattle.figures.proofs.Scanning.{Scanning, scanning-none, both-two, stamped-time, shown-lt, shown-le, scanning-empty, scanning-end, scanning-next-pos, scanning-next-neg, scanning-yes}
 use Rattle.stamps.specs.Columns.{columns}
 use lib.ListN.{length, getD}
-use native.Mathlib.Omega.{arith}
-use Prim.Native.Nat.{ℕ, _+_, _-_}
+use Prim.Native.Nat.{_+_, _-_}
 use borrow.Author.Needs.{needs}
 use Rattle.figures.proofs.scan.Statement.{statement}
 use Rattle.figures.proofs.scan.Tie as tie
@@ -24,71 +24,54 @@ abbrev μ-loop : tie.MeasureT-loop
 at : (c : tie.After-shared-slice-known5 Inv-loop μ-loop) → Two (c .before .before .before .before .before .before .before .before .args .times .now) (c .before .before .before .before .before .before .before .before .args .links .now) (getD (c .before .before .before .before .before .before .before .before .args .neg .now) (c .before .before .before .before .loop .j) 0) (getD (c .before .before .before .before .before .before .before .before .args .pos .now) (c .before .before .before .before .loop .i) 0)
 at c = both-two (c .before .before .before .before .before .before .before .before .pre) (c .before .before .before .before .loop .i) (c .before .before .before .before .loop .j) (c .before .before .before .if1 .left) (c .before .before .if2 .left)
 
--- src/lib.rt:38:9
 loop-holds : tie.Need-loop-holds Inv-loop μ-loop
 loop-holds c = scanning-none
 
--- src/lib.rt:45:17
 mul-p : tie.Need-mul-p Inv-loop μ-loop
 mul-p c = search needs
 
--- src/lib.rt:45:17
 shared-slice-read-p : tie.Need-shared-slice-read-p Inv-loop μ-loop
 shared-slice-read-p c = search needs
 
--- src/lib.rt:46:17
 mul-q : tie.Need-mul-q Inv-loop μ-loop
 mul-q c = search needs
 
--- src/lib.rt:46:17
 shared-slice-read-q : tie.Need-shared-slice-read-q Inv-loop μ-loop
 shared-slice-read-q c = search needs
 
--- src/lib.rt:47:12
 discovery-requires : tie.Need-discovery-requires Inv-loop μ-loop
 discovery-requires c κs = let t = at c in stamped-time (t .stamped) _ (t .other)
 
--- src/lib.rt:47:45
 discovery-requires-2 : tie.Need-discovery-requires-2 Inv-loop μ-loop
 discovery-requires-2 c κs = let t = at (c .before) in stamped-time (t .stamped) _ (t .one)
 
--- src/lib.rt:48:13
 add-i : tie.Need-add-i Inv-loop μ-loop
 add-i c = search needs
 
--- src/lib.rt:38:9
 loop-less : tie.Need-loop-less Inv-loop μ-loop
 loop-less c = search needs
 
--- src/lib.rt:38:9
 loop-again : tie.Need-loop-again Inv-loop μ-loop
 loop-again c = scanning-next-pos (c .before .before .before .before .before .before .before .loop .inv) (c .before .before .before .before .before .before .if1 .left) (c .before .before .before .before .before .if2 .left) (shown-lt (c .before .before .discovery .ensures) (c .before .discovery2 .ensures) (c .if3 .taken))
 
--- src/lib.rt:50:17
 passes-requires : tie.Need-passes-requires Inv-loop μ-loop
 passes-requires c κs = at (c .before .before .before)
 
--- src/lib.rt:53:13
 add-j : tie.Need-add-j Inv-loop μ-loop
 add-j c = search needs
 
--- src/lib.rt:38:9
 loop-less-2 : tie.Need-loop-less-2 Inv-loop μ-loop
 loop-less-2 c = search needs
 
--- src/lib.rt:38:9
 loop-again-2 : tie.Need-loop-again-2 Inv-loop μ-loop
 loop-again-2 c = scanning-next-neg (c .before .before .before .before .before .before .before .before .before .loop .inv) (c .before .before .before .before .before .before .before .before .if1 .left) (c .before .before .before .before .before .before .before .if2 .left) (shown-le (c .before .before .before .before .discovery .ensures) (c .before .before .before .discovery2 .ensures) (c .before .before .if3 .left)) (sym (c .before .passes .ensures) ∙ not-false _ (c .if4 .left))
 
--- src/lib.rt:32:1
 returns : tie.Need-returns Inv-loop μ-loop
 returns c = sym (scanning-empty (c .before .loop .inv) (c .if1 .taken))
 
--- src/lib.rt:32:1
 returns-2 : tie.Need-returns-2 Inv-loop μ-loop
 returns-2 c = sym (scanning-end (c .before .before .loop .inv) (c .if2 .taken))
 
--- src/lib.rt:32:1
 returns-3 : tie.Need-returns-3 Inv-loop μ-loop
 returns-3 c = sym (scanning-yes (c .before .before .before .before .before .before .before .before .before .loop .inv) (c .before .before .before .before .before .before .before .before .if1 .left) (c .before .before .before .before .before .before .before .if2 .left) (shown-le (c .before .before .before .before .discovery .ensures) (c .before .before .before .discovery2 .ensures) (c .before .before .if3 .left)) (sym (c .before .passes .ensures) ∙ not-true _ (c .if4 .taken)))
 

@@ -1,3 +1,4 @@
+-- `figures::shorten_part` meets its contract. Assumes nothing.
 use Rattle.figures.proofs.Shortening.{outerTwins}
 use Rattle.figures.proofs.Shortened.{clause-slots, clause-inside, clause-sorted, inner-given, inner-many, inner-few, outer-given, part-given}
 use Rattle.figures.specs.Stamped.{Inside, Sorted}
@@ -5,11 +6,11 @@ use Rattle.stamps.specs.Columns.{columns}
 use Rattle.intervals.proofs.Sorting.{rest-part}
 use Rattle.intervals.specs.Slots.{Slots}
 use lib.Seq.{length-take-le}
-use lib.ListN.{length, take, drop, length-append}
+use lib.ListN.{length, take, length-append}
 use mathlib.Core.List.{List, [], _++_}
-use mathlib.Core.Path.{_≡_, refl, sym, ap, subst, _∙_}
+use mathlib.Core.Path.{_≡_, sym, subst, _∙_}
 use native.Mathlib.Omega.{arith}
-use Prim.Native.Nat.{ℕ, _+_, _-_, _≤_, _<_}
+use Prim.Native.Nat.{ℕ, _-_, _≤_}
 use borrow.Author.Needs.{needs}
 use Rattle.figures.proofs.shorten_part.Statement.{statement}
 use Rattle.figures.proofs.shorten_part.Tie as tie
@@ -39,67 +40,51 @@ whole c t₂ = let k = c .before .before .before .before .before .before in
 room : (c : tie.After-outer-twins) (t₂ : List ℕ) → c .outer-twins .result ≤ length (c .outer-twins .last .1 .0 ++ t₂)
 room c t₂ = omega (arith, fewer c, length-append (c .outer-twins .last .1 .0) t₂)
 
--- src/lib.rt:192:9
 keep-inner-requires : tie.Need-keep-inner-requires
 keep-inner-requires c κs = subst (Slots (c .before .before .before .before .args .times .now)) (sym (c .before .before .before .before .pre .1)) (clause-slots (c .before .before .before .before .pre .0))
 
--- src/lib.rt:193:13
 sub-m : tie.Need-sub-m
 sub-m c = search needs
 
--- src/lib.rt:194:25
 mul-outer-twins : tie.Need-mul-outer-twins
 mul-outer-twins c = search needs
 
--- src/lib.rt:194:25
 sub-outer-twins : tie.Need-sub-outer-twins
 sub-outer-twins c = search needs
 
--- src/lib.rt:194:25
 part-outer-twins-start : tie.Need-part-outer-twins-start
 part-outer-twins-start c = search needs
 
--- src/lib.rt:194:25
 part-outer-twins-end : tie.Need-part-outer-twins-end
 part-outer-twins-end c = search needs
 
--- src/lib.rt:194:42
 slice-relend-prefix-outer-twins : tie.Need-slice-relend-prefix-outer-twins
 slice-relend-prefix-outer-twins c = many (c .before .before .before .before)
 
--- src/lib.rt:194:42
 slice-aggregate-outer-twins : tie.Need-slice-aggregate-outer-twins
 slice-aggregate-outer-twins c = sym (sized (c .before .before .before .before .before))
 
--- src/lib.rt:194:9
 outer-twins-requires : tie.Need-outer-twins-requires
 outer-twins-requires c κs = let k = c .before .before .before .before .before in rw (rest-part (k .keep-inner .result) (k .keep-inner .last .0)) (subst (Inside (c .before .before .before .before .before .before .before .before .before .before .args .times .now)) (sym (inner-given (c .before .before .before .before .before .before .before .before .before .before .pre .0) (c .before .before .before .before .before .before .before .before .before .before .pre .1) (k .keep-inner .last .0) (k .keep-inner .result) (k .keep-inner .ensures .1))) (clause-inside (c .before .before .before .before .before .before .before .before .before .before .pre .0)), sized k ∙ inner-many (c .before .before .before .before .before .before .before .before .before .before .pre .0) (c .before .before .before .before .before .before .before .before .before .before .pre .1) (k .keep-inner .last .0) (k .keep-inner .result) (k .keep-inner .ensures .1))
 
--- src/lib.rt:195:21
 slice-reshare-prefix-keep-part : tie.Need-slice-reshare-prefix-keep-part
 slice-reshare-prefix-keep-part c = room (c .before .before .before) _
 
--- src/lib.rt:195:21
 slice-aggregate-keep-part : tie.Need-slice-aggregate-keep-part
 slice-aggregate-keep-part c = sym (length-take-le (c .before .before .before .before .outer-twins .result) _ (room (c .before .before .before .before) _))
 
--- src/lib.rt:195:5
 keep-part-requires : tie.Need-keep-part-requires
 keep-part-requires c κs = subst (λ (l : List ℕ). Sorted (c .before .before .before .before .before .before .before .before .before .before .before .before .before .before .before .args .times .now) l (c .before .before .before .before .before .before .before .before .before .before .before .before .before .before .before .args .part .now)) (sym (whole (c .before .before .before .before) _)) (clause-sorted (c .before .before .before .before .before .before .before .before .before .before .before .before .before .before .before .pre .0))
 
--- src/lib.rt:187:1
 same-length : tie.Need-same-length
 same-length c = search needs
 
--- src/lib.rt:187:1
 same-length-2 : tie.Need-same-length-2
 same-length-2 c = search needs
 
--- src/lib.rt:187:1
 same-length-3 : tie.Need-same-length-3
 same-length-3 c = search needs
 
--- src/lib.rt:187:1
 returns : tie.Need-returns
 returns c = let k = c .before .before .before .before .before .before .before .before .before .before .before .before in part-given (c .before .before .before .before .before .before .before .before .before .before .before .before .before .before .before .before .before .pre .0) (c .before .before .before .before .before .before .before .before .before .before .before .before .before .before .before .before .before .pre .1) (k .keep-inner .last .0) (k .keep-inner .result) (k .keep-inner .ensures .1) (whole (c .before .before .before .before .before .before) _) (c .before .keep-part .ensures)
 

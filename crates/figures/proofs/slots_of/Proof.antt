@@ -1,11 +1,12 @@
+-- `figures::slots_of` meets its contract. Assumes nothing.
 use Rattle.literal.proofs.Signed.{read}
-use Rattle.figures.proofs.Keeping.{Mapping, mapping-none, mapping-more, mapping-done, literal-has, slot-bound}
+use Rattle.figures.proofs.Keeping.{Mapping, mapping-more, mapping-done, literal-has, slot-bound}
 use Rattle.literal.specs.Literals.{slotOf}
 use lib.IntN.{pos}
-use lib.ListN.{length, getD, length-set}
-use mathlib.Core.Path.{_≡_, refl, sym, ap, _∙_}
+use lib.ListN.{length, getD}
+use mathlib.Core.Path.{_≡_}
 use native.Mathlib.Omega.{arith}
-use Prim.Native.Nat.{ℕ, _+_, _*_, _-_, _/_, _≤_, _<_}
+use Prim.Native.Nat.{_-_}
 use borrow.Author.Needs.{needs}
 use Rattle.figures.proofs.slots_of.Statement.{statement}
 use Rattle.figures.proofs.slots_of.Tie as tie
@@ -23,51 +24,39 @@ abbrev μ-loop : tie.MeasureT-loop
 slot : (c : tie.After-slot-of Inv-loop μ-loop) → c .slot-of .result ≡ slotOf (getD (c .before .before .before .before .before .args .part .now) (c .before .before .before .loop .i) (pos 0))
 slot c = rw (read (c .before .before .before .before .before .args .part .now) (c .before .before .before .loop .i) (c .before .l .given)) at (c .slot-of .ensures)
 
--- src/lib.rt:69:5
 loop-holds : tie.Need-loop-holds Inv-loop μ-loop
 loop-holds c = search needs
 
--- src/lib.rt:70:17
 mul-l : tie.Need-mul-l Inv-loop μ-loop
 mul-l c = search needs
 
--- src/lib.rt:70:17
 shared-slice-copy-out-l : tie.Need-shared-slice-copy-out-l Inv-loop μ-loop
 shared-slice-copy-out-l c = search needs
 
--- src/lib.rt:71:18
 slot-of-requires : tie.Need-slot-of-requires Inv-loop μ-loop
 slot-of-requires c κs = rw (read (c .before .before .before .before .args .part .now) (c .before .before .loop .i) (c .l .given)) (literal-has (c .before .before .before .before .pre .0 .each (c .before .before .loop .i) (c .before .loop-test .taken)))
 
--- src/lib.rt:71:18
 cast-out : tie.Need-cast-out Inv-loop μ-loop
 cast-out c = let h = slot-bound (c .before .before .before .before .before .pre .0 .each (c .before .before .before .loop .i) (c .before .before .loop-test .taken)) in omega (arith, h, slot c)
 
--- src/lib.rt:71:9
 mul-out : tie.Need-mul-out Inv-loop μ-loop
 mul-out c = search needs
 
--- src/lib.rt:71:9
 slice-write-out : tie.Need-slice-write-out Inv-loop μ-loop
 slice-write-out c = search needs
 
--- src/lib.rt:72:9
 add-i : tie.Need-add-i Inv-loop μ-loop
 add-i c = search needs
 
--- src/lib.rt:69:5
 loop-less : tie.Need-loop-less Inv-loop μ-loop
 loop-less c = search needs
 
--- src/lib.rt:69:5
 loop-again : tie.Need-loop-again Inv-loop μ-loop
 loop-again c = mapping-more (c .before .before .before .loop .inv) (c .slot-of .result) (c .before .before .loop-test .taken) (slot c)
 
--- src/lib.rt:64:1
 same-length : tie.Need-same-length Inv-loop μ-loop
 same-length c = search needs
 
--- src/lib.rt:64:1
 returns : tie.Need-returns Inv-loop μ-loop
 returns c = mapping-done (c .before .loop .inv) (c .loop-test .left)
 

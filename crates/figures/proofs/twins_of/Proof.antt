@@ -1,9 +1,8 @@
-use Rattle.figures.proofs.Keeping.{Mapping, mapping-none, mapping-more, mapping-done}
+-- `figures::twins_of` meets its contract. Assumes nothing.
+use Rattle.figures.proofs.Keeping.{Mapping, mapping-more, mapping-done}
 use Rattle.literal.specs.Literals.{twin}
-use lib.ListN.{length, getD, length-set}
-use mathlib.Core.Path.{_≡_, refl, sym, ap, _∙_}
-use native.Mathlib.Omega.{arith}
-use Prim.Native.Nat.{ℕ, _+_, _*_, _-_, _/_, _≤_, _<_}
+use lib.ListN.{length}
+use Prim.Native.Nat.{_-_}
 use borrow.Author.Needs.{needs}
 use Rattle.figures.proofs.twins_of.Statement.{statement}
 use Rattle.figures.proofs.twins_of.Tie as tie
@@ -17,47 +16,36 @@ Inv-loop slots out₀ i₀ out i = Mapping twin 0 slots out i
 abbrev μ-loop : tie.MeasureT-loop
 μ-loop slots out₀ i₀ out i = length slots - i
 
--- src/lib.rt:82:5
 loop-holds : tie.Need-loop-holds Inv-loop μ-loop
 loop-holds c = search needs
 
--- src/lib.rt:83:35
 mul-twin-of : tie.Need-mul-twin-of Inv-loop μ-loop
 mul-twin-of c = search needs
 
--- src/lib.rt:83:35
 shared-slice-read-twin-of : tie.Need-shared-slice-read-twin-of Inv-loop μ-loop
 shared-slice-read-twin-of c = search needs
 
--- src/lib.rt:83:18
 twin-of-requires : tie.Need-twin-of-requires Inv-loop μ-loop
 twin-of-requires c κs = c .before .before .before .before .before .pre .0 (c .before .before .loop .i) (c .before .loop-test .taken)
 
--- src/lib.rt:83:9
 mul-out : tie.Need-mul-out Inv-loop μ-loop
 mul-out c = search needs
 
--- src/lib.rt:83:9
 slice-write-out : tie.Need-slice-write-out Inv-loop μ-loop
 slice-write-out c = search needs
 
--- src/lib.rt:84:9
 add-i : tie.Need-add-i Inv-loop μ-loop
 add-i c = search needs
 
--- src/lib.rt:82:5
 loop-less : tie.Need-loop-less Inv-loop μ-loop
 loop-less c = search needs
 
--- src/lib.rt:82:5
 loop-again : tie.Need-loop-again Inv-loop μ-loop
 loop-again c = mapping-more (c .before .before .before .loop .inv) (c .twin-of .result) (c .before .before .loop-test .taken) (c .twin-of .ensures)
 
--- src/lib.rt:77:1
 same-length : tie.Need-same-length Inv-loop μ-loop
 same-length c = search needs
 
--- src/lib.rt:77:1
 returns : tie.Need-returns Inv-loop μ-loop
 returns c = mapping-done (c .before .loop .inv) (c .loop-test .left)
 

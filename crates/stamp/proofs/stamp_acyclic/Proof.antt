@@ -1,11 +1,13 @@
 -- `stamp::stamp_acyclic` meets its contract. Assumes nothing.
 use Prim.Native.Nat.{_*_}
 use native.Mathlib.Omega.{arith}
-use mathlib.Core.Path.{sym}
+use mathlib.Core.Path.{sym, ap, _∙_}
 use borrow.Author.Needs.{needs}
-use Rattle.tables.specs.Tables.{tables}
+use Rattle.state.specs.declared.Outcome.{Outcome}
+use Rattle.tables.specs.Tables.{Tables, tables}
+use Rattle.tables.specs.Calls.{after}
 use Rattle.components.proofs.Chain.{front-zeros}
-use Rattle.stamp.proofs.Asking.{acyclic-refused, acyclic-stamped}
+use Rattle.stamp.proofs.Asking.{acyclic-by}
 use Rattle.stamp.proofs.Writing.{own-blank}
 use Rattle.stamp.proofs.stamp_acyclic.Statement.{statement}
 use Rattle.stamp.proofs.stamp_acyclic.Tie as tie
@@ -52,6 +54,9 @@ slice-aggregate-write-stamps-5 c = sym (front-zeros (2 * c .before .before .befo
 write-stamps-requires : tie.Need-write-stamps-requires
 write-stamps-requires c κs = let s = c .before .before .before .before .before .before .before .before .before .before .before in (s .pre .0, (own-blank (s .args .st .v) (s .pre .0 .0 .listed .few), s .pre .1))
 
+answer-requires : tie.Need-answer-requires
+answer-requires c κs = search needs
+
 same-length : tie.Need-same-length
 same-length c = search needs
 
@@ -60,19 +65,9 @@ same-length-2 c = search needs
 
 returns : tie.Need-returns
 returns c = λ variables. let a = c .before .before .before .before .before .before .before .before .before .before .before .before .before .before .before .before .before .before .before .before .before .args in let w = c .before .before .before .before .before .before .before .before .before .write-stamps in
-    acyclic-refused (a .order .now) (tables (a .clauses .now) (a .literals .now) variables (a .times .now) (a .links .now)) (a .st)
-    (tables (a .clauses .now) (a .literals .now) variables (w .last .1 .1 .1 .1 .1 .1 .1 .1 .1 .1 .0) (w .last .1 .1 .1 .1 .1 .1 .1 .1 .1 .1 .1 .0)) (w .result) (w .ensures .0) (c .if1 .taken) (w .ensures .1 variables)
-
-same-length-3 : tie.Need-same-length-3
-same-length-3 c = search needs
-
-same-length-4 : tie.Need-same-length-4
-same-length-4 c = search needs
-
-returns-2 : tie.Need-returns-2
-returns-2 c = λ variables. let a = c .before .before .before .before .before .before .before .before .before .before .before .before .before .before .before .before .before .before .before .before .before .args in let w = c .before .before .before .before .before .before .before .before .before .write-stamps in
-    acyclic-stamped (a .order .now) (tables (a .clauses .now) (a .literals .now) variables (a .times .now) (a .links .now)) (a .st)
-    (tables (a .clauses .now) (a .literals .now) variables (w .last .1 .1 .1 .1 .1 .1 .1 .1 .1 .1 .0) (w .last .1 .1 .1 .1 .1 .1 .1 .1 .1 .1 .1 .0)) (w .result) (w .ensures .0) (c .if1 .left) (w .ensures .1 variables)
+    let u : Tables = tables (a .clauses .now) (a .literals .now) variables (w .last .1 .1 .1 .1 .1 .1 .1 .1 .1 .1 .0) (w .last .1 .1 .1 .1 .1 .1 .1 .1 .1 .1 .1 .0) in
+    ap (λ (o : Outcome). after o u) (c .answer .ensures)
+    ∙ acyclic-by (a .order .now) (tables (a .clauses .now) (a .literals .now) variables (a .times .now) (a .links .now)) (a .st) u (w .result) (w .ensures .0) (w .ensures .1 variables)
 
 pub stamp-acyclic-spec : {M : Type 1} → statement M
 stamp-acyclic-spec =
@@ -92,9 +87,7 @@ stamp-acyclic-spec =
     array-borrow-prefix-top
     slice-aggregate-write-stamps-5
     write-stamps-requires
+    answer-requires
     same-length
     same-length-2
-    returns
-    same-length-3
-    same-length-4
-    returns-2)
+    returns)

@@ -48,7 +48,7 @@ module _ (w : tie.After-stamp-columns) where
   top-long = w .stamp-columns .kept .1 .1 .1 .1 .1 .1 .1 .1 .0 ∙ blank-columned (w .before .before .before .before .before .before .before .before .before .before .before .before .before .before .before .before .before .pre .1 .0) .tops
 
   held : Holding (stampsOf (slotsFrom (w .before .before .before .before .before .before .before .before .before .before .before .before .before .before .before .before .before .args .clauses .now) (w .before .before .before .before .before .before .before .before .before .before .before .before .before .before .before .before .before .args .literals .now) (w .before .before .before .before .before .before .before .before .before .before .before .before .before .before .before .before .before .args .n) 0) (2 * w .before .before .before .before .before .before .before .before .before .before .before .before .before .before .before .before .before .args .v) (map slotOf (w .before .before .before .before .before .before .before .before .before .before .before .before .before .before .before .before .before .args .order .now))) disc′ fin′ par′ top′
-  held = blank-walk (w .before .before .before .before .before .before .before .before .before .before .before .before .before .before .before .before .before .pre .0 .0) (w .before .before .before .before .before .before .before .before .before .before .before .before .before .before .before .before .before .pre .0 .1) (w .before .before .before .before .before .before .before .before .before .before .before .before .before .before .before .before .before .pre .1 .0) (slots′ (w .before .before .before .before .before .before .before .before)) disc′ fin′ par′ top′ (w .before .before .before .before .before .before .before .before .list-slots .ensures) (w .stamp-columns .ensures .1)
+  held = blank-walk (w .before .before .before .before .before .before .before .before .before .before .before .before .before .before .before .before .before .pre .0 .0) (w .before .before .before .before .before .before .before .before .before .before .before .before .before .before .before .before .before .pre .0 .1) (w .before .before .before .before .before .before .before .before .before .before .before .before .before .before .before .before .before .pre .1 .0) (slots′ (w .before .before .before .before .before .before .before .before)) disc′ fin′ par′ top′ (w .before .before .before .before .before .before .before .before .list-slots .ensures) (w .stamp-columns .ensures .stamps-are)
 
 list-slots-requires : tie.Need-list-slots-requires
 list-slots-requires c κs = (full-literals (c .before .before .before .before .before .before .before .before .pre .0 .1) (c .before .before .before .before .before .before .before .before .pre .0 .0 .listed .few), c .before .before .before .before .before .before .before .before .pre .1 .0 .lists ∙ sym (c .before .before .before .before .before .before .before .before .pre .0 .1 .many))
@@ -72,7 +72,7 @@ same-length-5 : tie.Need-same-length-5
 same-length-5 c = search needs
 
 returns : tie.Need-returns
-returns c = (sym (c .if1 .taken) ∙ c .before .before .before .before .before .before .before .before .before .stamp-columns .ensures .0, λ variables. refl)
+returns c = (sym (c .if1 .taken) ∙ c .before .before .before .before .before .before .before .before .before .stamp-columns .ensures .cyclic-is, λ variables. refl)
 
 copy-times-requires : tie.Need-copy-times-requires
 copy-times-requires c κs = (fin-long (c .before .before .before .before .before .before .before .before .before .before .before .before) ∙ sym (disc-long (c .before .before .before .before .before .before .before .before .before .before .before .before)), omega (arith, disc-long (c .before .before .before .before .before .before .before .before .before .before .before .before), c .before .before .before .before .before .before .before .before .before .before .before .before .before .before .before .before .before .before .before .before .before .before .before .before .before .before .before .before .before .pre .1 .1 .first))
@@ -104,7 +104,7 @@ same-length-12 c = search needs
 
 returns-2 : tie.Need-returns-2
 returns-2 c = let s = c .before .before .before .before .before .before .before .before .before .before .before .before .before .before .before .before .before .before .before .before .before .before .before .before .before .before .before .before .before .before .before .before .before .before .before .before .before in let w = c .before .before .before .before .before .before .before .before .before .before .before .before .before .before .before .before .before .before .before .before in (
-  sym (c .before .before .before .before .before .before .before .before .before .before .before .if1 .left) ∙ w .stamp-columns .ensures .0,
+  sym (c .before .before .before .before .before .before .before .before .before .before .before .if1 .left) ∙ w .stamp-columns .ensures .cyclic-is,
   λ variables. records-are (s .pre .0 .0) (s .pre .0 .1) (s .pre .1 .0) (held w) (disc-long w) (par-long w) variables (s .args .times .now) (c .before .before .before .before .before .before .before .copy-times .last .1 .1 .0) (s .args .links .now) (c .before .copy-links .last .1 .1 .0)
       (c .before .before .before .before .before .before .before .copy-times .ensures) (c .before .copy-links .ensures),
 )

@@ -152,11 +152,11 @@ same-length-10 : tie.Need-same-length-10
 same-length-10 c = search needs
 
 returns : tie.Need-returns
-returns c = let s = c .before .before .before .before .before .before .before .before .before .before .before .before .before .before .before .before .before .before .before .before .before .before .before .before .before .before .before .before .before .before .before .before .before .before .before .before .before .before .before .before .before .before .before .before .before .before .before .before .before .before in let e = c .before .before .before .before .before .before .before .before .before .before .before .before .before .before .before .before .before .before .before .before in (
-  cyclic-is (s .pre .0 .0) (s .pre .0 .1) (s .pre .1 .1) (held e) (disc-long e) (c .any-backward .result)
-      (λ t d p x. as-clauses (c .before .before .before .before .before .before .before .before .before .before .before .before .before .before .before .before .before .before .before .before .before .before .before .before .before .before .before .before .before .before .before .before .before .before .before) (λ f h. c .any-backward .result ≡ not (forward (stamps t d (fin′ e) p x) f h)) (c .any-backward .ensures t d p x)),
-  held e,
-)
+returns c = let s = c .before .before .before .before .before .before .before .before .before .before .before .before .before .before .before .before .before .before .before .before .before .before .before .before .before .before .before .before .before .before .before .before .before .before .before .before .before .before .before .before .before .before .before .before .before .before .before .before .before .before in let e = c .before .before .before .before .before .before .before .before .before .before .before .before .before .before .before .before .before .before .before .before in record {
+  cyclic-is = cyclic-is (s .pre .0 .0) (s .pre .0 .1) (s .pre .1 .1) (held e) (disc-long e) (c .any-backward .result)
+      (λ t d p x. as-clauses (c .before .before .before .before .before .before .before .before .before .before .before .before .before .before .before .before .before .before .before .before .before .before .before .before .before .before .before .before .before .before .before .before .before .before .before) (λ f h. c .any-backward .result ≡ not (forward (stamps t d (fin′ e) p x) f h)) (c .any-backward .ensures t d p x));
+  stamps-are = held e;
+}
 
 pub stamp-graph-spec : {M : Type 1} → statement M
 stamp-graph-spec =

@@ -1,0 +1,81 @@
+// One load as a C function, by which a load is measured.
+ghost use mathlib.Core.Path.{_≡_};
+ghost use Prim.Native.Nat.{ℕ};
+ghost use Rattle.state.specs.Answers.{refusalNumber};
+ghost use Rattle.tables.specs.Tables.{Tables, tables};
+ghost use Rattle.tables.specs.Calls.{after};
+ghost use Rattle.load.specs.Load.{loadCall};
+ghost use Rattle.load_bench.specs.Result.{resultBy, resultOf, blank};
+use state::Answer;
+use state::Outcome;
+use state::Pass;
+use state::Refusal;
+use state::State;
+
+// A refusal's number, negative.
+fn refused(refusal: Refusal) -> i64
+    ensures { λ r. ⌜ ((v : ℕ) → r ≡ resultBy (refusalNumber refusal) v) ⌝ }
+{
+    match refusal {
+        Refusal::Shape => -1,
+        Refusal::Grammar(_) => -2,
+        Refusal::Limit(_) => -3,
+        Refusal::OtherPass => -4,
+        Refusal::Marked => -5,
+        Refusal::Unsettled(_) => -6,
+        Refusal::Cyclic => -7,
+        Refusal::Order(_) => -8,
+        Refusal::Stale => -9,
+        Refusal::Short(_) => -10,
+    }
+}
+
+// V, or the refusal's number, negative.
+fn result_of(outcome: Outcome) -> i64
+    ensures { λ r. ⌜ ((t : Tables) → r ≡ resultOf (after outcome t)) ⌝ }
+{
+    let answer = outcome.answer;
+    let st = outcome.state;
+    let v = st.v as i64;
+    match answer {
+        Answer::Refused(refusal) => refused(refusal),
+        Answer::Loaded => v,
+        Answer::Open(_) => v,
+        Answer::Done(_) => v,
+        Answer::Stamped => v,
+        Answer::Failed(_) => v,
+        Answer::Ran(_) => v,
+        Answer::Written(_) => v,
+    }
+}
+
+fn blank_state() -> State
+    ensures { λ r. ⌜ r ≡ blank ⌝ }
+{
+    State {
+        v: 0,
+        n: 0,
+        pass: Pass::Idle,
+        fresh: false,
+        mark: false,
+    }
+}
+
+// Loads a text into the tables.
+#[no_mangle]
+pub extern "C" fn load_text(
+    text: &[u8],
+    clauses: &mut [u32],
+    literals: &mut [i32],
+    variables: &mut [i32],
+    times: &[u32],
+    links: &[i32],
+) -> i64
+    ensures { λ r. ⌜ r ≡ resultOf (loadCall (now (text .entry)) (tables (now (clauses .entry)) (now (literals .entry)) (now (variables .entry)) (now (times .entry)) (now (links .entry))) blank) ⌝ }
+    ensures { λ _. ⌜ tables (now (clauses .exit)) (now (literals .exit)) (now (variables .exit)) (now (times .entry)) (now (links .entry))
+        ≡ loadCall (now (text .entry)) (tables (now (clauses .entry)) (now (literals .entry)) (now (variables .entry)) (now (times .entry)) (now (links .entry))) blank .tables ⌝ }
+{
+    let st = blank_state();
+    let outcome = load::load(text, clauses, literals, variables, times, links, st);
+    result_of(outcome)
+}

@@ -1,0 +1,264 @@
+-- The stamps that Stamp's walk leaves are fresh: the walk's forest, slot by slot, is what the scan of the shape rule asks of a slot that is entered and left.
+--     stamped-fresh   records that hold the columns of a walk's stamps are fresh stamps
+--     records-fresh   so are those of `stampedTables`
+-- Assumes nothing.
+use Prim.Native.Nat.{ℕ, zero, suc, _+_, _*_, _/_, _-_, _≤_, _<_}
+use native.Mathlib.Omega.{arith}
+use mathlib.Core.Path.{_≡_, refl, sym, ap, _∙_}
+use mathlib.Core.Bool.{Bool}
+use mathlib.Core.Logic.{_⊎_, inl, inr, ⊎-elim}
+use mathlib.Core.List.{List, [], _∷_, _++_, map, List·Memᴰ}
+use lib.ListN.{length, getD, drop, replicate, length-replicate, length-append, length-drop, length-map, List·getD-eq-default, List·getD-append, List·getD-map}
+use lib.IntN.{ℤ, pos}
+use Rattle.base.specs.Decide.{same-or, le-or}
+use Rattle.base.specs.Lists.{absent, filter, interleave}
+use Rattle.base.proofs.Lists.{mem-filter}
+use Rattle.literal.specs.Literals.{slotOf, litAt}
+use Rattle.stamps.specs.Fresh.{discovery, finish, parentOf, startOf, Times, FreshStamps}
+use Rattle.stamps.proofs.Local.{Around, Under, Entered, Left, fresh-from}
+use Rattle.walk.specs.Walk.{Stamps, edges, starts, stampAll}
+use Rattle.walk.specs.Forest.{dis, fin, par, top, Holds, Parted, Forest, Top}
+use Rattle.walk.proofs.Run.{Less, less-trans, edges-less, enters-less}
+use Rattle.walk.proofs.Theorems.{Stamped, times-apart}
+use Rattle.graph.specs.Clauses.{tos, implications}
+use Rattle.groups.specs.Groups.{blank}
+use Rattle.cycles.proofs.Forward.{edge-below}
+use Rattle.tables.specs.Tables.{Tables}
+use Rattle.tables.specs.Clauses.{slotsFrom}
+use Rattle.pairs.proofs.Listing.{slots-in}
+use Rattle.stamping.specs.Stamping.{Proper}
+use Rattle.stamping.proofs.Copying.{many-records}
+use Rattle.stamping.proofs.Graphing.{walk-stamped}
+use Rattle.stamp.specs.Stamp.{stampsOf, stampedTables}
+use Rattle.stamp.specs.Asking.{Full}
+use Rattle.stamp.proofs.Ordering.{getD-any}
+use Rattle.stamp.proofs.Writing.{full-ordered}
+use Rattle.walk.specs.Forest as forest
+
+-- the tables hold the walk's columns: the times side by side, the links as literals
+pub record Laid (v : ℕ) (σ : Stamps) (times : List ℕ) (links : List ℤ) : Type 0 where
+  pub discoveries : (s : ℕ) → s < 2 * v → discovery times s ≡ dis σ s
+  pub finishes : (s : ℕ) → s < 2 * v → finish times s ≡ fin σ s
+  pub parents : (s : ℕ) → s < 2 * v → parentOf links s ≡ litAt (par σ s)
+  pub starts : (s : ℕ) → s < 2 * v → startOf links s ≡ litAt (top σ s)
+
+module _ (v : ℕ) (adj : ℕ → List ℕ) (σ : Stamps) (times : List ℕ) (links : List ℤ) (S : Stamped adj (2 * v) σ) (size : length (σ .disc) ≡ 2 * v) (L : Laid v σ times links) where
+  abbrev D : ℕ → ℕ
+  D s = dis σ s
+
+  abbrev E : ℕ → ℕ
+  E s = fin σ s
+
+  F : Forest adj σ
+  F = S .forest
+
+  on : (s : ℕ) → s < 2 * v → 0 < D s
+  on = S .all
+
+  -- a slot that is entered is one of the 2v
+  slot : (p : ℕ) → 0 < D p → p < 2 * v
+  slot p h = ⊎-elim (λ (le : 2 * v ≤ p). absurd (omega (arith, h, List·getD-eq-default (σ .disc) 0 {n = p} (omega (arith, size))))) (λ lt. lt) (le-or (2 * v) p)
+
+  -- what is open when s is entered holds s
+  around-holds : (u s : ℕ) → u < 2 * v → s < 2 * v → Around times u s → Holds σ u s
+  around-holds u s lu ls a = go (F .parted u s (on u lu) (on s ls) (λ e. omega (arith, a .0, ap (discovery times) e)))
+    where
+      begins : D u < D s
+      begins = omega (arith, a .0, L .discoveries u lu, L .discoveries s ls)
+
+      inside : D s < E u
+      inside = omega (arith, a .1, L .discoveries s ls, L .finishes u lu)
+
+      go : Parted σ u s → Holds σ u s
+      go (inl h) = absurd (omega (arith, inside))
+      go (inr (inl h)) = absurd (omega (arith, begins, F .spans s (on s ls)))
+      go (inr (inr (inl h))) = (omega arith, omega arith)
+      go (inr (inr (inr h))) = absurd (omega (arith, begins))
+
+  left : (s : ℕ) → s < 2 * v → Left v times s
+  left s ls = record {
+    forward = omega (arith, F .spans s (on s ls), L .discoveries s ls, L .finishes s ls);
+    inside = λ u lu a b.
+        let h = around-holds s u ls lu (a, b) in
+        let d = times-apart adj σ F u s (on u lu) (on s ls) (λ e. omega (arith, a, ap (discovery times) e)) .1 in
+        omega (arith, h .1, d, L .finishes u lu, L .finishes s ls);
+  }
+
+  entered : (s : ℕ) → s < 2 * v → Entered v times links s
+  entered s ls = ⊎-elim
+      (λ (t : Top σ s). inl (record {
+        parent = L .parents s ls ∙ ap litAt (t .parent);
+        start = L .starts s ls ∙ ap litAt (t .start);
+        alone = λ u lu a. t .widest u (on u lu) (λ e. omega (arith, a .0, ap (discovery times) e)) (around-holds u s lu ls a);
+      }))
+      (λ (w : (p : ℕ) × forest.Under adj σ s p).
+      let p = w .0 in
+      let U = w .1 in
+      let lp = slot p (U .entered) in
+      inr (
+        p,
+        record {
+          slot = lp;
+          parent = L .parents s ls ∙ ap litAt (U .parent);
+          start = L .starts s ls ∙ ap litAt (U .start) ∙ sym (L .starts p lp);
+          around = (omega (arith, U .begins, L .discoveries p lp, L .discoveries s ls), omega (arith, U .ends, F .spans s (on s ls), L .discoveries s ls, L .finishes p lp));
+          last = λ u lu a.
+              let h = U .narrowest u (on u lu) (λ e. omega (arith, a .0, ap (discovery times) e)) (around-holds u s lu ls a) in
+              omega (arith, h .0, L .discoveries u lu, L .discoveries p lp);
+        },
+      ))
+      (F .tree s (on s ls))
+
+  -- place k of the times is the discovery or the finish of slot k / 2
+  At : ℕ → Type 0
+  At k = ((k ≡ 2 * (k / 2)) × (getD times k 0 ≡ D (k / 2))) ⊎ ((k ≡ 2 * (k / 2) + 1) × (getD times k 0 ≡ E (k / 2)))
+
+  at : (k : ℕ) → k < 4 * v → At k
+  unfolding At
+  at k lk =
+      ⊎-elim
+      (λ (e : k ≡ 2 * (k / 2)). inl (e, ap (λ (j : ℕ). getD times j 0) e ∙ L .discoveries (k / 2) (omega arith)))
+      (λ (n : k ≡ 2 * (k / 2) → ⊥). let e : k ≡ 2 * (k / 2) + 1 = omega arith in inr (e, ap (λ (j : ℕ). getD times j 0) e ∙ L .finishes (k / 2) (omega arith)))
+      (same-or k (2 * (k / 2)))
+
+  -- a discovery is no finish, and two slots share neither
+  apart : (s u : ℕ) → s < 2 * v → u < 2 * v → (D s ≡ D u → s ≡ u) × (E s ≡ E u → s ≡ u) × (D s ≡ E u → ⊥)
+  apart s u ls lu =
+      ⊎-elim
+      (λ (e : s ≡ u). (λ _. e, λ _. e, λ h. omega (arith, F .spans s (on s ls), h, ap E e)))
+      (λ (d : s ≡ u → ⊥). let t = times-apart adj σ F s u (on s ls) (on u lu) d in (λ h. absurd (t .0 h), λ h. absurd (t .1 h), t .2))
+      (same-or s u)
+
+  every-time : Times (4 * v) times
+  unfolding At
+  every-time = record { ranged = λ k lk. bounds k lk (at k lk); once = λ j lj k lk e. same j k lj lk e (at j lj) (at k lk) }
+    where
+      bounds : (k : ℕ) → k < 4 * v → At k → (0 < getD times k 0) × (getD times k 0 ≤ 4 * v)
+      bounds k lk a =
+          let s = k / 2 in
+          let ls : s < 2 * v = omega arith in
+          ⊎-elim
+          (λ h. (omega (arith, h .1, on s ls), omega (arith, h .1, F .spans s (on s ls), F .past s (on s ls), S .end)))
+          (λ h. (omega (arith, h .1, F .spans s (on s ls)), omega (arith, h .1, F .past s (on s ls), S .end)))
+          a
+
+      same : (j k : ℕ) → j < 4 * v → k < 4 * v → getD times j 0 ≡ getD times k 0 → At j → At k → j ≡ k
+      same j k lj lk e (inl a) (inl b) = omega (arith, a .0, b .0, apart (j / 2) (k / 2) (omega arith) (omega arith) .0 (sym (a .1) ∙ e ∙ b .1))
+      same j k lj lk e (inl a) (inr b) = absurd (apart (j / 2) (k / 2) (omega arith) (omega arith) .2 (sym (a .1) ∙ e ∙ b .1))
+      same j k lj lk e (inr a) (inl b) = absurd (apart (k / 2) (j / 2) (omega arith) (omega arith) .2 (sym (b .1) ∙ sym e ∙ a .1))
+      same j k lj lk e (inr a) (inr b) = omega (arith, a .0, b .0, apart (j / 2) (k / 2) (omega arith) (omega arith) .1 (sym (a .1) ∙ e ∙ b .1))
+
+  pub stamped-fresh : FreshStamps v times links
+  stamped-fresh = fresh-from v times links every-time entered left
+
+-- ---- the records of two columns
+
+module _ {A : Type 0} where
+  pub first-of : (xs ys : List A) (s : ℕ) (d : A) → s < length xs → length ys ≡ length xs → getD (interleave xs ys) (2 * s) d ≡ getD xs s d
+  unfolding interleave
+  first-of [] ys s d lt len = absurd (omega arith)
+  first-of (x ∷ xs) [] s d lt len = absurd (omega arith)
+  first-of (x ∷ xs) (y ∷ ys) zero d lt len = refl
+  first-of (x ∷ xs) (y ∷ ys) (suc s) d lt len =
+      ap (λ (k : ℕ). getD (x ∷ y ∷ interleave xs ys) k d) (let e : 2 * suc s ≡ suc (suc (2 * s)) = omega arith in e) ∙ first-of xs ys s d (omega arith) (omega arith)
+
+  pub second-of : (xs ys : List A) (s : ℕ) (d : A) → s < length xs → length ys ≡ length xs → getD (interleave xs ys) (2 * s + 1) d ≡ getD ys s d
+  unfolding interleave
+  second-of [] ys s d lt len = absurd (omega arith)
+  second-of (x ∷ xs) [] s d lt len = absurd (omega arith)
+  second-of (x ∷ xs) (y ∷ ys) zero d lt len = refl
+  second-of (x ∷ xs) (y ∷ ys) (suc s) d lt len =
+      ap (λ (k : ℕ). getD (x ∷ y ∷ interleave xs ys) k d) (let e : 2 * suc s + 1 ≡ suc (suc (2 * s + 1)) = omega arith in e) ∙ second-of xs ys s d (omega arith) (omega arith)
+
+  front-first : (xs ys r : List A) (s : ℕ) (d : A) → s < length xs → length ys ≡ length xs → getD (interleave xs ys ++ r) (2 * s) d ≡ getD xs s d
+  front-first xs ys r s d lt len = List·getD-append (interleave xs ys) r d (2 * s) (omega (arith, many-records xs ys len)) ∙ first-of xs ys s d lt len
+
+  front-second : (xs ys r : List A) (s : ℕ) (d : A) → s < length xs → length ys ≡ length xs → getD (interleave xs ys ++ r) (2 * s + 1) d ≡ getD ys s d
+  front-second xs ys r s d lt len = List·getD-append (interleave xs ys) r d (2 * s + 1) (omega (arith, many-records xs ys len)) ∙ second-of xs ys s d lt len
+
+literal-at : (l : List ℕ) (s : ℕ) → s < length l → getD (map litAt l) s (pos 0) ≡ litAt (getD l s 0)
+literal-at l s lt = getD-any (map litAt l) s (pos 0) (litAt 0) (omega (arith, lt, length-map l litAt)) ∙ List·getD-map litAt l s 0
+
+-- ---- Stamp's
+
+module _ {v n : ℕ} {cs : List ℕ} {ls : List ℤ} {order : List ℤ} (P : Proper v n cs ls) (F : Full v order) where
+  abbrev clauses : List (List ℕ)
+  clauses = slotsFrom cs ls n 0
+
+  abbrev slots : List ℕ
+  slots = map slotOf order
+
+  abbrev σ : Stamps
+  σ = stampsOf clauses (2 * v) slots
+
+  -- the walk leaves the columns' lengths as they were
+  stamps-less : Less (blank (2 * v) (replicate (2 * v) 0) (replicate (2 * v) 0) (replicate (2 * v) 0)) σ
+  unfolding stampsOf stampAll starts
+  stamps-less =
+      let m : ℕ = 2 * v in
+      let z : List ℕ = replicate m 0 in
+      let adj : ℕ → List ℕ = implications clauses in
+      let root : ℕ → Bool = λ q. absent q (tos clauses) in
+      let visit : ℕ → Stamps → Stamps = starts (length {A = ℕ} (replicate m 0)) adj in
+      let inside : (s q : ℕ) → s < m → List·Memᴰ q (adj s) → q < m = λ s q lt k. edge-below clauses v (slots-in (P .listed)) s q k .1 in
+      let less = edges-less adj m inside visit (λ q τ. enters-less adj m inside (length {A = ℕ} (replicate m 0)) q q q τ) in
+      let below = full-ordered F .below in
+      let one = less (filter root slots) (λ q k. below q (mem-filter root slots k)) (blank m z z z) (length-replicate m 0) in
+      let two = less slots below (edges visit (filter root slots) (blank m z z z)) (one .discs ∙ length-replicate m 0) in
+      less-trans (blank m z z z) (edges visit (filter root slots) (blank m z z z)) σ one two
+
+  pub disc-size : length (σ .disc) ≡ 2 * v
+  disc-size = stamps-less .discs ∙ length-replicate (2 * v) 0
+
+  pub fin-size : length (σ .fin) ≡ 2 * v
+  fin-size = stamps-less .fins ∙ length-replicate (2 * v) 0
+
+  pub par-size : length (σ .par) ≡ 2 * v
+  par-size = stamps-less .pars ∙ length-replicate (2 * v) 0
+
+  pub top-size : length (σ .start) ≡ 2 * v
+  top-size = stamps-less .starts ∙ length-replicate (2 * v) 0
+
+  pub stamps-forest : Stamped (implications clauses) (2 * v) σ
+  unfolding stampsOf
+  stamps-forest =
+      let z : length (replicate {A = ℕ} (2 * v) 0) ≡ 2 * v = length-replicate (2 * v) 0 in
+      walk-stamped P (full-ordered F) (replicate (2 * v) 0) (replicate (2 * v) 0) (replicate (2 * v) 0) z z z disc-size
+
+  module _ (t : Tables) where
+    abbrev t′ : Tables
+    t′ = stampedTables v σ t
+
+    laid : Laid v σ (t′ .times) (t′ .links)
+    unfolding stampedTables
+    laid =
+        let mp = length-map (σ .par) litAt in
+        let ms = length-map (σ .start) litAt in
+        record {
+          discoveries = λ s lt. front-first (σ .disc) (σ .fin) (drop (4 * v) (t .times)) s 0 (omega (arith, disc-size)) (fin-size ∙ sym disc-size);
+          finishes = λ s lt. front-second (σ .disc) (σ .fin) (drop (4 * v) (t .times)) s 0 (omega (arith, disc-size)) (fin-size ∙ sym disc-size);
+          parents = λ s lt.
+              front-first (map litAt (σ .par)) (map litAt (σ .start)) (drop (4 * v) (t .links)) s (pos 0) (omega (arith, par-size, mp)) (omega (arith, par-size, top-size, mp, ms))
+              ∙ literal-at (σ .par) s (omega (arith, par-size));
+          starts = λ s lt.
+              front-second (map litAt (σ .par)) (map litAt (σ .start)) (drop (4 * v) (t .links)) s (pos 0) (omega (arith, par-size, mp)) (omega (arith, par-size, top-size, mp, ms))
+              ∙ literal-at (σ .start) s (omega (arith, top-size));
+        }
+
+    pub records-fresh : FreshStamps v (t′ .times) (t′ .links)
+    records-fresh = stamped-fresh v (implications clauses) σ (t′ .times) (t′ .links) stamps-forest disc-size laid
+
+    -- no table changes its length
+    pub times-long : 4 * v ≤ length (t .times) → length (t′ .times) ≡ length (t .times)
+    unfolding stampedTables
+    times-long le =
+        length-append (interleave (σ .disc) (σ .fin)) (drop (4 * v) (t .times))
+        ∙ omega (arith, many-records (σ .disc) (σ .fin) (fin-size ∙ sym disc-size), disc-size, length-drop (4 * v) (t .times))
+
+    pub links-long : 4 * v ≤ length (t .links) → length (t′ .links) ≡ length (t .links)
+    unfolding stampedTables
+    links-long le =
+        let mp = length-map (σ .par) litAt in
+        let ms = length-map (σ .start) litAt in
+        length-append (interleave (map litAt (σ .par)) (map litAt (σ .start))) (drop (4 * v) (t .links))
+        ∙ omega (arith, many-records (map litAt (σ .par)) (map litAt (σ .start)) (omega (arith, par-size, top-size, mp, ms)), par-size, mp, length-drop (4 * v) (t .links))

@@ -1,0 +1,94 @@
+-- `sweep::sweep_from` meets its contract. Assumes nothing.
+use Rattle.sweep.proofs.Calling.{counts-are, from-is, slots-room, ready-counted}
+use Rattle.tables.specs.Tables.{tables}
+use mathlib.Core.Path.{_∙_}
+use native.Mathlib.Nat.{min-le-right}
+use native.Mathlib.Omega.{arith}
+use Prim.Native.Nat.{_+_, _-_, _≤_}
+use borrow.Author.Needs.{needs}
+use Rattle.sweep.proofs.sweep_from.Statement.{statement}
+use Rattle.sweep.proofs.sweep_from.Tie as tie
+use Rattle.sweep.proofs.sweep_from.Reads as reads
+use Rattle.sweep.proofs.sweep_from.Lts as lts
+use Rattle.clauses.proofs.count_standing.Reads as count-standing-reads
+use Rattle.clauses.proofs.counts_of.Reads as counts-of-reads
+use Rattle.sweep.proofs.answer_at.Reads as answer-at-reads
+use Rattle.sweep.proofs.fewer.Reads as fewer-reads
+use Rattle.sweep.proofs.sweep_visits.Reads as sweep-visits-reads
+
+-- the visits that are made are left
+room : (c : tie.After-fewer) → c .before .before .before .before .before .args .cursor + c .fewer .result ≤ c .before .before .before .before .before .args .st .n
+room c = omega (arith, c .fewer .ensures, min-le-right (c .before .before .before .before .before .args .steps) (c .before .before .before .before .before .args .st .n - c .before .before .before .before .before .args .cursor), c .before .before .before .before .before .pre .1)
+
+cast-count-standing : tie.Need-cast-count-standing
+cast-count-standing c = search needs
+
+count-standing-requires : tie.Need-count-standing-requires
+count-standing-requires c κs = ready-counted (c .before .before .before .pre .0)
+
+sub-fewer : tie.Need-sub-fewer
+sub-fewer c = search needs
+
+fewer-requires : tie.Need-fewer-requires
+fewer-requires c κs = search needs
+
+slice-aggregate-sweep-visits : tie.Need-slice-aggregate-sweep-visits
+slice-aggregate-sweep-visits c = search needs
+
+slice-aggregate-sweep-visits-2 : tie.Need-slice-aggregate-sweep-visits-2
+slice-aggregate-sweep-visits-2 c = search needs
+
+cast-sweep-visits : tie.Need-cast-sweep-visits
+cast-sweep-visits c = search needs
+
+sweep-visits-requires : tie.Need-sweep-visits-requires
+sweep-visits-requires c κs = (record { number = c .before .before .before .before .before .before .before .before .before .args .st .n; ready = c .before .before .before .before .before .before .before .before .before .pre .0; room = room (c .before .before .before .before) }, slots-room, slots-room)
+
+cast-count-standing-2 : tie.Need-cast-count-standing-2
+cast-count-standing-2 c = search needs
+
+count-standing-requires-2 : tie.Need-count-standing-requires-2
+count-standing-requires-2 c κs = ready-counted (c .before .before .before .before .before .before .sweep-visits .ensures .0 (c .before .before .before .before .before .before .before .before .before .before .before .before .before .before .before .before .args .st .n) (room (c .before .before .before .before .before .before .before .before .before .before .before)) (c .before .before .before .before .before .before .before .before .before .before .before .before .before .before .before .before .pre .0))
+
+add-answer-at : tie.Need-add-answer-at
+add-answer-at c = search needs
+
+counts-of-requires : tie.Need-counts-of-requires
+counts-of-requires c κs = search needs
+
+answer-at-requires : tie.Need-answer-at-requires
+answer-at-requires c κs = search needs
+
+same-length : tie.Need-same-length
+same-length c = search needs
+
+same-length-2 : tie.Need-same-length-2
+same-length-2 c = search needs
+
+returns : tie.Need-returns
+returns c = λ w. let a = c .before .before .before .before .before .before .before .before .before .before .before .before .before .before .before .before .before .before .before .args in let v = c .before .before .before .before .before .before .before .before .before .sweep-visits in
+    c .answer-at .ensures (tables (v .last .0) (v .last .1 .0) w (a .times .now) (a .links .now))
+    ∙ from-is (a .steps) (a .cursor) (c .before .before .before .before .before .before .before .before .before .before .before .before .before .before .fewer .result) (tables (a .clauses .now) (a .literals .now) w (a .times .now) (a .links .now)) (tables (v .last .0) (v .last .1 .0) w (a .times .now) (a .links .now)) (a .st) (c .before .counts-of .result)
+    (c .before .before .before .before .before .before .before .before .before .before .before .before .before .before .fewer .ensures) (v .ensures .1 w)
+    (counts-are (c .before .counts-of .result) (c .before .before .before .before .before .before .before .before .before .before .before .before .before .before .fewer .result) (c .before .before .before .before .before .before .before .before .before .before .before .before .before .before .before .count-standing .result .clauses) (c .before .before .count-standing2 .result .clauses) (c .before .before .before .before .before .before .before .before .before .before .before .before .before .before .before .count-standing .result .literals) (c .before .before .count-standing2 .result .literals) _ _ _ _ (c .before .counts-of .ensures) (c .before .before .before .before .before .before .before .before .before .before .before .before .before .before .before .count-standing .ensures) (c .before .before .count-standing2 .ensures))
+
+pub sweep-from-spec : {M : Type 1} → statement M
+sweep-from-spec =
+    tie.close
+    (tie.spec
+    cast-count-standing
+    count-standing-requires
+    sub-fewer
+    fewer-requires
+    slice-aggregate-sweep-visits
+    slice-aggregate-sweep-visits-2
+    cast-sweep-visits
+    sweep-visits-requires
+    cast-count-standing-2
+    count-standing-requires-2
+    add-answer-at
+    counts-of-requires
+    answer-at-requires
+    same-length
+    same-length-2
+    returns)

@@ -1,0 +1,72 @@
+-- `sweep::visit_part` meets its contract. Assumes nothing.
+use Rattle.sweep.proofs.Parting.{part-short, part-dropped, part-left, shorten-shorter}
+use Rattle.figures.proofs.Judging.{judged-clause}
+use Rattle.stamps.specs.Columns.{columns}
+use mathlib.Core.List.{[]}
+use mathlib.Core.Path.{sym, _∙_}
+use native.Mathlib.Omega.{arith}
+use borrow.Author.Needs.{needs}
+use Rattle.sweep.proofs.visit_part.Statement.{statement}
+use Rattle.sweep.proofs.visit_part.Tie as tie
+use Rattle.sweep.proofs.visit_part.Reads as reads
+use Rattle.sweep.proofs.visit_part.Lts as lts
+use Rattle.figures.proofs.hidden_tautology.Reads as hidden-tautology-reads
+use Rattle.figures.proofs.shorten_part.Reads as shorten-part-reads
+use Rattle.literal.proofs.zero_from.Reads as zero-from-reads
+
+returns : tie.Need-returns
+returns c = part-short (c .before .before .before .before .args .times .now) (c .before .before .before .before .args .links .now) (c .before .before .before .before .args .part .now) (c .before .before .before .before .args .part .now) (c .if1 .taken)
+
+hidden-tautology-requires : tie.Need-hidden-tautology-requires
+hidden-tautology-requires c κs = search needs
+
+zero-from-requires : tie.Need-zero-from-requires
+zero-from-requires c κs = search needs
+
+same-length : tie.Need-same-length
+same-length c = search needs
+
+same-length-2 : tie.Need-same-length-2
+same-length-2 c = search needs
+
+same-length-3 : tie.Need-same-length-3
+same-length-3 c = search needs
+
+returns-2 : tie.Need-returns-2
+returns-2 c = part-dropped (c .before .before .before .before .before .before .before .before .before .before .before .before .before .before .before .before .args .times .now) (c .before .before .before .before .before .before .before .before .before .before .before .before .before .before .before .before .args .links .now) (c .before .before .before .before .before .before .before .before .before .before .before .before .before .before .before .before .args .part .now) (c .before .zero-from .last .0) (c .before .before .before .before .before .before .before .before .before .before .before .before .if1 .left) (sym (c .before .before .before .before .before .before .before .before .hidden-tautology .ensures .0) ∙ c .before .before .before .if2 .taken) (c .before .zero-from .ensures)
+
+shorten-part-requires : tie.Need-shorten-part-requires
+shorten-part-requires c κs = (judged-clause (c .before .before .before .before .before .before .before .before .before .before .before .before .before .before .before .before .pre .0), c .before .before .before .before .before .before .before .before .hidden-tautology .ensures .1, c .before .before .before .before .before .before .before .before .hidden-tautology .kept .1 .1 .1 .1 .0 ∙ c .before .before .before .before .before .before .before .before .before .before .before .before .before .before .before .before .pre .3)
+
+cast-t25 : tie.Need-cast-t25
+cast-t25 c = let h = shorten-shorter (columns (c .before .before .before .before .before .before .before .before .before .before .before .before .before .before .before .before .before .before .before .before .before .before .args .times .now) []) (c .before .before .before .before .before .before .before .before .before .before .before .before .before .before .before .before .before .before .before .before .before .before .args .part .now) in omega (arith, h, c .before .before .before .before .before .shorten-part .ensures .0, c .before .before .before .before .before .before .before .before .before .before .before .before .before .before .before .before .before .before .before .before .before .before .pre .1)
+
+same-length-4 : tie.Need-same-length-4
+same-length-4 c = search needs
+
+same-length-5 : tie.Need-same-length-5
+same-length-5 c = search needs
+
+same-length-6 : tie.Need-same-length-6
+same-length-6 c = search needs
+
+returns-3 : tie.Need-returns-3
+returns-3 c = part-left (c .before .before .before .before .before .before .before .before .before .before .before .before .before .before .before .before .before .before .before .before .before .before .args .times .now) (c .before .before .before .before .before .before .before .before .before .before .before .before .before .before .before .before .before .before .before .before .before .before .args .links .now) (c .before .before .before .before .before .before .before .before .before .before .before .before .before .before .before .before .before .before .before .before .before .before .args .part .now) (c .before .before .before .before .before .shorten-part .last .0) (c .before .before .before .before .before .shorten-part .result) (c .before .before .before .before .before .before .before .before .before .before .before .before .before .before .before .before .before .before .if1 .left) (sym (c .before .before .before .before .before .before .before .before .before .before .before .before .before .before .hidden-tautology .ensures .0) ∙ c .before .before .before .before .before .before .before .before .before .if2 .left) (c .before .before .before .before .before .shorten-part .ensures)
+
+pub visit-part-spec : {M : Type 1} → statement M
+visit-part-spec =
+    tie.close
+    (tie.spec
+    returns
+    hidden-tautology-requires
+    zero-from-requires
+    same-length
+    same-length-2
+    same-length-3
+    returns-2
+    shorten-part-requires
+    cast-t25
+    same-length-4
+    same-length-5
+    same-length-6
+    returns-3)
