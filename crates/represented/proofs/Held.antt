@@ -136,6 +136,7 @@ merge-held {f} steps t st H = by (entryOf 2 t st) refl (merge-shaped steps t st 
         → Held f (elim b as (λ x. After) [ true ↦ refuse (Unsettled (firstUnsettled t (st .n) + 1)) st t | false ↦ mergeOpen steps t st ] .tables) (elim b as (λ x. After) [ true ↦ refuse (Unsettled (firstUnsettled t (st .n) + 1)) st t | false ↦ mergeOpen steps t st ] .state)
     opens true S R = H
     opens false S R = held-spent H (mergeOpen steps t st) (open-spends st steps t) S R
+
     by : (e : Entry) → entryOf 2 t st ≡ e → Shape (mergeBy e steps t st .tables) (mergeBy e steps t st .state) → Reached st (H .core) (mergeBy e steps t st) → Held f (mergeBy e steps t st .tables) (mergeBy e steps t st .state)
     by (No r) q S R = H
     by Opens q S R = opens (ltb (firstUnsettled t (st .n)) (st .n)) S R

@@ -71,9 +71,11 @@ stamp-held {f} order t st H = by (askOf order t st) refl
   where
     So : After → Type 0
     So a = Held f (a .tables) (a .state)
+
     walked : Known order t st → (b : Bool) → cyclic (implications (slotsFrom (t .clauses) (t .literals) (st .n) 0)) (2 * st .v) ≡ b → So (stampAcyclic order t st)
     walked K true e = subst So (sym (acyclic-no order t st e)) H
     walked K false e = subst So (sym (acyclic-yes order t st e)) (fresh-held H K e)
+
     by : (r : Ruling) → askOf order t st ≡ r → So (stampCall order t st)
     by (No r) e = subst So (call-refused order t st r e) H
     by Fit e = subst So (call-fit order t st e) (walked (fit-known t st order e) (cyclic (implications (slotsFrom (t .clauses) (t .literals) (st .n) 0)) (2 * st .v)) refl)

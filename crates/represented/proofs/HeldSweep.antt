@@ -54,9 +54,11 @@ visit-beside σ k t = by-flag (T.standing (t .clauses) k) (literalsOf (t .clause
   where
     same : Beside t t
     same = record { variables = refl; times = refl; links = refl }
+
     by-fate : (b : Bool) (C : List ℤ) → Beside t (store k (elim b as (λ x. Fate) [ true ↦ fates.dropped | false ↦ fates.left C ]) t)
     by-fate true C = record { variables = refl; times = refl; links = refl }
     by-fate false C = record { variables = refl; times = refl; links = refl }
+
     by-flag : (flag : ℕ) (C : List ℤ) → Beside t (store k (elim flag as (λ x. Fate) [ zero ↦ fates.kept | suc _ ↦ sweepClause σ C ]) t)
     by-flag zero C = same
     by-flag (suc x) [] = same
@@ -135,6 +137,7 @@ module _ {f : List Clause} {t : Tables} {st : State} (H : Held f t st) (F : Form
       where
         So : After → Type 0
         So a = Held f (a .tables) (a .state)
+
         by : (b : Bool) → ltb (c + m) (st .n) ≡ b → So (elim b as (λ x. After) [
           | true ↦ answered (Open (gone m (st .n) (t .clauses) (t′ .clauses))) (state (st .v) (st .n) (Sweep (c + m)) true false) t′
           | false ↦ answered (Done (gone m (st .n) (t .clauses) (t′ .clauses))) (state (st .v) (st .n) Idle false false) t′
@@ -167,9 +170,11 @@ sweep-held {f} steps t st H = by (entryOf 3 t st) refl
         by-stamps (from σ c A at) ms =
             from-held H (entered-formed E d) (subst (λ (b : Bool). Represented (st .v) (st .n) b t (H .core)) (E .unmarked) (H .tied)) (H .shape .stamps e) (sweepCursor (st .pass)) (within (st .pass) (st .n) (entered-cursor E)) σ A
             (subst (λ (x : ℕ). Moves (st .v) (load f) spent (H .core) (fresh σ x)) (at-cursor (st .pass) c at) ms) steps
+
     unless : {n : ℕ} → Entered n t st → ((n ≡ 2) → ⊥) → (b : Bool) → st .fresh ≡ b → Held f (unlessStale b steps t st .tables) (unlessStale b steps t st .state)
     unless E d true e = stamped E d e
     unless E d false e = H
+
     by : (e : Entry) → entryOf 3 t st ≡ e → Held f (sweepBy e steps t st .tables) (sweepBy e steps t st .state)
     by (No r) q = H
     by Opens q = unless (opens-entered 3 t st q) (λ z. omega arith) (st .fresh) refl

@@ -44,6 +44,7 @@ visit-simulated {v} {n} {c} {t} {k} F R lt = by-flag (T.standing (t .clauses) c)
         → Simulated v n false (store c (elim b as (λ x. Fate) [ true ↦ fates.dropped | false ↦ fates.left (distinct (map (classLiteral (t .variables)) (literalsAt t c))) ]) t) k
     by-fate e true h = merged-dropped F R c lt e h
     by-fate e false h = merged-left F R c lt e
+
     by-flag : (x : ℕ) → T.standing (t .clauses) c ≡ x → Simulated v n false (store c (elim x as (λ y. Fate) [ zero ↦ fates.kept | suc _ ↦ mergeClause (t .variables) (literalsAt t c) ]) t) k
     by-flag zero e = record { to = k; moves = moves.stay; tied = R }
     by-flag (suc x) e = by-fate (let f = F .rule .parts .flag c lt in omega (arith, f, e)) (tautology (distinct (map (classLiteral (t .variables)) (literalsAt t c)))) refl

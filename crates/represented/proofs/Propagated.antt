@@ -17,11 +17,11 @@ use Rattle.literal.specs.Literals.{Literal, slotOf, litAt, twin, eqZ, signBy}
 use Rattle.literal.proofs.Laws.{slot-below}
 use Rattle.base.proofs.Lists.{mem-filter}
 use Rattle.hidden.proofs.Basics.{any-out, in-filter, filter-sub}
-use Rattle.tables.specs.Tables.{Tables, tables, startOf, lengthOf} 
+use Rattle.tables.specs.Tables.{Tables, tables, startOf, lengthOf}
 use Rattle.tables.specs.Tables as T
 use Rattle.tables.specs.Values as values
 use Rattle.tables.specs.Clauses.{literalsOf}
-use Rattle.tables.specs.Fates.{Fate, store, fateAt, shortened, droppedAt} 
+use Rattle.tables.specs.Fates.{Fate, store, fateAt, shortened, droppedAt}
 use Rattle.tables.specs.Fates as fates
 use Rattle.clauses.specs.Formed.{Formed, Variables, Known}
 use Rattle.clauses.proofs.Stores.{recorded, storedAt, stored-view, stored-other, recorded-other, recorded-here}
@@ -132,8 +132,10 @@ module _ {v n : ℕ} {t : Tables} {k : core.Core} (R : Represented v n false t k
     where
       K : Known (t .variables) x
       K = record { count = v; rows = rows; ranged = X }
+
       c : ℤ
       c = values.classLiteral (t .variables) x
+
       tri : natAbs (signBy (nonNeg c) (pos 1)) ≤ 1
       tri = omega (arith, abs-signed (nonNeg c) (pos 1))
 
@@ -195,12 +197,15 @@ module _ {v n : ℕ} {t : Tables} {k : core.Core} (F : Formed v n n false (t .cl
     where
       member : List·Memᴰ x (notFalse (t .variables) (literalsAt t i))
       member = subst (List·Memᴰ x) (sym e) (List·Memᴰ·head refl)
+
       X : Literal v x
       X = member-lit F R i lt (mem-filter (λ l. not (values.isFalse (t .variables) l)) (literalsAt t i) member)
+
       put-twice : Represented v n false (tables (recorded (t .clauses) i 0 0) (storedAt (t .clauses) (t .literals) i []) (t .variables) (t .times) (t .links)) (core.put i dropped (core.put i (standing (slotOf x ∷ [])) k))
       put-twice =
           subst (Represented v n false (tables (recorded (t .clauses) i 0 0) (storedAt (t .clauses) (t .literals) i []) (t .variables) (t .times) (t .links)))
           (ap (λ (l : List Clause). core.withClauses l k) (sym (set-set (k .clauses) i (standing (slotOf x ∷ [])) dropped))) (put-represented F R i lt [] 0 dropped (omega arith) refl)
+
       -- it is not false
       kept : values.isFalse (t .variables) x ≡ false
       kept = flip (values.isFalse (t .variables) x) (filter-test (λ l. not (values.isFalse (t .variables) l)) (literalsAt t i) member)

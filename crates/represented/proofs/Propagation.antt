@@ -68,9 +68,11 @@ module _ {v n : ℕ} {t : Tables} {k : core.Core} (F : FormedIn v n t) (R : Repr
     where
       As : Fate → Type 0
       As f = Simulated v n (sets f) (store i f t) k
+
       by-test : (b : Bool) → any (values.isTrue (t .variables)) (literalsAt t i) ≡ b → T.standing (t .clauses) i ≡ 1 → As (propagateClause (t .variables) (literalsAt t i))
       by-test true h e = subst As (sym (fate-true (t .variables) (literalsAt t i) h)) (simulate-dropped F R i lt e h)
       by-test false h e = subst As (sym (fate-left (t .variables) (literalsAt t i) h)) (by-remaining e (notFalse (t .variables) (literalsAt t i)) refl)
+
       by-flag : (x : ℕ) → T.standing (t .clauses) i ≡ x → As (elim x as (λ y. Fate) [ zero ↦ fates.kept | suc _ ↦ propagateClause (t .variables) (literalsAt t i) ])
       by-flag zero e = record { to = k; moves = stay; tied = R }
       by-flag (suc x) e = by-test (any (values.isTrue (t .variables)) (literalsAt t i)) refl (let o = F .rule .parts .flag i lt in omega (arith, o, e))

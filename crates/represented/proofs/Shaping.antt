@@ -86,6 +86,7 @@ module _ {v n sl : ℕ} {t : Tables} {k : core.Core} (F : Formed v n sl false (t
       none : (C : List ℤ) → length C ≡ 0 → [] ≡ map slotOf C
       none [] e = refl
       none (x ∷ C) e = absurd (omega (arith, e))
+
       by : (j : ℕ) → j < n → (x : ℕ) → T.standing (t .clauses) j ≡ x → literalsIn (elim x as (λ y. Clause) [ zero ↦ dropped | suc _ ↦ standing (map slotOf (literalsAt t j)) ]) ≡ map slotOf (literalsAt t j)
       by j lt zero e = none (literalsAt t j) (view-length F j lt ∙ F .rule .parts .dropped j lt e)
       by j lt (suc x) e = refl
