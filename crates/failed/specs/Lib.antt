@@ -1,1 +1,2 @@
 pub mod Failed
+pub mod Steps

@@ -5,7 +5,7 @@ use native.Mathlib.Omega.{arith}
 use mathlib.Core.Path.{_≡_, refl, sym, ap, subst, subst₂, _∙_}
 use mathlib.Core.Bool.{Bool, true, false}
 use mathlib.Core.Logic.{_⊎_, inl, inr, ⊎-elim}
-use mathlib.Core.List.{List}
+use mathlib.Core.List.{List, List·Memᴰ}
 use lib.Dec.{ltb}
 use Rattle.walk.specs.Walk.{Stamps}
 use Rattle.stamps.specs.Columns.{columns}
@@ -29,7 +29,7 @@ use Rattle.propagate.specs.Propagate.{Progress, going, settled, contradicted, b
 use Rattle.propagate.proofs.Shaped.{propagate-shaped}
 use Rattle.merge.specs.Merge.{edgesOf, clashes, mergedClasses, mergeClause, mergeFrom, mergeOpen, mergeSettled, mergeCursor, mergeBy, mergeCall}
 use Rattle.merge.proofs.Shaped.{merge-shaped}
-use Rattle.sound.specs.Formula.{Clause}
+use Rattle.sound.specs.Formula.{Clause, standing}
 use Rattle.demand.specs.Core.{Core, load}
 use Rattle.demand.specs.Moves.{Freshness, spent, fresh, Move, spend, Moves, stay, go}
 use Rattle.represented.specs.Represented.{Represented}
@@ -52,6 +52,8 @@ pub record Held (f : List Clause) (t : Tables) (st : State) : Type 0 where
   pub core : Core
   pub stamped : Freshness
   pub moves : Moves (st .v) (load f) spent core stamped
+  -- the loaded literals are those of the variables
+  pub within : (C : List ℕ) → List·Memᴰ (standing C) f → (l : ℕ) → List·Memᴰ l C → l < 2 * st .v
   pub shape : Shape t st
   pub tied : Represented (st .v) (st .n) (st .mark) t core
   pub stamps : StampsOf t st stamped
@@ -67,6 +69,7 @@ held-spent {f} H a E S R = record {
   core = R .to;
   stamped = spent;
   moves = subst (λ (x : ℕ). Moves x (load f) spent (R .to) spent) (sym (E .v)) (moves-join (go (H .moves) spend) (R .moves));
+  within = subst (λ (x : ℕ). (C : List ℕ) → List·Memᴰ (standing C) f → (l : ℕ) → List·Memᴰ l C → l < 2 * x) (sym (E .v)) (H .within);
   shape = S;
   tied = subst₂ (λ (x y : ℕ). Represented x y (a .state .mark) (a .tables) (R .to)) (sym (E .v)) (sym (E .n)) (R .tied);
   stamps = stale (E .fresh);

@@ -61,6 +61,7 @@ module _ {f : List Clause} {order : List ℤ} {t : Tables} {st : State} (H : Hel
     stamped = fresh σ 0;
     moves = subst (λ (x : Stamps). Moves (st .v) (load f) spent (H .core) (fresh x 0)) same-stamps
         (go (H .moves) (stamp (map slotOf order) (shaped-of formed plain) lists (ap (λ (adj : ℕ → List ℕ). cyclic adj (2 * st .v)) (graph-of formed plain) ∙ acyclic)));
+    within = H .within;
     shape = fresh-shaped K;
     tied = record { number = plain .number; clauses = plain .clauses; classes = plain .classes; facts = plain .facts; beyond = plain .beyond; marks = plain .marks };
     stamps = from σ 0 (stamped-agree (st .v) σ t (disc-size (known-proper K) (K .full)) (fin-size (known-proper K) (K .full)) (par-size (known-proper K) (K .full)) (top-size (known-proper K) (K .full))) refl;

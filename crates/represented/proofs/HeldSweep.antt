@@ -116,6 +116,7 @@ module _ {f : List Clause} {t : Tables} {st : State} (H : Held f t st) (F : Form
       core = k′;
       stamped = fresh σ (c + m);
       moves = go since (sweep m);
+      within = H .within;
       shape = formed-shape t′ (state (st .v) (st .n) (Sweep (c + m)) true false) (after .0) long-times long-links (lt, refl) (λ e. fresh-still);
       tied = after .1;
       stamps = from σ (c + m) agree-still refl;
@@ -126,6 +127,7 @@ module _ {f : List Clause} {t : Tables} {st : State} (H : Held f t st) (F : Form
       core = k′;
       stamped = spent;
       moves = go (go since (sweep m)) spend;
+      within = H .within;
       shape = formed-shape t′ (state (st .v) (st .n) Idle false false) (after .0) long-times long-links tt (λ e. absurd (false≢true e));
       tied = after .1;
       stamps = stale refl;

@@ -12,3 +12,9 @@ pub mod Called
 pub mod Held
 pub mod HeldStamp
 pub mod HeldSweep
+pub mod HeldFailed
+pub mod Laid
+pub mod LaidFormed
+pub mod Loaded
+pub mod Fronts
+pub mod Demand3

@@ -29,7 +29,7 @@ use Rattle.represented.proofs.Propagated.{literalsAt, mem-map, mem-at, 
 use Rattle.represented.proofs.Standing.{mem-number, clause-stands}
 
 -- a class literal of a literal whose variable is its own class is that literal
-own-literal : (w : List ℤ) (l : ℤ) → 0 < natAbs l → classOf w (natAbs l) ≡ pos (natAbs l) → classLiteral w l ≡ l
+pub own-literal : (w : List ℤ) (l : ℤ) → 0 < natAbs l → classOf w (natAbs l) ≡ pos (natAbs l) → classLiteral w l ≡ l
 own-literal w (pos zero) h e = absurd (omega arith)
 own-literal w (pos (suc n)) h e = e
 own-literal w (negsuc n) h e = ap negℤ e

@@ -62,17 +62,22 @@ module _ (f : List Clause) (v n : ℕ) (t : Tables) (S : Stamped v (t .times) (t
     where
       x : ℕ
       x = failedSlot ρ (2 * v) (2 * k)
+
       l : ℤ
       l = litAt (twin x)
+
       s-in : 2 * k < 2 * v
       s-in = omega arith
+
       same-slot : failedSlot σ (2 * v) (2 * k) ≡ x
       same-slot = sym (failed-agree (2 * v) ρ σ A (2 * k) s-in (twin-below v (2 * k) s-in))
+
       back : slotOf l ≡ twin (failedSlot σ (2 * v) (2 * k))
       back = slot-lit (twin x) ∙ ap twin (sym same-slot)
+
       by-values : sameStart ρ (2 * k) ≡ true → (a b : Bool) → values.isTrue w l ≡ a → values.isFalse w l ≡ b
           → After? (elim a as (λ y. Found) [ true ↦ found w m false | false ↦ elim b as (λ y. Found) [ true ↦ found w m true | false ↦ found (values.setTrue w l) (suc m) false ] ] .opposite)
-              (elim a as (λ y. Found) [ true ↦ found w m false | false ↦ elim b as (λ y. Found) [ true ↦ found w m true | false ↦ found (values.setTrue w l) (suc m) false ] ] .variables)
+          (elim a as (λ y. Found) [ true ↦ found w m false | false ↦ elim b as (λ y. Found) [ true ↦ found w m true | false ↦ found (values.setTrue w l) (suc m) false ] ] .variables)
       by-values e true b p q = G
       by-values e false true p q = record {
         core = core.marked (G .core);
@@ -94,8 +99,10 @@ module _ (f : List Clause) (v n : ℕ) (t : Tables) (S : Stamped v (t .times) (t
         where
           L : Literal v l
           L = slot-ranged S (twin x) (twin-below v x (failed-below S (2 * k) s-in e))
+
           set-rows : Variables v (values.setTrue w l)
           set-rows = kept-true (G .rows) l L .rows
+
       by : (b : Bool) → sameStart ρ (2 * k) ≡ b → After? (elim b as (λ y. Found) [ true ↦ assert l w m | false ↦ found w m false ] .opposite) (elim b as (λ y. Found) [ true ↦ assert l w m | false ↦ found w m false ] .variables)
       by true e = by-values e (values.isTrue w l) (values.isFalse w l) refl refl
       by false e = G
@@ -126,6 +133,7 @@ module _ {f : List Clause} {t : Tables} {st : State} (H : Held f t st) where
     core = G .core;
     stamped = spent;
     moves = G .moves;
+    within = H .within;
     shape = subst (λ (b : Bool). Shape (withVariables (x .variables) t) (elim b as (λ y. State) [ true ↦ marked st | false ↦ state (st .v) (st .n) Idle true false ])) e Q;
     tied = G .tied;
     stamps = stale refl;
@@ -134,6 +142,7 @@ module _ {f : List Clause} {t : Tables} {st : State} (H : Held f t st) where
     core = G .core;
     stamped = fresh σ 0;
     moves = G .moves;
+    within = H .within;
     shape = subst (λ (b : Bool). Shape (withVariables (x .variables) t) (elim b as (λ y. State) [ true ↦ marked st | false ↦ state (st .v) (st .n) Idle true false ])) e Q;
     tied = G .tied;
     stamps = from σ 0 A refl;
@@ -146,6 +155,7 @@ module _ {f : List Clause} {t : Tables} {st : State} (H : Held f t st) where
     where
       x : Found
       x = failedFrom (columns (t .times) (t .links)) (2 * st .v) (st .v) 0 (found (t .variables) 0 false)
+
       by-stamps : {w : Freshness} → StampsOf t st w → Moves (st .v) (load f) spent (H .core) w → Held f (failedReply x t st .tables) (failedReply x t st .state)
       by-stamps (stale h) ms = absurd (false≢true (sym h ∙ e))
       by-stamps (from σ c A at) ms =
@@ -165,6 +175,7 @@ failed-held {f} t st H = by (entryOf 0 t st) refl (failed-shape t st (H .shape))
     unless : {k : ℕ} → Entered k t st → k ≡ 0 → (b : Bool) → st .fresh ≡ b → Shape (unlessStale b t st .tables) (unlessStale b t st .state) → Held f (unlessStale b t st .tables) (unlessStale b t st .state)
     unless E z true e Q = fresh-held H (subst (λ (k : ℕ). Entered k t st) z E) e Q
     unless E z false e Q = H
+
     by : (e : Entry) → entryOf 0 t st ≡ e → Shape (failedBy e t st .tables) (failedBy e t st .state) → Held f (failedBy e t st .tables) (failedBy e t st .state)
     by (No r) q Q = H
     by Opens q Q = unless (opens-entered 0 t st q) refl (st .fresh) refl Q
