@@ -34,7 +34,8 @@ use Rattle.hidden.specs.Failed.{sameStart, holdsBoth, lowest, failedSlot}
 use Rattle.stamp.specs.Stamp.{firstBad, stampsOf, stampedTables, stampAcyclic, stampSettled, stampOrdered, stampCall}
 use Rattle.failed.specs.Failed.{failedAt, failedFrom, failedFresh, failedCall}
 use Rattle.sweep.specs.Sweep.{sweepClause, sweepCall}
-use Rattle.unhiding.specs.Run.{settleFor, settle, orderOf, follow, round, unchanged, runFrom, runCall}
+use Rattle.settle.specs.Settle.{settleFor, settle}
+use Rattle.run.specs.Run.{orderOf, follow, round, unchanged, runFrom, runCall}
 use Rattle.unhiding.specs.Texts.{simplifyText, unhideText}
 use Rattle.unhiding.specs.Lists.{Call, propagate, merge, stamp, failed, sweep, stepOn, stepsOn}
 use Rattle.cases.specs.Case.{bytes, Case, calls, prints, Seen, Holds, All}

@@ -170,8 +170,8 @@ pub fn failed_fresh(variables: &mut [i32], times: &[u32], links: &[i32], st: Sta
     }
 }
 
-// Refusal 9 where the stamps are not fresh, and otherwise the call.
-fn unless_stale(variables: &mut [i32], times: &[u32], links: &[i32], st: State) -> Outcome
+// Refusal 9 where the stamps are not fresh, and otherwise the call. Run enters here.
+pub fn unless_stale(variables: &mut [i32], times: &[u32], links: &[i32], st: State) -> Outcome
     requires { ⌜ Callable st (now variables) (now times) (now links) ⌝ }
     ensures { λ r. ⌜ ((clauses : List ℕ) (literals : List ℤ) → after r (tables clauses literals (now (variables .exit)) (now (times .entry)) (now (links .entry)))
         ≡ unlessStale (st .fresh) (tables clauses literals (now (variables .entry)) (now (times .entry)) (now (links .entry))) st) ⌝ }

@@ -10,7 +10,7 @@ use Rattle.base.specs.Lists.{any, first, anyBelow}
 use Rattle.literal.specs.Literals.{twin}
 use Rattle.walk.specs.Walk.{Stamps}
 use Rattle.walk.specs.Forest.{dis, fin, par, top}
-use Rattle.hidden.specs.Hidden.{holds, insert, byDiscovery, passes, scanAt, scan, hiddenTautology, unhidden, shorten}
+use Rattle.hidden.specs.Hidden.{holds, insert, byDiscovery, excepted, passes, scanAt, scan, hiddenTautology, unhidden, shorten}
 use Rattle.hidden.specs.Failed.{sameStart, holdsBoth, lowest, failedSlot}
 use Rattle.hidden.proofs.Basics.{filter-same, sub-mem}
 use Rattle.hidden.proofs.Intervals.{Within}
@@ -66,7 +66,7 @@ module _ (size : ℕ) (σ ρ : Stamps) (A : Agree size σ ρ) where
 
   passes-agree : (two : Bool) (n p : ℕ) → n < size → p < size → passes σ two n p ≡ passes ρ two n p
   unfolding passes
-  passes-agree two n p ln lp = λ i. ltb (A .finishes n ln i) (A .finishes p lp i) || (two && (eqb p (twin n) || eqb (A .parents p lp i) n))
+  passes-agree two n p ln lp = λ i. ltb (A .finishes n ln i) (A .finishes p lp i) || (two && excepted n p (A .parents p lp i))
 
   scanAt-agree : (two : Bool) (next next′ : List ℕ → Bool) (p : ℕ) (ns : List ℕ) → ((ms : List ℕ) → Below size ms → next ms ≡ next′ ms) → p < size → Below size ns → scanAt σ two next p ns ≡ scanAt ρ two next′ p ns
   unfolding scanAt

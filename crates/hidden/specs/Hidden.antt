@@ -26,9 +26,13 @@ byDiscovery σ (x ∷ xs) = insert σ x (byDiscovery σ xs)
 
 -- ---- figure 6: is the clause a hidden tautology?
 
--- line 7: neg ends before pos does; or the clause has two literals, and pos is neg's complement or neg is pos's parent
+-- the two exceptions, for a pos and its parent: pos is neg's complement, or neg is pos's parent
+abbrev pub excepted : ℕ → ℕ → ℕ → Bool
+excepted neg pos parent = eqb pos (twin neg) || eqb parent neg
+
+-- line 7: neg ends before pos does; or the clause has two literals, and an exception holds
 unfoldable pub passes : Stamps → Bool → ℕ → ℕ → Bool
-passes σ two neg pos = ltb (fin σ neg) (fin σ pos) || (two && (eqb pos (twin neg) || eqb (par σ pos) neg))
+passes σ two neg pos = ltb (fin σ neg) (fin σ pos) || (two && excepted neg pos (par σ pos))
 
 -- lines 4 to 10 at one pos: on to the next pos, on to the next neg, or yes
 unfoldable pub scanAt : Stamps → Bool → (List ℕ → Bool) → ℕ → List ℕ → Bool

@@ -1,18 +1,20 @@
 -- Worked cases of document 01 on formulas of slots, by computation, with the stamps from the walk. Assumes nothing.
 use Prim.Native.Nat.{ℕ}
 use mathlib.Core.Path.{_≡_, refl}
-use mathlib.Core.Bool.{false}
+use mathlib.Core.Bool.{true, false}
 use mathlib.Core.List.{List, [], _∷_, map}
 use lib.ListN.{length, getD}
+use lib.Dec.{eqb}
 use Rattle.base.specs.Lists.{any, filter, absent}
 use Rattle.literal.specs.Literals.{twin}
+use Rattle.literal.specs.Assignments.{Assignment}
 use Rattle.walk.specs.Walk.{arrive, leave, edge, edges, enters, starts, stampAll}
 use Rattle.graph.specs.Edges.{outs}
 use Rattle.graph.specs.Clauses.{froms, tos}
 use Rattle.hidden.specs.Hidden.{holds, insert, byDiscovery, passes, scanAt, scan, hiddenTautology, unhidden, shorten}
 use Rattle.hidden.proofs.Cases.{columns2, columns4, columns6}
 use Rattle.stamp.specs.Stamp.{stampsOf}
-use Rattle.sound.specs.Formula.{Clause, dropped, standing, literalsIn, formulaStamps}
+use Rattle.sound.specs.Formula.{Clause, dropped, standing, literalsIn, value, formulaStamps}
 use Rattle.sound.specs.Sweep.{judge, onStanding, visitFirst, sweepFirst, jumps, tautology2, sweepFirst2}
 use Rattle.cycles.specs.Forward.{forward}
 
@@ -68,7 +70,8 @@ unit : sweepFirst 1 columns6 (standing (1 ∷ []) ∷ []) ≡ standing (1 ∷ []
 unfolding columns6 twin holds insert byDiscovery passes scanAt scan hiddenTautology judge onStanding visitFirst
 unit = refl
 
--- ---- P9, whose graph has cycles: the test for refusal 7 fails; with -2 first the rule of change request 2 would drop (1 2) through itself
+-- ---- P9, whose graph has cycles: why Stamp refuses it with 7. Take a rule that drops a pair for any edge p → q of it where p holds q without being its parent (change request 2's).
+-- With -2 first it drops (1 2), and the chain that implies (1 2) runs through that clause: an assignment satisfies the four others and not (1 2)
 
 f9 : List Clause
 f9 = standing (2 ∷ 4 ∷ []) ∷ standing (5 ∷ 1 ∷ []) ∷ standing (0 ∷ 2 ∷ []) ∷ standing (3 ∷ 6 ∷ []) ∷ standing (7 ∷ 0 ∷ []) ∷ []
@@ -79,3 +82,11 @@ o9 = 3 ∷ 0 ∷ 1 ∷ 2 ∷ 4 ∷ 5 ∷ 6 ∷ 7 ∷ []
 p9 : (forward (formulaStamps 4 o9 f9) (froms (map literalsIn f9)) (tos (map literalsIn f9)) ≡ false) × (getD (sweepFirst2 5 (formulaStamps 4 o9 f9) f9) 2 (standing []) ≡ dropped)
 unfolding f9 o9 stampsOf stampAll starts enters edges edge arrive leave filter absent twin froms tos outs literalsIn forward holds insert byDiscovery passes scanAt scan hiddenTautology any unhidden shorten judge onStanding visitFirst jumps tautology2
 p9 = (refl, refl)
+
+-- 3 true and all else false
+τ9 : Assignment
+τ9 v = eqb v 3
+
+p9-lost : map (λ c. any (value τ9) (literalsIn c)) f9 ≡ true ∷ true ∷ false ∷ true ∷ true ∷ []
+unfolding f9 τ9 any value literalsIn
+p9-lost = refl

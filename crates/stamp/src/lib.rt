@@ -49,8 +49,8 @@ pub fn check_order(order: &[i32], v: u32) -> usize
     i
 }
 
-// Refusals 8 and 6, in this order.
-fn ask_ordered(
+// Refusals 8 and 6, in this order: all that Run asks of a Stamp but for a cycle.
+pub fn ask_ordered(
     clauses: &[u32],
     literals: &[i32],
     variables: &[i32],

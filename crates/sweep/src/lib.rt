@@ -202,8 +202,8 @@ fn cursor_of(st: State) -> u32
     }
 }
 
-// A call that no refusal above 9 stops, whether it opens the pass or resumes it.
-fn sweep_entered(
+// A call that no refusal above 9 stops, whether it opens the pass or resumes it. Run enters here.
+pub fn sweep_entered(
     clauses: &mut [u32],
     literals: &mut [i32],
     times: &[u32],

@@ -15,7 +15,7 @@ use Rattle.tables.specs.Calls.{After, state}
 use Rattle.load.specs.Load.{loadCall}
 use Rattle.printing.specs.Printing.{digits}
 use Rattle.write.specs.Write.{AfterWrite, writeCall}
-use Rattle.unhiding.specs.Run.{runCall}
+use Rattle.run.specs.Run.{runCall}
 
 -- tables of the stated sizes that hold 0, and the state that goes with them
 abbrev pub emptyTables : Tables

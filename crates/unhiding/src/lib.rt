@@ -1,2 +1,2 @@
-// The calls as their user sees them, Run, and the call on texts: definitions alone so far, in specs/.
+// The calls as their user sees them, and the call on texts: definitions alone so far, in specs/.
 pub const UNHIDING: u8 = 0;

@@ -1,7 +1,7 @@
--- Document 01: "Run takes a round count (0 to 65,535). A round follows a constant programme of codes: settle (1), stamp (2), failed (3), sweep (4). Settle repeats whole Propagate and Merge passes until a Merge finds only groups of one.
+-- Document 01: "Run takes a round count (0 to 65,535). A round follows a constant programme of codes: settle (1), stamp (2), failed (3), sweep (4). ..
 -- Round k, from 0, uses 1, −1, 2, −2, .. turned left by k mod 2V places (no turn for V = 0). Run stops at the mark, at the count or after a round that changed no clause, class or value, and answers the rounds made, the one in which the mark came included."
 -- Assumes nothing: these are definitions.
-use Prim.Native.Nat.{ℕ, zero, suc, _+_, _*_, _%_}
+use Prim.Native.Nat.{ℕ, zero, suc, _*_, _%_}
 use mathlib.Core.Bool.{Bool, true, false, _&&_, _||_}
 use mathlib.Core.List.{List, [], _∷_, map}
 use lib.ListN.{take}
@@ -9,61 +9,22 @@ use lib.Dec.{eqb}
 use lib.IntN.{ℤ}
 use Rattle.base.specs.Lists.{allBelow, sameList, numbers, turned}
 use Rattle.literal.specs.Literals.{litAt, eqZ}
-use Rattle.groups.specs.Groups.{cyclic}
 use Rattle.state.specs.declared.State.{State}
 use Rattle.state.specs.declared.Answer.the-variants.{Ran}
 use Rattle.tables.specs.Tables.{Tables}
-use Rattle.tables.specs.Clauses.{literalsOf, literalCount}
+use Rattle.tables.specs.Clauses.{literalsOf}
 use Rattle.tables.specs.Calls.{After, answered, refuse}
 use Rattle.shape.specs.Entry.{entryOf}
 use Rattle.shape.specs.declared.Entry.{Entry}
 use Rattle.shape.specs.declared.Entry.the-variants.{No, Opens, Resumes}
-use Rattle.propagate.specs.Propagate.{begin, propagateFrom}
-use Rattle.merge.specs.Merge.{edgesOf, mergeOpen}
-use Rattle.stamp.specs.Stamp.{stampFresh}
-use Rattle.failed.specs.Failed.{failedFresh}
-use Rattle.sweep.specs.Sweep.{sweepFrom}
-
--- the tables and the state between two passes of a run
-pub record Standing : Type 0 where
-  pub tables : Tables
-  pub state : State
-
-abbrev pub between : After → Standing
-between a = record { tables = a .tables; state = a .state }
-
--- ---- settle
-
--- each time through the clauses but the last takes a literal away, so a whole Propagate makes at most so many visits
-abbrev pub enough : Tables → State → ℕ
-enough t st = (literalCount (take (3 * st .n) (t .clauses)) + 2) * st .n
-
--- a whole Propagate
-abbrev pub propagated : Standing → Standing
-propagated w = between (propagateFrom false (enough (w .tables) (w .state)) (begin (w .state .n) (w .tables)) (w .tables) (w .state))
-
--- a whole Merge
-abbrev pub merged : Standing → Standing
-merged w = between (mergeOpen (w .state .n) (w .tables) (w .state))
-
--- a Merge would find a group of two or more
-abbrev pub grouped : Standing → Bool
-grouped w = cyclic (edgesOf (w .tables) (w .state .n)) (2 * w .state .v)
-
--- what follows unless the mark is set
-abbrev pub unmarked : Standing → (Standing → Standing) → Standing
-unmarked w next = elim (w .state .mark) [ true ↦ w | false ↦ next w ]
-
--- each Merge that finds a group leaves fewer variables their own class, so the number of variables and one more is enough
-unfoldable pub settleFor : ℕ → Standing → Standing
-settleFor zero w = w
-settleFor (suc fuel) w = unmarked (propagated w) (λ p. unmarked (merged p) (λ m. elim (grouped p) [ true ↦ settleFor fuel m | false ↦ m ]))
-
-unfoldable pub settle : Standing → Standing
-settle w = settleFor (w .state .v + 1) w
+use Rattle.stamp.specs.Stamp.{stampBy}
+use Rattle.failed.specs.Failed.{failedBy}
+use Rattle.sweep.specs.Sweep.{sweepBy}
+use Rattle.settle.specs.Settle.{Standing, between, unmarked, settle}
 
 -- ---- a round
 
+-- the turn in round k of an order of so many literals
 abbrev pub turnBy : ℕ → ℕ → ℕ
 turnBy k zero = 0
 turnBy k (suc m) = k % suc m
@@ -76,16 +37,16 @@ orderOf v k = turned (turnBy k (2 * v)) (map litAt (numbers 0 (2 * v)))
 abbrev pub programme : List ℕ
 programme = 1 ∷ 2 ∷ 3 ∷ 4 ∷ []
 
--- what a code does in round k
+-- what a code does in round k: settle, or the whole call, which needs no check of the shape
 unfoldable pub follow : ℕ → ℕ → Standing → Standing
 follow k code w =
     elim (eqb code 1) [
       | true ↦ settle w
       | false ↦ elim (eqb code 2) [
-        | true ↦ between (stampFresh (orderOf (w .state .v) k) (w .tables) (w .state))
+        | true ↦ between (stampBy Opens (orderOf (w .state .v) k) (w .tables) (w .state))
         | false ↦ elim (eqb code 3) [
-          | true ↦ between (failedFresh (w .tables) (w .state))
-          | false ↦ elim (eqb code 4) [ true ↦ between (sweepFrom (w .state .n) 0 (w .tables) (w .state)) | false ↦ w ]
+          | true ↦ between (failedBy Opens (w .tables) (w .state))
+          | false ↦ elim (eqb code 4) [ true ↦ between (sweepBy Opens (w .state .n) (w .tables) (w .state)) | false ↦ w ]
         ]
       ]
     ]

@@ -4,7 +4,7 @@ use mathlib.Core.Path.{_≡_, refl}
 use mathlib.Core.List.{List, [], _∷_}
 use lib.IntN.{ℤ, pos, negsuc}
 use Rattle.base.specs.Lists.{numbers, turned}
-use Rattle.unhiding.specs.Run.{orderOf}
+use Rattle.run.specs.Run.{orderOf}
 
 orders : (orderOf 2 0 ≡ pos 1 ∷ negsuc 0 ∷ pos 2 ∷ negsuc 1 ∷ []) × (orderOf 2 5 ≡ negsuc 0 ∷ pos 2 ∷ negsuc 1 ∷ pos 1 ∷ []) × (orderOf 0 3 ≡ [])
 unfolding numbers turned orderOf

@@ -1,0 +1,2 @@
+// Run: rounds of a constant programme of passes.
+pub const RUN: u8 = 0;

@@ -1,0 +1,115 @@
+-- A whole Propagate is a list of Propagate calls: visits can be divided among calls in any way, and each call goes on where the last one stopped. Assumes nothing.
+use Prim.Native.Nat.{ℕ, zero, suc, _+_, _≤_}
+use native.Mathlib.Omega.{arith}
+use mathlib.Core.Path.{_≡_, refl, sym, ap, subst, _∙_}
+use mathlib.Core.Bool.{false}
+use mathlib.Core.List.{List, []}
+use Rattle.base.specs.Decide.{says-yes}
+use Rattle.state.specs.declared.State.{State}
+use Rattle.state.specs.declared.Pass.the-variants.{Propagate}
+use Rattle.tables.specs.Tables.{Tables}
+use Rattle.tables.specs.Calls.{state}
+use Rattle.shape.specs.Shape.{Shape}
+use Rattle.shape.specs.Decision.{shape-agrees}
+use Rattle.shape.specs.Entry.{passNumber, entryOf}
+use Rattle.shape.specs.declared.Entry.the-variants.{Opens, Resumes}
+use Rattle.shape.proofs.Entering.{entry-idle, entry-own}
+use Rattle.propagate.specs.Propagate.{Progress, going, settled, contradicted, begin, propagateVisit, propagateVisits, Reached, reached, replied, propagateFrom, propagateCall}
+use Rattle.propagate.proofs.Calling.{call-opens, call-resumes}
+use Rattle.propagate.proofs.Shaped.{propagate-shaped}
+use Rattle.settle.specs.Settle.{Standing, between, enough, propagated}
+
+-- ---- visits
+
+settled-stays : (n m made : ℕ) (t : Tables) → propagateVisits n m made (settled t) ≡ reached made (settled t)
+unfolding propagateVisits
+settled-stays n zero made t = refl
+settled-stays n (suc m) made t = refl
+
+contradicted-stays : (n m made : ℕ) (t : Tables) → propagateVisits n m made (contradicted t) ≡ reached made (contradicted t)
+unfolding propagateVisits
+contradicted-stays n zero made t = refl
+contradicted-stays n (suc m) made t = refl
+
+-- a visits and then b visits are a + b visits
+pub visits-split : (n a b made : ℕ) (p : Progress) → propagateVisits n (a + b) made p ≡ propagateVisits n b (propagateVisits n a made p .visits) (propagateVisits n a made p .progress)
+unfolding propagateVisits
+visits-split n zero b made p = ap (λ (m : ℕ). propagateVisits n m made p) (let e : 0 + b ≡ b = omega arith in e)
+visits-split n (suc a) b made (going k changed t) =
+    ap (λ (m : ℕ). propagateVisits n m made (going k changed t)) (let e : suc a + b ≡ suc (a + b) = omega arith in e) ∙ visits-split n a b (suc made) (propagateVisit n k changed t)
+visits-split n (suc a) b made (settled t) = settled-stays n (suc a + b) made t ∙ sym (settled-stays n b made t)
+visits-split n (suc a) b made (contradicted t) = contradicted-stays n (suc a + b) made t ∙ sym (contradicted-stays n b made t)
+
+-- where the pass stands does not depend on the visits made before
+pub made-free : (n m made made′ : ℕ) (p : Progress) → propagateVisits n m made p .progress ≡ propagateVisits n m made′ p .progress
+unfolding propagateVisits
+made-free n zero made made′ p = refl
+made-free n (suc m) made made′ (going k changed t) = made-free n m (suc made) (suc made′) (propagateVisit n k changed t)
+made-free n (suc m) made made′ (settled t) = refl
+made-free n (suc m) made made′ (contradicted t) = refl
+
+-- ---- where a call stops
+
+-- the tables and the state, without the counts
+abbrev pub stop : State → Progress → Standing
+stop st q = between (replied false [] st 0 q)
+
+replied-stop : (before : List ℕ) (st st′ : State) (m : ℕ) (q : Progress) → st′ .v ≡ st .v → st′ .n ≡ st .n → between (replied false before st′ m q) ≡ stop st q
+replied-stop before st st′ m (going k changed t) e d = cc
+replied-stop before st st′ m (settled t) e d = cc
+replied-stop before st st′ m (contradicted t) e d = cc
+
+from-stop : (steps : ℕ) (p : Progress) (t : Tables) (st : State) → between (propagateFrom false steps p t st) ≡ stop st (propagateVisits (st .n) steps 0 p .progress)
+unfolding propagateFrom
+from-stop steps p t st = replied-stop (t .clauses) st st (propagateVisits (st .n) steps 0 p .visits) (propagateVisits (st .n) steps 0 p .progress) refl refl
+
+-- what calls of Propagate, of at most 65,535 steps each, make of w
+pub data Calls (w : Standing) : Standing → Type 0 where
+  none : Calls w w
+  more : {x : Standing} → Calls w x → (steps : ℕ) → steps ≤ 65535 → Calls w (between (propagateCall steps (x .tables) (x .state)))
+
+pub calls-shaped : {w x : Standing} → Calls w x → Shape (w .tables) (w .state) → Shape (x .tables) (x .state)
+calls-shaped none S = S
+calls-shaped (more {x} C steps h) S = propagate-shaped steps (x .tables) (x .state) (calls-shaped C S)
+
+module _ (t : Tables) (st : State) (S : Shape t st) (idle : passNumber (st .pass) ≡ 0) (unmarked : st .mark ≡ false) where
+  -- after m visits
+  abbrev after : ℕ → Progress
+  after m = propagateVisits (st .n) m 0 (begin (st .n) t) .progress
+
+  opens : Calls (record { tables = t; state = st }) (stop st (after 0))
+  opens = subst (Calls (record { tables = t; state = st })) (ap between (sym (call-opens 0 t st entry)) ∙ from-stop 0 (begin (st .n) t) t st) (more none 0 (omega arith))
+    where
+      entry : entryOf 1 t st ≡ Opens
+      entry = entry-idle 1 t st (sym (shape-agrees t st (says-yes S))) (passNumber (st .pass)) refl false unmarked idle
+
+  -- a call of b steps more
+  resumes : (b : ℕ) → b ≤ 65535 → (q : Progress) → Calls (record { tables = t; state = st }) (stop st q) → Calls (record { tables = t; state = st }) (stop st (propagateVisits (st .n) b 0 q .progress))
+  resumes b h (going k changed u) C =
+      subst (Calls (record { tables = t; state = st }))
+      (ap between (sym (call-resumes b u (state (st .v) (st .n) (Propagate k changed) false false) entry)) ∙ from-stop b (going k changed u) u (state (st .v) (st .n) (Propagate k changed) false false)
+      ∙ replied-stop [] st (state (st .v) (st .n) (Propagate k changed) false false) 0 (propagateVisits (st .n) b 0 (going k changed u) .progress) refl refl)
+      (more C b h)
+    where
+      entry : entryOf 1 u (state (st .v) (st .n) (Propagate k changed) false false) ≡ Resumes
+      entry =
+          entry-own 1 u (state (st .v) (st .n) (Propagate k changed) false false) (sym (shape-agrees u (state (st .v) (st .n) (Propagate k changed) false false) (says-yes (calls-shaped C S)))) 1 refl false refl
+          (λ z. omega arith) refl
+  resumes b h (settled u) C = subst (λ (r : Reached). Calls (record { tables = t; state = st }) (stop st (r .progress))) (sym (settled-stays (st .n) b 0 u)) C
+  resumes b h (contradicted u) C = subst (λ (r : Reached). Calls (record { tables = t; state = st }) (stop st (r .progress))) (sym (contradicted-stays (st .n) b 0 u)) C
+
+  -- in any division: from a visits to a + b by one call
+  pub more-visits : (a b : ℕ) → b ≤ 65535 → Calls (record { tables = t; state = st }) (stop st (after a)) → Calls (record { tables = t; state = st }) (stop st (after (a + b)))
+  more-visits a b h C =
+      subst (λ (q : Progress). Calls (record { tables = t; state = st }) (stop st q))
+      (made-free (st .n) b 0 (propagateVisits (st .n) a 0 (begin (st .n) t) .visits) (after a) ∙ sym (ap (λ (r : Reached). r .progress) (visits-split (st .n) a b 0 (begin (st .n) t)))) (resumes b h (after a) C)
+
+  -- any number of visits
+  pub visits-calls : (m : ℕ) → Calls (record { tables = t; state = st }) (stop st (after m))
+  visits-calls zero = opens
+  visits-calls (suc m) =
+      subst (λ (x : ℕ). Calls (record { tables = t; state = st }) (stop st (after x))) (let e : m + 1 ≡ suc m = omega arith in e) (more-visits m 1 (omega arith) (visits-calls m))
+
+  -- THE THEOREM: a whole Propagate
+  pub whole-calls : Calls (record { tables = t; state = st }) (propagated (record { tables = t; state = st }))
+  whole-calls = subst (Calls (record { tables = t; state = st })) (sym (from-stop (enough t st) (begin (st .n) t) t st)) (visits-calls (enough t st))
