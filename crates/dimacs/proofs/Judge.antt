@@ -1,13 +1,13 @@
 -- One token of the judgement: what the code's token says of the words, and the step that the definition takes. Assumes nothing.
 use mathlib.Core.Path.{_≡_, refl, sym, ap, _∙_, subst}
-use mathlib.Core.Bool.{Bool, true, false, not, _&&_}
+use mathlib.Core.Bool.{Bool, true, false, not, _&&_, false≢true}
 use mathlib.Core.List.{List, [], _∷_, _++_}
 use mathlib.Core.Logic.{_⊎_, ⊎-elim, inl, inr}
 use Prim.Native.Nat.{ℕ, zero, suc, _+_, _*_, _-_, _≤_, _<_, min}
 use native.Mathlib.Omega.{arith}
 use lib.ListN.{length, take, drop}
 use lib.Dec.{leb, ltb, eqb}
-use borrow.Author.Tests.{lt-ltb, le-ltb, le-leb, lt-leb, leb-true}
+use borrow.Author.Tests.{lt-ltb, le-ltb, le-leb, lt-leb, leb-true, leb-false, ltb-true}
 use Rattle.dimacs.specs.Words.{Word, word, wordsAt, span, isDigit}
 use Rattle.dimacs.specs.Tokens.{Meaning, bad, nought, literal, meaning, tokenBy, tokenOf, decimal}
 use Rattle.dimacs.specs.Text.{Left, left, judge, judgeEnd}
@@ -144,6 +144,36 @@ module _ (v : ℕ) (l : Left) (end : ℕ) (ok : Verdict) {text : List ℕ} {at s
           le-leb (s .exact) v (omega (arith, s .known)),
           lt-ltb 0 (l .literals) (omega (arith, m)),
         )
+
+    -- the three tests at once, as the definition makes them: v is below the number at which a magnitude is cut
+    leb-cut : leb magnitude v ≡ leb (s .exact) v
+    leb-cut = go (leb (s .exact) v) refl
+      where
+        go : (t : Bool) → leb (s .exact) v ≡ t → leb magnitude v ≡ leb (s .exact) v
+        go true e = le-leb magnitude v (omega (arith, s .known, leb-true (s .exact) v e)) ∙ sym e
+        go false e = lt-leb magnitude v (omega (arith, s .known, leb-false (s .exact) v e)) ∙ sym e
+
+    tests : (t : Bool) → (ltb 0 (l .clauses) && (leb magnitude v && ltb 0 (l .literals))) ≡ t → (ltb 0 (l .clauses) && (leb (s .exact) v && ltb 0 (l .literals))) ≡ t
+    tests t e = subst (λ (b : Bool). (ltb 0 (l .clauses) && (b && ltb 0 (l .literals))) ≡ t) leb-cut e
+
+    pub judge-fits : (ltb 0 (l .clauses) && (leb magnitude v && ltb 0 (l .literals))) ≡ true
+        → judge v l (wordsAt (drop at text) at) end ok ≡ judge v (left (l .clauses) (l .literals - 1) true) (wordsAt (drop next text) next) end ok
+    unfolding judge
+    judge-fits e = rw (s .seen .words, s .seen .means, judge, tests true e)
+
+    pub judge-unfit : (ltb 0 (l .clauses) && (leb magnitude v && ltb 0 (l .literals))) ≡ false → judge v l (wordsAt (drop at text) at) end ok ≡ Refused (Limit start)
+    unfolding judge
+    judge-unfit e = rw (s .seen .words, s .seen .means, judge, tests false e)
+
+-- where a literal fits, one is left
+pub fits-left : (v clauses literals magnitude : ℕ) → (ltb 0 clauses && (leb magnitude v && ltb 0 literals)) ≡ true → 0 < literals
+fits-left v clauses literals magnitude e = go (ltb 0 clauses) (leb magnitude v) (ltb 0 literals) refl e
+  where
+    go : (a b t : Bool) → ltb 0 literals ≡ t → (a && (b && t)) ≡ true → 0 < literals
+    go true true true t e = ltb-true 0 literals t
+    go true true false t e = absurd (false≢true e)
+    go true false b t e = absurd (false≢true e)
+    go false a b t e = absurd (false≢true e)
 
 pub judge-end : (v : ℕ) (l : Left) (end : ℕ) (ok : Verdict) (text : List ℕ) (at : ℕ) → wordsAt (drop at text) at ≡ []
     → judge v l (wordsAt (drop at text) at) end ok ≡ judgeEnd l end ok

@@ -1,13 +1,14 @@
 // DIMACS text: bytes, words, tokens, the header, and the judgement of a whole text. Each function is tied to its
 // definition in specs/ by one equation.
 ghost use mathlib.Core.Path.{_≡_};
-ghost use mathlib.Core.Bool.{true, false};
+ghost use mathlib.Core.Bool.{true, false, _&&_};
 ghost use Prim.Native.Nat.{_+_, _*_, _-_, _<_, _≤_, min};
 ghost use lib.ListN.{length, drop};
+ghost use lib.Dec.{leb, ltb};
 ghost use Rattle.dimacs.specs.Words.{isSep, isWordByte, isDigit, span, wordsAt};
 ghost use Rattle.dimacs.specs.Tokens.{decimal, numeral, meaning, tokenBy, tokenOf};
 ghost use Rattle.dimacs.specs.Header.{comments, expect, number, lineEnd, headerRest, header};
-ghost use Rattle.dimacs.specs.Text.{judge, judgeText, left};
+ghost use Rattle.dimacs.specs.Text.{judge, judgeEnd, judgeText, left};
 use state::Refusal;
 
 // What stands at an offset of the text's body: `start` is its first byte, `next` the byte after it. A magnitude above 65,535
@@ -170,7 +171,8 @@ fn word_token(part: &[u8], start: usize, next: usize) -> Token
     numeral_token(part, false, start, next)
 }
 
-pub fn token_at(text: &[u8], at: usize) -> Token
+// The first token from `at` on.
+fn token_at(text: &[u8], at: usize) -> Token
     ensures { λ r. ⌜ r ≡ tokenOf (wordsAt (drop at (now (text .entry))) at) ⌝ }
 {
     let start = separators_end(text, at);
@@ -179,6 +181,35 @@ pub fn token_at(text: &[u8], at: usize) -> Token
     }
     let next = word_end(text, start);
     word_token(&text[start..next], start, next)
+}
+
+// ---- the reader
+
+// It stands on a text at an offset.
+struct Reader<'a> {
+    text: &'a [u8],
+    at: usize,
+}
+
+fn reader_at<'a>(text: &'a [u8], at: usize) -> Reader<'a>
+    ensures { λ r. ⌜ (r .text ≡ text .entry) × (r .at ≡ at) ⌝ }
+{
+    Reader { text, at }
+}
+
+// The first token from where the reader stands. The token says where the reader is to stand for the one behind it.
+fn next_token<'a>(r: Reader<'a>) -> Token
+    ensures { λ t. ⌜ t ≡ tokenOf (wordsAt (drop (r .entry .at) (now (r .entry .text))) (r .entry .at)) ⌝ }
+{
+    token_at(r.text, r.at)
+}
+
+// The token that a reader at `at` gives. Every token of a load, judged or laid, comes from here. The loops keep the reader's
+// offset and not the reader: a function with a local that holds a reference is proved by hand, and these loops are long.
+pub fn token_from(text: &[u8], at: usize) -> Token
+    ensures { λ r. ⌜ r ≡ tokenOf (wordsAt (drop at (now (text .entry))) at) ⌝ }
+{
+    next_token(reader_at(text, at))
 }
 
 // ---- the header
@@ -314,6 +345,32 @@ pub fn read_header(text: &[u8]) -> Header
 
 // ---- the whole text
 
+// The text's end: whether a clause has begun, and how many are missing.
+fn judge_end(clauses: u32, unfinished: bool, end: usize, ok: Verdict) -> Verdict
+    ensures { λ r. ⌜ r ≡ judgeEnd (left clauses 0 unfinished) end ok ⌝ }
+{
+    if unfinished {
+        return Verdict::Refused(Refusal::Grammar(end));
+    }
+    if clauses == 0 {
+        return ok;
+    }
+    Verdict::Refused(Refusal::Limit(end))
+}
+
+// Whether a literal may stand: a clause and a literal are left, and its variable is at most v.
+fn literal_fits(v: u32, clauses: u32, literals: u32, magnitude: u32) -> bool
+    ensures { λ r. ⌜ r ≡ (ltb 0 clauses && (leb magnitude v && ltb 0 literals)) ⌝ }
+{
+    if clauses == 0 {
+        return false;
+    }
+    if v < magnitude {
+        return false;
+    }
+    0 < literals
+}
+
 // The tokens from `body` on, against what is left to the text.
 fn judge_words(text: &[u8], v: u32, n: u32, body: usize) -> Verdict
     requires { ⌜ v < 65535 ⌝ }
@@ -324,15 +381,10 @@ fn judge_words(text: &[u8], v: u32, n: u32, body: usize) -> Verdict
     let mut literals: u32 = 16384;
     let mut unfinished = false;
     loop {
-        match token_at(text, at) {
+        match token_from(text, at) {
             Token::End => {
-                if unfinished {
-                    return Verdict::Refused(Refusal::Grammar(text.len()));
-                }
-                if clauses == 0 {
-                    return Verdict::Fits { v, n, body };
-                }
-                return Verdict::Refused(Refusal::Limit(text.len()));
+                let ok = Verdict::Fits { v, n, body };
+                return judge_end(clauses, unfinished, text.len(), ok);
             }
             Token::Bad(start) => return Verdict::Refused(Refusal::Grammar(start)),
             Token::Zero { start, next } => {
@@ -349,13 +401,7 @@ fn judge_words(text: &[u8], v: u32, n: u32, body: usize) -> Verdict
                 start,
                 next,
             } => {
-                if clauses == 0 {
-                    return Verdict::Refused(Refusal::Limit(start));
-                }
-                if v < magnitude {
-                    return Verdict::Refused(Refusal::Limit(start));
-                }
-                if literals == 0 {
+                if !literal_fits(v, clauses, literals, magnitude) {
                     return Verdict::Refused(Refusal::Limit(start));
                 }
                 literals -= 1;

@@ -130,7 +130,7 @@ fn lay_clauses(
         mark: false,
     };
     loop {
-        match dimacs::token_at(text, at) {
+        match dimacs::token_from(text, at) {
             Token::End => return p,
             // no token of a text that fits is bad
             Token::Bad(_) => return p,

@@ -1,34 +1,14 @@
 // One load as a C function, by which a load is measured.
 ghost use mathlib.Core.Path.{_≡_};
-ghost use Prim.Native.Nat.{ℕ};
-ghost use Rattle.state.specs.Answers.{refusalNumber};
 ghost use Rattle.tables.specs.Tables.{Tables, tables};
 ghost use Rattle.tables.specs.Calls.{after};
 ghost use Rattle.load.specs.Load.{loadCall};
-ghost use Rattle.load_bench.specs.Result.{resultBy, resultOf, blank};
+ghost use Rattle.load_bench.specs.Result.{resultOf, blank};
+use results::refused;
 use state::Answer;
 use state::Outcome;
 use state::Pass;
-use state::Refusal;
 use state::State;
-
-// A refusal's number, negative.
-fn refused(refusal: Refusal) -> i64
-    ensures { λ r. ⌜ ((v : ℕ) → r ≡ resultBy (refusalNumber refusal) v) ⌝ }
-{
-    match refusal {
-        Refusal::Shape => -1,
-        Refusal::Grammar(_) => -2,
-        Refusal::Limit(_) => -3,
-        Refusal::OtherPass => -4,
-        Refusal::Marked => -5,
-        Refusal::Unsettled(_) => -6,
-        Refusal::Cyclic => -7,
-        Refusal::Order(_) => -8,
-        Refusal::Stale => -9,
-        Refusal::Short(_) => -10,
-    }
-}
 
 // V, or the refusal's number, negative.
 fn result_of(outcome: Outcome) -> i64

@@ -18,3 +18,5 @@ pub mod LaidFormed
 pub mod Loaded
 pub mod Fronts
 pub mod Demand3
+pub mod Made
+pub mod Running

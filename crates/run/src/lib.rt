@@ -1,2 +1,507 @@
 // Run: rounds of a constant programme of passes.
-pub const RUN: u8 = 0;
+use shape::Entry;
+use stamp::Ruling;
+use state::Answer;
+use state::Outcome;
+use state::State;
+ghost use mathlib.Core.Path.{_≡_};
+ghost use mathlib.Core.Bool.{true, false, _||_};
+ghost use mathlib.Core.List.{List, [], map};
+ghost use Prim.Native.Nat.{ℕ, _+_, _*_, _≤_};
+ghost use lib.ListN.{length, take};
+ghost use lib.Dec.{eqb};
+ghost use lib.IntN.{ℤ};
+ghost use Rattle.base.specs.Lists.{allBelow, sameList, numbers};
+ghost use Rattle.literal.specs.Literals.{litAt, eqZ};
+ghost use Rattle.state.specs.declared.State.{State};
+ghost use Rattle.tables.specs.Tables.{tables};
+ghost use Rattle.tables.specs.Clauses.{literalsOf};
+ghost use Rattle.tables.specs.Calls.{after};
+ghost use Rattle.stamp.specs.Stamp.{stampOrdered};
+ghost use Rattle.failed.specs.Failed as failing;
+ghost use Rattle.failed.specs.Steps.{Callable};
+ghost use Rattle.sweep.specs.Sweep as sweeping;
+ghost use Rattle.sweep.specs.Visits.{Ready};
+ghost use Rattle.settle.specs.Settle.{between, settle};
+ghost use Rattle.run.specs.Run.{orderOf, programme, follow, round, unchanged, rounds, runFrom, runReply, runCall};
+ghost use Rattle.settle.specs.Steps.{standingIn};
+ghost use Rattle.run.specs.Steps.{Runs, Inside, Places, Saves, Saved, Comparable};
+
+// The pass codes that each round follows: settle, stamp, failed, sweep.
+const PROGRAMME: [u8; 4] = [1, 2, 3, 4];
+
+// What a round leaves, and whether the run stops after it.
+pub struct Turn {
+    pub state: State,
+    pub stop: bool,
+}
+
+// The rounds made, and the state after them.
+pub struct Made {
+    pub made: u32,
+    pub state: State,
+}
+
+// ---- the order of a round
+
+// Writes the literals of the slots from a slot on, in rising order.
+fn write_slots(part: &mut [i32], slot: usize)
+    requires { ⌜ slot + length (now part) ≤ 2048 ⌝ }
+    ensures { λ _. ⌜ now (part .exit) ≡ map litAt (numbers slot (length (now (part .entry)))) ⌝ }
+{
+    let mut i = 0;
+    while i < part.len() {
+        part[i] = literal::lit_at(slot + i);
+        i += 1;
+    }
+}
+
+// Writes 1, -1, 2, -2, .. of v variables, turned left by k mod 2v places.
+fn write_order(order: &mut [i32], v: u32, k: u32)
+    requires { ⌜ (length (now order) ≡ 2 * v) × (v ≤ 1024) ⌝ }
+    ensures { λ _. ⌜ now (order .exit) ≡ orderOf v k ⌝ }
+{
+    let size = order.len();
+    if size == 0 {
+        return;
+    }
+    let turn = k as usize % size;
+    let rest = size - turn;
+    write_slots(&mut order[..rest], turn);
+    write_slots(&mut order[rest..], 0);
+}
+
+// ---- what stood before a round
+
+// Copies the front of a table of numbers that is at least as long.
+fn copy_numbers(from: &[u32], to: &mut [u32])
+    requires { ⌜ length (now to) ≤ length (now from) ⌝ }
+    ensures { λ _. ⌜ now (to .exit) ≡ take (length (now (to .entry))) (now (from .entry)) ⌝ }
+{
+    let mut i = 0;
+    while i < to.len() {
+        to[i] = from[i];
+        i += 1;
+    }
+}
+
+// The same for a table of literals, or of classes and values.
+fn copy_literals(from: &[i32], to: &mut [i32])
+    requires { ⌜ length (now to) ≤ length (now from) ⌝ }
+    ensures { λ _. ⌜ now (to .exit) ≡ take (length (now (to .entry))) (now (from .entry)) ⌝ }
+{
+    let mut i = 0;
+    while i < to.len() {
+        to[i] = from[i];
+        i += 1;
+    }
+}
+
+// Copies the clauses, the literals and the variables, as many as the tables state, into places for them.
+fn save(
+    clauses: &[u32],
+    literals: &[i32],
+    variables: &[i32],
+    kept: &mut [u32],
+    parts: &mut [i32],
+    rows: &mut [i32],
+)
+    requires { ⌜ Saves (now clauses) (now literals) (now variables) (now kept) (now parts) (now rows) ⌝ }
+    ensures { λ _. ⌜ Saved (now (clauses .entry)) (now (literals .entry)) (now (variables .entry)) (now (kept .exit)) (now (parts .exit)) (now (rows .exit)) ⌝ }
+{
+    copy_numbers(clauses, kept);
+    copy_literals(literals, parts);
+    copy_literals(variables, rows);
+}
+
+// Whether two tables of numbers, equally long, are the same.
+fn same_numbers(a: &[u32], b: &[u32]) -> bool
+    requires { ⌜ length (now a) ≡ length (now b) ⌝ }
+    ensures { λ r. ⌜ r ≡ sameList eqb (now (a .entry)) (now (b .entry)) ⌝ }
+{
+    let mut i = 0;
+    while i < a.len() {
+        if a[i] != b[i] {
+            return false;
+        }
+        i += 1;
+    }
+    true
+}
+
+// The same for literals.
+fn same_literals(a: &[i32], b: &[i32]) -> bool
+    requires { ⌜ length (now a) ≡ length (now b) ⌝ }
+    ensures { λ r. ⌜ r ≡ sameList eqZ (now (a .entry)) (now (b .entry)) ⌝ }
+{
+    let mut i = 0;
+    while i < a.len() {
+        if a[i] != b[i] {
+            return false;
+        }
+        i += 1;
+    }
+    true
+}
+
+// Whether each of n clauses has the same literals in two literal tables.
+fn same_parts(clauses: &[u32], old: &[i32], new: &[i32], n: usize) -> bool
+    requires { ⌜ Inside n (now clauses) (now old) (now new) ⌝ }
+    ensures { λ r. ⌜ r ≡ allBelow n (λ i. sameList eqZ (literalsOf (now (clauses .entry)) (now (old .entry)) i) (literalsOf (now (clauses .entry)) (now (new .entry)) i)) ⌝ }
+{
+    let mut i = n;
+    while i > 0 {
+        i -= 1;
+        let start = clauses[3 * i] as usize;
+        let end = start + clauses[3 * i + 1] as usize;
+        if !same_literals(&old[start..end], &new[start..end]) {
+            return false;
+        }
+    }
+    true
+}
+
+// Whether no clause, class or value differs from what stood before a round. Clauses whose records are the same have the same parts.
+fn same_tables(
+    v: u32,
+    n: u32,
+    kept: &[u32],
+    parts: &[i32],
+    rows: &[i32],
+    clauses: &[u32],
+    literals: &[i32],
+    variables: &[i32],
+) -> bool
+    requires { ⌜ Comparable v n (now kept) (now parts) (now rows) (now clauses) (now literals) (now variables) ⌝ }
+    ensures { λ r. ⌜ ((st st′ : State) (times times′ : List ℕ) (links links′ : List ℤ) → st .v ≡ v → st .n ≡ n →
+        r ≡ unchanged (standingIn (tables (now (kept .entry)) (now (parts .entry)) (now (rows .entry)) times links) st)
+        (standingIn (tables (now (clauses .entry)) (now (literals .entry)) (now (variables .entry)) times′ links′) st′)) ⌝ }
+{
+    let records = 3 * n as usize;
+    if !same_numbers(&kept[..records], &clauses[..records]) {
+        return false;
+    }
+    if !same_parts(kept, parts, literals, n as usize) {
+        return false;
+    }
+    let places = 2 * v as usize;
+    same_literals(&rows[..places], &variables[..places])
+}
+
+// One of two, or both.
+fn either(a: bool, b: bool) -> bool
+    ensures { λ r. ⌜ r ≡ (a || b) ⌝ }
+{
+    if a { true } else { b }
+}
+
+// ---- the codes
+
+// Stamp in a given order. Where Stamp would refuse, nothing changes.
+fn stamp_ordered(
+    clauses: &[u32],
+    literals: &[i32],
+    variables: &[i32],
+    times: &mut [u32],
+    links: &mut [i32],
+    st: State,
+    order: &[i32],
+) -> State
+    requires { ⌜ Runs (standingIn (tables (now clauses) (now literals) (now variables) (now times) (now links)) st) ⌝ }
+    ensures { λ r. ⌜ standingIn (tables (now (clauses .entry)) (now (literals .entry)) (now (variables .entry)) (now (times .exit)) (now (links .exit))) r
+        ≡ between (stampOrdered (now (order .entry)) (tables (now (clauses .entry)) (now (literals .entry)) (now (variables .entry)) (now (times .entry)) (now (links .entry))) st) ⌝ }
+{
+    let ruling = stamp::ask_ordered(clauses, literals, variables, st, order);
+    match ruling {
+        Ruling::No(_) => st,
+        Ruling::Fit => {
+            let outcome = stamp::stamp_acyclic(clauses, literals, times, links, st, order);
+            outcome.state
+        }
+    }
+}
+
+// Stamp in the order of round k, for which a place is lent.
+fn stamp_turned(
+    k: u32,
+    clauses: &[u32],
+    literals: &[i32],
+    variables: &[i32],
+    times: &mut [u32],
+    links: &mut [i32],
+    st: State,
+    place: &mut [i32],
+) -> State
+    requires { ⌜ Runs (standingIn (tables (now clauses) (now literals) (now variables) (now times) (now links)) st) × (length (now place) ≡ 2048) ⌝ }
+    ensures { λ r. ⌜ standingIn (tables (now (clauses .entry)) (now (literals .entry)) (now (variables .entry)) (now (times .exit)) (now (links .exit))) r
+        ≡ between (stampOrdered (orderOf (st .v) k) (tables (now (clauses .entry)) (now (literals .entry)) (now (variables .entry)) (now (times .entry)) (now (links .entry))) st) ⌝ }
+{
+    let v = st.v;
+    let size = 2 * v as usize;
+    write_order(&mut place[..size], v, k);
+    stamp_ordered(
+        clauses,
+        literals,
+        variables,
+        times,
+        links,
+        st,
+        &place[..size],
+    )
+}
+
+// Code 2.
+fn follow_stamp(
+    k: u32,
+    clauses: &[u32],
+    literals: &[i32],
+    variables: &[i32],
+    times: &mut [u32],
+    links: &mut [i32],
+    st: State,
+) -> State
+    requires { ⌜ Runs (standingIn (tables (now clauses) (now literals) (now variables) (now times) (now links)) st) ⌝ }
+    ensures { λ r. ⌜ standingIn (tables (now (clauses .entry)) (now (literals .entry)) (now (variables .entry)) (now (times .exit)) (now (links .exit))) r
+        ≡ between (stampOrdered (orderOf (st .v) k) (tables (now (clauses .entry)) (now (literals .entry)) (now (variables .entry)) (now (times .entry)) (now (links .entry))) st) ⌝ }
+{
+    let mut place = [0i32; 2048];
+    stamp_turned(
+        k,
+        clauses,
+        literals,
+        variables,
+        times,
+        links,
+        st,
+        &mut place,
+    )
+}
+
+// Code 3.
+fn follow_failed(variables: &mut [i32], times: &[u32], links: &[i32], st: State) -> State
+    requires { ⌜ Callable st (now variables) (now times) (now links) ⌝ }
+    ensures { λ r. ⌜ ((clauses : List ℕ) (literals : List ℤ) → standingIn (tables clauses literals (now (variables .exit)) (now (times .entry)) (now (links .entry))) r
+        ≡ between (failing.unlessStale (st .fresh) (tables clauses literals (now (variables .entry)) (now (times .entry)) (now (links .entry))) st)) ⌝ }
+{
+    let outcome = failed::unless_stale(variables, times, links, st);
+    outcome.state
+}
+
+// Code 4: a whole Sweep.
+fn follow_sweep(
+    clauses: &mut [u32],
+    literals: &mut [i32],
+    times: &[u32],
+    links: &[i32],
+    st: State,
+) -> State
+    requires { ⌜ (st .fresh ≡ true → Ready (st .n) (now clauses) (now literals) (now times) (now links)) × (sweeping.sweepCursor (st .pass) ≤ st .n) ⌝ }
+    ensures { λ r. ⌜ ((variables : List ℤ) → standingIn (tables (now (clauses .exit)) (now (literals .exit)) variables (now (times .entry)) (now (links .entry))) r
+        ≡ between (sweeping.unlessStale (st .fresh) (st .n) (tables (now (clauses .entry)) (now (literals .entry)) variables (now (times .entry)) (now (links .entry))) st)) ⌝ }
+{
+    let n = st.n;
+    let outcome = sweep::sweep_entered(clauses, literals, times, links, st, n);
+    outcome.state
+}
+
+// What a code does in round k.
+fn follow(
+    code: u8,
+    k: u32,
+    clauses: &mut [u32],
+    literals: &mut [i32],
+    variables: &mut [i32],
+    times: &mut [u32],
+    links: &mut [i32],
+    st: State,
+) -> State
+    requires { ⌜ Runs (standingIn (tables (now clauses) (now literals) (now variables) (now times) (now links)) st) ⌝ }
+    ensures { λ r. ⌜ standingIn (tables (now (clauses .exit)) (now (literals .exit)) (now (variables .exit)) (now (times .exit)) (now (links .exit))) r ≡ follow k code (standingIn (tables (now (clauses .entry)) (now (literals .entry)) (now (variables .entry)) (now (times .entry)) (now (links .entry))) st) ⌝ }
+{
+    if code == 1 {
+        return settle::settle(clauses, literals, variables, st);
+    }
+    if code == 2 {
+        return follow_stamp(k, clauses, literals, variables, times, links, st);
+    }
+    if code == 3 {
+        return follow_failed(variables, times, links, st);
+    }
+    if code == 4 {
+        return follow_sweep(clauses, literals, times, links, st);
+    }
+    st
+}
+
+// ---- rounds
+
+// Round k: the codes of the programme in order, up to the mark.
+fn round(
+    k: u32,
+    clauses: &mut [u32],
+    literals: &mut [i32],
+    variables: &mut [i32],
+    times: &mut [u32],
+    links: &mut [i32],
+    st: State,
+) -> State
+    requires { ⌜ Runs (standingIn (tables (now clauses) (now literals) (now variables) (now times) (now links)) st) ⌝ }
+    ensures { λ r. ⌜ standingIn (tables (now (clauses .exit)) (now (literals .exit)) (now (variables .exit)) (now (times .exit)) (now (links .exit))) r ≡ round k programme (standingIn (tables (now (clauses .entry)) (now (literals .entry)) (now (variables .entry)) (now (times .entry)) (now (links .entry))) st) ⌝ }
+{
+    let mut state = st;
+    let mut i = 0;
+    while i < 4 {
+        let code = PROGRAMME[i];
+        i += 1;
+        state = follow(code, k, clauses, literals, variables, times, links, state);
+        if state.mark {
+            return state;
+        }
+    }
+    state
+}
+
+// Round k with places for what stood before it: the run stops after it at the mark, or where nothing has changed.
+fn make_round(
+    k: u32,
+    clauses: &mut [u32],
+    literals: &mut [i32],
+    variables: &mut [i32],
+    times: &mut [u32],
+    links: &mut [i32],
+    st: State,
+    kept: &mut [u32],
+    parts: &mut [i32],
+    rows: &mut [i32],
+) -> Turn
+    requires { ⌜ Runs (standingIn (tables (now clauses) (now literals) (now variables) (now times) (now links)) st) × Places (now kept) (now parts) (now rows) ⌝ }
+    ensures { λ r. ⌜ (standingIn (tables (now (clauses .exit)) (now (literals .exit)) (now (variables .exit)) (now (times .exit)) (now (links .exit))) (r .state) ≡ round k programme (standingIn (tables (now (clauses .entry)) (now (literals .entry)) (now (variables .entry)) (now (times .entry)) (now (links .entry))) st))
+        × (r .stop ≡ (r .state .mark || unchanged (standingIn (tables (now (clauses .entry)) (now (literals .entry)) (now (variables .entry)) (now (times .entry)) (now (links .entry))) st) (standingIn (tables (now (clauses .exit)) (now (literals .exit)) (now (variables .exit)) (now (times .exit)) (now (links .exit))) (r .state)))) ⌝ }
+{
+    save(clauses, literals, variables, kept, parts, rows);
+    let v = st.v;
+    let n = st.n;
+    let after = round(k, clauses, literals, variables, times, links, st);
+    let same = same_tables(v, n, kept, parts, rows, clauses, literals, variables);
+    let stop = either(after.mark, same);
+    Turn { state: after, stop }
+}
+
+// At most so many rounds, from round 0 on.
+fn make_rounds(
+    count: u32,
+    clauses: &mut [u32],
+    literals: &mut [i32],
+    variables: &mut [i32],
+    times: &mut [u32],
+    links: &mut [i32],
+    st: State,
+    kept: &mut [u32],
+    parts: &mut [i32],
+    rows: &mut [i32],
+) -> Made
+    requires { ⌜ Runs (standingIn (tables (now clauses) (now literals) (now variables) (now times) (now links)) st) × Places (now kept) (now parts) (now rows) ⌝ }
+    ensures { λ r. ⌜ rounds (r .made) (standingIn (tables (now (clauses .exit)) (now (literals .exit)) (now (variables .exit)) (now (times .exit)) (now (links .exit))) (r .state)) ≡ runFrom programme count 0 (standingIn (tables (now (clauses .entry)) (now (literals .entry)) (now (variables .entry)) (now (times .entry)) (now (links .entry))) st) ⌝ }
+{
+    let mut state = st;
+    let mut k: u32 = 0;
+    while k < count {
+        let turn = make_round(
+            k,
+            clauses,
+            literals,
+            variables,
+            times,
+            links,
+            state,
+            kept,
+            parts,
+            rows,
+        );
+        let next = turn.state;
+        state = next;
+        k += 1;
+        if turn.stop {
+            return Made { made: k, state };
+        }
+    }
+    Made { made: k, state }
+}
+
+// The same with places of its own.
+fn run_rounds(
+    count: u32,
+    clauses: &mut [u32],
+    literals: &mut [i32],
+    variables: &mut [i32],
+    times: &mut [u32],
+    links: &mut [i32],
+    st: State,
+) -> Made
+    requires { ⌜ Runs (standingIn (tables (now clauses) (now literals) (now variables) (now times) (now links)) st) ⌝ }
+    ensures { λ r. ⌜ rounds (r .made) (standingIn (tables (now (clauses .exit)) (now (literals .exit)) (now (variables .exit)) (now (times .exit)) (now (links .exit))) (r .state)) ≡ runFrom programme count 0 (standingIn (tables (now (clauses .entry)) (now (literals .entry)) (now (variables .entry)) (now (times .entry)) (now (links .entry))) st) ⌝ }
+{
+    let mut kept = [0u32; 12288];
+    let mut parts = [0i32; 16384];
+    let mut rows = [0i32; 2048];
+    make_rounds(
+        count,
+        clauses,
+        literals,
+        variables,
+        times,
+        links,
+        st,
+        &mut kept,
+        &mut parts,
+        &mut rows,
+    )
+}
+
+// ---- the call
+
+// A call that no refusal stops.
+fn run_entered(
+    count: u32,
+    clauses: &mut [u32],
+    literals: &mut [i32],
+    variables: &mut [i32],
+    times: &mut [u32],
+    links: &mut [i32],
+    st: State,
+) -> Outcome
+    requires { ⌜ Runs (standingIn (tables (now clauses) (now literals) (now variables) (now times) (now links)) st) ⌝ }
+    ensures { λ r. ⌜ after r (tables (now (clauses .exit)) (now (literals .exit)) (now (variables .exit)) (now (times .exit)) (now (links .exit))) ≡ runReply (runFrom programme count 0 (standingIn (tables (now (clauses .entry)) (now (literals .entry)) (now (variables .entry)) (now (times .entry)) (now (links .entry))) st)) ⌝ }
+{
+    let made = run_rounds(count, clauses, literals, variables, times, links, st);
+    let number = made.made;
+    let state = made.state;
+    Outcome {
+        answer: Answer::Ran(number),
+        state,
+    }
+}
+
+// The exported call.
+pub fn run(
+    clauses: &mut [u32],
+    literals: &mut [i32],
+    variables: &mut [i32],
+    times: &mut [u32],
+    links: &mut [i32],
+    st: State,
+    n: u16,
+) -> Outcome
+    ensures { λ r. ⌜ after r (tables (now (clauses .exit)) (now (literals .exit)) (now (variables .exit)) (now (times .exit)) (now (links .exit))) ≡ runCall n (tables (now (clauses .entry)) (now (literals .entry)) (now (variables .entry)) (now (times .entry)) (now (links .entry))) st ⌝ }
+{
+    let entry = shape::entry_of(clauses, literals, variables, times, links, st, 0);
+    match entry {
+        Entry::No(r) => Outcome {
+            answer: Answer::Refused(r),
+            state: st,
+        },
+        Entry::Opens => run_entered(n as u32, clauses, literals, variables, times, links, st),
+        // Run resumes no pass, so that here too none is open
+        Entry::Resumes => run_entered(n as u32, clauses, literals, variables, times, links, st),
+    }
+}

@@ -4,3 +4,16 @@ pub mod Visit
 pub mod Ending
 pub mod Whole
 pub mod Splitting
+pub mod Room
+pub mod Owning
+pub mod Merging
+pub mod Plain
+pub mod Alone
+pub mod Fewer
+pub mod Classes
+pub mod Passing
+pub mod Fuel
+pub mod Once
+pub mod Settling
+pub mod Cases
+pub mod Acyclic

@@ -21,7 +21,7 @@ use Rattle.propagate.specs.Propagate.{notFalse}
 -- ---- one literal
 
 -- a literal whose variable is its own class is its class literal
-own-literal : (w : List ℤ) (l : ℤ) → classOf w (natAbs l) ≡ pos (natAbs l) → classLiteral w l ≡ l
+pub own-literal : (w : List ℤ) (l : ℤ) → classOf w (natAbs l) ≡ pos (natAbs l) → classLiteral w l ≡ l
 own-literal w (pos m) e = e
 own-literal w (negsuc m) e = ap negℤ e
 

@@ -71,7 +71,7 @@ module _ {n k : ℕ} {c : List ℕ} {l : List ℤ} {times : List ℕ} {links : L
       go true = formed-dropped (R .vars) n t₀ (R .formed) k lt
       go false = keeps stands (a ∷ b ∷ C) e (omega arith)
 
-  formed-visit : FormedIn (R .vars) n (visit (sweepClause σ) k t₀)
+  pub formed-visit : FormedIn (R .vars) n (visit (sweepClause σ) k t₀)
   unfolding fateAt
   formed-visit = go (standing c k) refl
     where

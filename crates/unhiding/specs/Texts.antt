@@ -1,15 +1,18 @@
 -- Document 01: "Our solver, a C program, hands over text, round count and output buffer in a single call and gets the refusal number, negative, or the length written; here too a marked load is written without a run."
 -- "`unhide` reads standard input, runs one round (none if the load set the mark) and prints what Write gives into 65,536 bytes. More than 65,535 bytes of input are refused unread with 3 at 65,535. ..
 -- On a refusal it prints `refused`, the number and the place in decimal, single spaces between, LF." Assumes nothing: these are definitions.
-use Prim.Native.Nat.{ℕ, zero, suc}
+use Prim.Native.Nat.{ℕ, zero, suc, _≤_}
 use mathlib.Core.Bool.{Bool, true, false}
 use mathlib.Core.List.{List, [], _∷_, _++_}
 use lib.ListN.{take, replicate, length}
 use lib.Dec.{ltb}
-use lib.IntN.{ℤ, pos, negsuc}
-use Rattle.state.specs.Answers.{Reply, reply}
+use lib.IntN.{ℤ, pos}
+use Rattle.state.specs.Answers.{Reply}
 use Rattle.state.specs.declared.State.{State}
 use Rattle.state.specs.declared.Pass.the-variants.{Idle}
+use Rattle.state.specs.declared.Answer.{Answer}
+use Rattle.state.specs.declared.Answer.the-variants.{Refused, Loaded, Open, Done, Stamped, Failed, Ran, Written}
+use Rattle.results.specs.Results.{resultBy}
 use Rattle.tables.specs.Tables.{Tables, tables}
 use Rattle.tables.specs.Calls.{After, state}
 use Rattle.load.specs.Load.{loadCall}
@@ -29,6 +32,11 @@ abbrev pub writeAfter : ℕ → After → List ℕ → AfterWrite
 writeAfter zero a out = writeCall (a .tables) (a .state) out
 writeAfter (suc number) a out = record { reply = a .reply; out = out }
 
+-- a reply is a refusal exactly if it has a number
+abbrev pub refuses : ℕ → Bool
+refuses zero = false
+refuses (suc number) = true
+
 -- a marked load is written without a run
 abbrev pub runUnless : Bool → ℕ → After → After
 runUnless true count a = a
@@ -38,30 +46,40 @@ abbrev pub simplifyLoaded : ℕ → ℕ → After → List ℕ → AfterWrite
 simplifyLoaded zero count a out = writeAfter 0 (runUnless (a .state .mark) count a) out
 simplifyLoaded (suc number) count a out = writeAfter (suc number) a out
 
--- load, run, write
+-- load into some tables, run, write
+abbrev pub simplifyIn : Tables → List ℕ → ℕ → List ℕ → AfterWrite
+simplifyIn t text count out = simplifyLoaded (loadCall text t emptyState .reply .number) count (loadCall text t emptyState) out
+
 unfoldable pub simplifyText : List ℕ → ℕ → List ℕ → AfterWrite
-simplifyText text count out = simplifyLoaded (loadCall text emptyTables emptyState .reply .number) count (loadCall text emptyTables emptyState) out
+simplifyText text count out = simplifyIn emptyTables text count out
 
 -- ---- the C call
 
--- the refusal's number, negative, or the length written
-abbrev pub resultBy : ℕ → List ℕ → ℤ
-resultBy (suc number) values = negsuc number
-resultBy zero (written ∷ _) = pos written
-resultBy zero [] = pos 0
+-- the place of a refusal, or the length written
+abbrev pub placeIn : List ℕ → ℕ
+placeIn [] = 0
+placeIn (place ∷ _) = place
 
+-- the refusal's number, negative, or the length written
 abbrev pub resultOf : Reply → ℤ
-resultOf r = resultBy (r .number) (r .values)
+resultOf r = resultBy (r .number) (placeIn (r .values))
+
+-- the length written, if one is, lies within an output of so many bytes
+abbrev pub fits : Answer → ℕ → Type 0
+fits (Refused r) n = Unit {0}
+fits Loaded n = Unit {0}
+fits (Open counts) n = Unit {0}
+fits (Done counts) n = Unit {0}
+fits Stamped n = Unit {0}
+fits (Failed set) n = Unit {0}
+fits (Ran rounds) n = Unit {0}
+fits (Written length) n = length ≤ n
 
 -- ---- the program
 
 -- "refused "
 abbrev pub refusedWord : List ℕ
 refusedWord = 114 ∷ 101 ∷ 102 ∷ 117 ∷ 115 ∷ 101 ∷ 100 ∷ 32 ∷ []
-
-abbrev pub placeIn : List ℕ → ℕ
-placeIn [] = 0
-placeIn (place ∷ _) = place
 
 abbrev pub refusedLine : ℕ → ℕ → List ℕ
 refusedLine number place = refusedWord ++ (digits number ++ (32 ∷ (digits place ++ (10 ∷ []))))

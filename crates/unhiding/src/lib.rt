@@ -1,2 +1,163 @@
-// The calls as their user sees them, and the call on texts: definitions alone so far, in specs/.
-pub const UNHIDING: u8 = 0;
+// The call on texts: a formula is loaded, simplified and written in one call, on tables of its own.
+ghost use mathlib.Core.Path.{_≡_};
+ghost use Prim.Native.Nat.{_-_, _^_};
+ghost use lib.ListN.{length};
+ghost use Rattle.state.specs.Answers.{replyOf};
+ghost use Rattle.tables.specs.Tables.{tables};
+ghost use Rattle.tables.specs.Calls.{after};
+ghost use Rattle.write.specs.Write.{afterWrite};
+ghost use Rattle.unhiding.specs.Texts.{emptyState, refuses, runUnless, writeAfter, simplifyIn, simplifyText, resultOf, fits};
+use state::Answer;
+use state::Outcome;
+use state::Pass;
+use state::State;
+
+fn empty_state() -> State
+    ensures { λ r. ⌜ r ≡ emptyState ⌝ }
+{
+    State {
+        v: 0,
+        n: 0,
+        pass: Pass::Idle,
+        fresh: false,
+        mark: false,
+    }
+}
+
+fn is_refusal(answer: Answer) -> bool
+    ensures { λ r. ⌜ r ≡ refuses (replyOf answer .number) ⌝ }
+{
+    match answer {
+        Answer::Refused(_) => true,
+        Answer::Loaded => false,
+        Answer::Open(_) => false,
+        Answer::Done(_) => false,
+        Answer::Stamped => false,
+        Answer::Failed(_) => false,
+        Answer::Ran(_) => false,
+        Answer::Written(_) => false,
+    }
+}
+
+// A marked load is not run.
+fn run_loaded(
+    clauses: &mut [u32],
+    literals: &mut [i32],
+    variables: &mut [i32],
+    times: &mut [u32],
+    links: &mut [i32],
+    loaded: Outcome,
+    rounds: u16,
+) -> Outcome
+    ensures { λ r. ⌜ after r (tables (now (clauses .exit)) (now (literals .exit)) (now (variables .exit)) (now (times .exit)) (now (links .exit)))
+        ≡ runUnless (loaded .state .mark) rounds (after loaded (tables (now (clauses .entry)) (now (literals .entry)) (now (variables .entry)) (now (times .entry)) (now (links .entry)))) ⌝ }
+{
+    let st = loaded.state;
+    if st.mark {
+        return loaded;
+    }
+    run::run(clauses, literals, variables, times, links, st, rounds)
+}
+
+// Run and Write. A run right after a load is not refused, and a refused one would change nothing, so its answer is not looked at.
+fn run_and_write(
+    clauses: &mut [u32],
+    literals: &mut [i32],
+    variables: &mut [i32],
+    times: &mut [u32],
+    links: &mut [i32],
+    loaded: Outcome,
+    rounds: u16,
+    out: &mut [u8],
+) -> Answer
+    ensures { λ r. ⌜ afterWrite r (now (out .exit))
+        ≡ writeAfter 0 (runUnless (loaded .state .mark) rounds (after loaded (tables (now (clauses .entry)) (now (literals .entry)) (now (variables .entry)) (now (times .entry)) (now (links .entry))))) (now (out .entry)) ⌝ }
+    ensures { λ r. ⌜ fits r (length (now (out .entry))) ⌝ }
+{
+    let ran = run_loaded(clauses, literals, variables, times, links, loaded, rounds);
+    let st = ran.state;
+    write::write(clauses, literals, variables, times, links, st, out)
+}
+
+// The load first; a refused load is answered, and nothing is written.
+fn simplify(
+    text: &[u8],
+    rounds: u16,
+    out: &mut [u8],
+    clauses: &mut [u32],
+    literals: &mut [i32],
+    variables: &mut [i32],
+    times: &mut [u32],
+    links: &mut [i32],
+) -> Answer
+    ensures { λ r. ⌜ afterWrite r (now (out .exit)) ≡ simplifyIn (tables (now (clauses .entry)) (now (literals .entry)) (now (variables .entry)) (now (times .entry)) (now (links .entry))) (now (text .entry)) rounds (now (out .entry)) ⌝ }
+    ensures { λ r. ⌜ fits r (length (now (out .entry))) ⌝ }
+{
+    let st = empty_state();
+    let loaded = load::load(text, clauses, literals, variables, times, links, st);
+    let answer = loaded.answer;
+    if is_refusal(answer) {
+        return answer;
+    }
+    run_and_write(
+        clauses,
+        literals,
+        variables,
+        times,
+        links,
+        loaded,
+        rounds,
+        out,
+    )
+}
+
+// The text simplified in so many rounds, written into the output.
+pub fn simplify_text(text: &[u8], rounds: u16, out: &mut [u8]) -> Answer
+    ensures { λ r. ⌜ afterWrite r (now (out .exit)) ≡ simplifyText (now (text .entry)) rounds (now (out .entry)) ⌝ }
+    ensures { λ r. ⌜ fits r (length (now (out .entry))) ⌝ }
+{
+    let mut clauses: [u32; 12288] = [0; 12288];
+    let mut literals: [i32; 16384] = [0; 16384];
+    let mut variables: [i32; 2048] = [0; 2048];
+    let mut times: [u32; 4096] = [0; 4096];
+    let mut links: [i32; 4096] = [0; 4096];
+    simplify(
+        text,
+        rounds,
+        out,
+        &mut clauses,
+        &mut literals,
+        &mut variables,
+        &mut times,
+        &mut links,
+    )
+}
+
+// ---- the call from C
+
+// The length written, or the refusal's number, negative. A length that fits into an i64 is asked for; the other answers are not given by a call on a text.
+fn result_of(answer: Answer) -> i64
+    requires { ⌜ fits answer (2 ^ 63 - 1) ⌝ }
+    ensures { λ r. ⌜ r ≡ resultOf (replyOf answer) ⌝ }
+{
+    match answer {
+        Answer::Refused(refusal) => results::refused(refusal),
+        Answer::Loaded => 0,
+        Answer::Open(_) => 1,
+        Answer::Done(_) => 0,
+        Answer::Stamped => 0,
+        Answer::Failed(set) => set as i64,
+        Answer::Ran(rounds) => rounds as i64,
+        Answer::Written(length) => length as i64,
+    }
+}
+
+// Text, round count and output buffer; the length written or the refusal's number, negative.
+#[no_mangle]
+pub extern "C" fn unhide_text(text: &[u8], rounds: u16, out: &mut [u8]) -> i64
+    ensures { λ r. ⌜ r ≡ resultOf (simplifyText (now (text .entry)) rounds (now (out .entry)) .reply) ⌝ }
+    ensures { λ _. ⌜ now (out .exit) ≡ simplifyText (now (text .entry)) rounds (now (out .entry)) .out ⌝ }
+{
+    let answer = simplify_text(text, rounds, out);
+    result_of(answer)
+}

@@ -23,8 +23,8 @@ abbrev μ-loop : tie.MeasureT-loop
 μ-loop text body clauses₀ literals₀ seen₀ at₀ p₀ clauses literals seen at p = length text - at
 
 -- what the token says of the words
-here : (c : tie.After-token-at Inv-loop μ-loop) → Told (c .before .before .before .before .before .args .text .now) (c .before .loop .at) (c .token-at .result)
-here c = subst (Told (c .before .before .before .before .before .args .text .now) (c .before .loop .at)) (sym (c .token-at .ensures)) (told (c .before .before .before .before .before .args .text .now) (c .before .loop .at))
+here : (c : tie.After-token-from Inv-loop μ-loop) → Told (c .before .before .before .before .before .args .text .now) (c .before .loop .at) (c .token-from .result)
+here c = subst (Told (c .before .before .before .before .before .args .text .now) (c .before .loop .at)) (sym (c .token-from .ensures)) (told (c .before .before .before .before .before .args .text .now) (c .before .loop .at))
 
 zero : (c : tie.After-known-told Inv-loop μ-loop) → Seen (c .before .before .before .before .before .before .before .before .args .text .now) (c .before .before .before .before .loop .at) nought (c .before .next .given .0 .0) (c .before .next .given .0 .1 .0)
 zero c = told-zero _ _ _ (here (c .before .before .before)) (c .before .next .given .1)
@@ -40,8 +40,8 @@ value c = toZ-ofZ {w = w32} {z = c .literal-of .result} (sfits-of (c .literal-of
 loop-holds : tie.Need-loop-holds Inv-loop μ-loop
 loop-holds c = let a = c .before .before .before .args in start-laying (a .text .now) (a .body) (a .clauses .now) (a .literals .now) (a .seen .now) (c .before .before .before .pre)
 
-token-at-requires : tie.Need-token-at-requires Inv-loop μ-loop
-token-at-requires c κs = search needs
+token-from-requires : tie.Need-token-from-requires Inv-loop μ-loop
+token-from-requires c κs = search needs
 
 enum-told : tie.Need-enum-told Inv-loop μ-loop
 enum-told c = search needs
@@ -112,7 +112,7 @@ lay-clauses-spec =
     Inv-loop
     μ-loop
     loop-holds
-    token-at-requires
+    token-from-requires
     enum-told
     same-length
     same-length-2

@@ -6,7 +6,7 @@ use mir.Syntax.{w64}
 use mir.Facts.{toZ-ofZ, toZ-pos}
 use Rattle.state.specs.Answers.{replyOf}
 use Rattle.state.specs.declared.Answer.{Answer}
-use Rattle.load_bench.specs.Result.{resultBy}
+use Rattle.results.specs.Results.{resultBy}
 use borrow.Author.Needs.{needs, sfits-of}
 use Rattle.load_bench.proofs.result_of.Statement.{statement}
 use Rattle.load_bench.proofs.result_of.Tie as tie
