@@ -1,8 +1,7 @@
 -- Examples by computation: the order of a round. The worked cases of document 01 run whole rounds. Assumes nothing.
-use Prim.Native.Nat.{ℕ}
 use mathlib.Core.Path.{_≡_, refl}
-use mathlib.Core.List.{List, [], _∷_}
-use lib.IntN.{ℤ, pos, negsuc}
+use mathlib.Core.List.{[], _∷_}
+use lib.IntN.{pos, negsuc}
 use Rattle.base.specs.Lists.{numbers, turned}
 use Rattle.run.specs.Run.{orderOf}
 

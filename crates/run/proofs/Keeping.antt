@@ -1,10 +1,9 @@
 -- Each pass of a run keeps the shape rule and leaves no pass open. So does a code of the programme, and what it leaves runs on unless the mark is set. Assumes nothing.
-use Prim.Native.Nat.{ℕ, _*_, _≤_}
+use Prim.Native.Nat.{ℕ, _*_}
 use native.Mathlib.Omega.{arith}
-use mathlib.Core.Path.{_≡_, refl, sym, ap, subst, _∙_}
+use mathlib.Core.Path.{_≡_, refl, sym, subst}
 use mathlib.Core.Bool.{Bool, true, false}
 use mathlib.Core.List.{List, [], _∷_}
-use lib.ListN.{length}
 use lib.Dec.{eqb}
 use lib.IntN.{ℤ}
 use Rattle.graph.specs.Clauses.{implications}
@@ -17,10 +16,8 @@ use Rattle.tables.specs.Tables.{Tables}
 use Rattle.tables.specs.Clauses.{slotsFrom}
 use Rattle.tables.specs.Calls.{After, state, marked}
 use Rattle.shape.specs.Shape.{Shape}
-use Rattle.shape.specs.Entry.{entryOf}
-use Rattle.shape.specs.declared.Entry.{Entry}
 use Rattle.figures.specs.Stamped.{Stamped}
-use Rattle.stamp.specs.Stamp.{stampAcyclic, stampOrdered, stampCall}
+use Rattle.stamp.specs.Stamp.{stampAcyclic, stampOrdered}
 use Rattle.stamp.specs.Asking.{askOrdered}
 use Rattle.stamp.specs.declared.Ruling.{Ruling}
 use Rattle.stamp.specs.declared.Ruling.the-variants.{No, Fit}

@@ -1,11 +1,11 @@
--- The order of a round, as it is written: the slots from the turn on, then those before it. It has every literal once, so that no refusal 8 is given. Assumes nothing.
+-- The order of a round, as it is written: the slots from the turn on, then those before it. Passing.antt shows that Stamp takes it. Assumes nothing.
 use Prim.Native.Nat.{ℕ, zero, suc, _+_, _*_, _-_, _%_, _≤_, _<_}
 use native.Mathlib.Nat.{mod-lt}
 use native.Mathlib.Numerals.{add-one}
 use native.Mathlib.Omega.{arith}
-use mathlib.Core.Path.{_≡_, refl, sym, ap, ap₂, subst, _∙_}
+use mathlib.Core.Path.{_≡_, refl, sym, ap, ap₂, _∙_}
 use mathlib.Core.List.{List, [], _∷_, _++_, append-nil, map}
-use lib.ListN.{length, take, drop, set, length-append, length-drop, length-set, length-map, drop-of-length-le}
+use lib.ListN.{length, take, drop, set, length-append, length-drop, length-set, drop-of-length-le}
 use lib.Seq.{take-all, take-at, drop-at, take-suc-set}
 use lib.IntN.{ℤ}
 use Rattle.base.specs.Lists.{numbers, turned}
@@ -68,7 +68,7 @@ turn-is : (k m : ℕ) → 0 < m → turnBy k m ≡ k % m
 turn-is k zero lt = absurd (omega arith)
 turn-is k (suc m) lt = refl
 
-turn-le : (k m : ℕ) → turnBy k m ≤ m
+pub turn-le : (k m : ℕ) → turnBy k m ≤ m
 turn-le k zero = omega arith
 turn-le k (suc m) = omega (arith, mod-lt k (let z : 0 < suc m = omega arith in z))
 
@@ -102,13 +102,12 @@ rest-length l a m le e =
     ap (λ (x : List ℤ). length (take (length (a ++ drop m l) - m) x)) (drop-at a (drop m l) m e)
     ∙ ap length (take-all (length (a ++ drop m l) - m) (drop m l) (simp (length-append, length-drop) (omega arith))) ∙ length-drop m l
 
-pub order-written : (v k : ℕ) (l a b : List ℤ) → length l ≡ 2 * v → (length l ≡ 0 → ⊥) → (m m′ : ℕ) → m ≡ length l - k % length l → m′ ≡ k % length l
-    → a ≡ listed (k % length l) m → b ≡ listed 0 m′
-    → take (length l - k % length l) (a ++ drop (length l - k % length l) l) ++ (b ++ drop (length (a ++ drop (length l - k % length l) l) - (length l - k % length l)) (drop (length l - k % length l) (a ++ drop (length l - k % length l) l))) ≡ orderOf v k
-order-written v k l a b e some m m′ em em′ ea eb =
-    let le : k % length l ≤ length l = omega (arith, mod-lt k (let z : 0 < length l = omega arith in z)) in
-    let t : turnBy k (2 * v) ≡ k % length l = ap (turnBy k) (sym e) ∙ turn-is k (length l) (omega arith) in
-    both-parts l a b (length l - k % length l) (omega arith) (ap length ea ∙ listed-length (k % length l) m ∙ em)
-    ∙ ap (λ (x : List ℤ). x ++ b) (ea ∙ ap (listed (k % length l)) em) ∙ ap (λ (x : List ℤ). listed (k % length l) (length l - k % length l) ++ x) (eb ∙ ap (listed 0) em′)
-    ∙ ap (λ (n : ℕ). listed (k % length l) (n - k % length l) ++ listed 0 (k % length l)) e
-    ∙ ap (λ (r : ℕ). listed r (2 * v - r) ++ listed 0 r) (sym t) ∙ sym (order-is v k)
+pub order-written : (v k : ℕ) (l a b : List ℤ) → length l ≡ 2 * v → (length l ≡ 0 → ⊥) → (r : ℕ) → r ≡ k % length l → (m m′ : ℕ) → m ≡ length l - r → m′ ≡ r → a ≡ listed r m → b ≡ listed 0 m′
+    → take (length l - r) (a ++ drop (length l - r) l) ++ (b ++ drop (length (a ++ drop (length l - r) l) - (length l - r)) (drop (length l - r) (a ++ drop (length l - r) l))) ≡ orderOf v k
+order-written v k l a b e some r is m m′ em em′ ea eb =
+    let le : r ≤ length l = omega (arith, is, mod-lt k (let z : 0 < length l = omega arith in z)) in
+    let t : turnBy k (2 * v) ≡ r = ap (turnBy k) (sym e) ∙ turn-is k (length l) (omega arith) ∙ sym is in
+    both-parts l a b (length l - r) (omega arith) (ap length ea ∙ listed-length r m ∙ em)
+    ∙ ap (λ (x : List ℤ). x ++ b) (ea ∙ ap (listed r) em) ∙ ap (λ (x : List ℤ). listed r (length l - r) ++ x) (eb ∙ ap (listed 0) em′)
+    ∙ ap (λ (n : ℕ). listed r (n - r) ++ listed 0 r) e
+    ∙ ap (λ (x : ℕ). listed x (2 * v - x) ++ listed 0 x) (sym t) ∙ sym (order-is v k)

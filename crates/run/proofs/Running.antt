@@ -5,12 +5,9 @@ use mathlib.Core.Path.{_≡_, refl, sym, ap, subst, _∙_}
 use mathlib.Core.Bool.{Bool, true, false}
 use mathlib.Core.List.{List}
 use lib.IntN.{ℤ}
-use lib.Dec.{eqb}
 use borrow.Author.Tests.{eq-eqb, ne-eqb}
-use Rattle.state.specs.declared.State.{State}
 use Rattle.state.specs.declared.Refusal.{Refusal}
-use Rattle.tables.specs.Tables.{Tables}
-use Rattle.tables.specs.Calls.{After, refuse}
+use Rattle.tables.specs.Calls.{refuse}
 use Rattle.shape.specs.Decision.{shapeOk, shape-exact}
 use Rattle.shape.specs.Entry.{passNumber, entryOf}
 use Rattle.shape.specs.declared.Entry.{Entry}
@@ -19,8 +16,7 @@ use Rattle.shape.proofs.Entering.{Entered, entry-idle}
 use Rattle.clauses.specs.Formed.{Formed}
 use Rattle.clauses.proofs.Entered.{entered-formed}
 use Rattle.stamp.specs.Stamp.{stampAcyclic, stampOrdered, stampBy, stampCall}
-use Rattle.stamp.specs.Asking.{askOrdered, askBy, askOf}
-use Rattle.stamp.specs.declared.Ruling.{Ruling}
+use Rattle.stamp.specs.Asking.{askOrdered, askOf}
 use Rattle.stamp.specs.declared.Ruling.the-variants.{No, Fit}
 use Rattle.stamp.proofs.Asking.{Known, ask-by, fit-known, call-refused, call-fit}
 use Rattle.failed.specs.Failed as failing

@@ -3,7 +3,7 @@ use Prim.Native.Nat.{ℕ, zero, suc, _+_}
 use native.Mathlib.Omega.{arith}
 use mathlib.Core.Path.{_≡_, refl, sym, ap, subst, _∙_}
 use mathlib.Core.Bool.{Bool, true, false, false≢true}
-use mathlib.Core.Logic.{_⊎_, inl, inr, ⊎-elim}
+use mathlib.Core.Logic.{_⊎_, ⊎-elim}
 use lib.Dec.{ltb}
 use borrow.Author.Tests.{le-ltb}
 use Rattle.state.specs.declared.State.{State}
@@ -13,11 +13,11 @@ use Rattle.tables.specs.Passes.{firstUnsettled}
 use Rattle.tables.specs.Calls.{After}
 use Rattle.shape.specs.Shape.{Shape}
 use Rattle.shape.specs.declared.Entry.{Entry}
-use Rattle.propagate.specs.Propagate.{begin, propagateFrom, propagateBy, propagateCall}
+use Rattle.propagate.specs.Propagate.{propagateBy, propagateCall}
 use Rattle.propagate.proofs.Shaped.{propagate-shaped}
 use Rattle.merge.specs.Merge.{edgesOf, clashes, mergeOpen, mergeSettled, mergeBy, mergeCall}
 use Rattle.merge.proofs.Shaped.{merge-shaped}
-use Rattle.settle.specs.Settle.{Standing, between, enough, propagated, merged, grouped, settleFor, settle}
+use Rattle.settle.specs.Settle.{Standing, enough, propagated, merged, grouped, settleFor, settle}
 use Rattle.settle.proofs.Whole.{Ended, whole}
 use Rattle.settle.proofs.Merging.{merged-clash, merged-visits}
 use Rattle.run.specs.Steps.{Runs}

@@ -1,8 +1,8 @@
 -- A whole Sweep keeps the shape rule and leaves no pass open. Assumes nothing.
-use Prim.Native.Nat.{ℕ, zero, suc, _+_, _*_, _-_, _≤_, _<_, min}
-use native.Mathlib.Nat.{min-le-right, min-eq-left}
+use Prim.Native.Nat.{ℕ, zero, suc, _+_, _-_, _≤_, _<_, min}
+use native.Mathlib.Nat.{min-eq-left}
 use native.Mathlib.Omega.{arith}
-use mathlib.Core.Path.{_≡_, refl, sym, ap, ap₂, subst, _∙_}
+use mathlib.Core.Path.{_≡_, refl, sym, subst, _∙_}
 use mathlib.Core.Bool.{Bool, true, false, false≢true}
 use mathlib.Core.List.{List, [], _∷_, map}
 use lib.ListN.{length}
@@ -12,10 +12,8 @@ use borrow.Author.Tests.{ltb-true}
 use Rattle.literal.specs.Literals.{slotOf}
 use Rattle.walk.specs.Walk.{Stamps}
 use Rattle.stamps.specs.Columns.{columns}
-use Rattle.stamps.specs.Fresh.{FreshStamps}
 use Rattle.hidden.specs.Hidden.{hiddenTautology, shorten}
 use Rattle.state.specs.declared.State.{State}
-use Rattle.state.specs.declared.Pass.{Pass}
 use Rattle.state.specs.declared.Pass.the-variants.{Idle, Sweep}
 use Rattle.state.specs.declared.Answer.the-variants.{Open, Done}
 use Rattle.tables.specs.Tables.{Tables, tables}
@@ -26,11 +24,10 @@ use Rattle.tables.specs.Fates as fates
 use Rattle.tables.specs.Passes.{advance}
 use Rattle.tables.specs.Calls.{After, answered, state}
 use Rattle.shape.specs.Shape.{Shape}
-use Rattle.clauses.specs.Formed.{Formed}
 use Rattle.clauses.proofs.Forming.{formed-shape}
 use Rattle.merge.proofs.Keeping.{Beside}
 use Rattle.figures.specs.Stamped.{Stamped}
-use Rattle.sweep.specs.Sweep.{sweepClause, sweepFrom, sweepCursor}
+use Rattle.sweep.specs.Sweep.{sweepClause, sweepFrom}
 use Rattle.sweep.specs.Visits.{Ready}
 use Rattle.sweep.proofs.Keeping.{FormedIn, formed-visit}
 

@@ -17,7 +17,7 @@ use Rattle.tables.specs.Clauses.{literalsOf}
 use Rattle.settle.specs.Settle.{Standing}
 use Rattle.run.specs.Run.{unchanged}
 use Rattle.settle.specs.Steps.{standingIn}
-use Rattle.run.specs.Steps.{Runs, Places, Saves, Saved, Comparable}
+use Rattle.run.specs.Steps.{Runs, Saved, Comparable}
 
 -- ---- lists
 
@@ -141,7 +141,3 @@ module _ {w : Standing} (R : Runs w) (w′ : Standing) where
       records = omega (arith, ec, R .shape .long .clauses);
       rows = omega (arith, ex, R .shape .long .variables);
     }
-
--- tables between two passes can be copied
-pub runs-saves : {w : Standing} {kept : List ℕ} {parts rows : List ℤ} → Runs w → Places kept parts rows → Saves (w .tables .clauses) (w .tables .literals) (w .tables .variables) kept parts rows
-runs-saves R P = record { places = P; first = R .shape .long .clauses; second = R .shape .long .literals; third = R .shape .long .variables }

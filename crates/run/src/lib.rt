@@ -5,9 +5,9 @@ use state::Answer;
 use state::Outcome;
 use state::State;
 ghost use mathlib.Core.Path.{_≡_};
-ghost use mathlib.Core.Bool.{true, false, _||_};
-ghost use mathlib.Core.List.{List, [], map};
-ghost use Prim.Native.Nat.{ℕ, _+_, _*_, _≤_};
+ghost use mathlib.Core.Bool.{true, _||_};
+ghost use mathlib.Core.List.{List, map};
+ghost use Prim.Native.Nat.{ℕ, _+_, _*_, _%_, _≤_, _<_};
 ghost use lib.ListN.{length, take};
 ghost use lib.Dec.{eqb};
 ghost use lib.IntN.{ℤ};
@@ -22,7 +22,7 @@ ghost use Rattle.failed.specs.Failed as failing;
 ghost use Rattle.failed.specs.Steps.{Callable};
 ghost use Rattle.sweep.specs.Sweep as sweeping;
 ghost use Rattle.sweep.specs.Visits.{Ready};
-ghost use Rattle.settle.specs.Settle.{between, settle};
+ghost use Rattle.settle.specs.Settle.{between};
 ghost use Rattle.run.specs.Run.{orderOf, programme, follow, round, unchanged, rounds, runFrom, runReply, runCall};
 ghost use Rattle.settle.specs.Steps.{standingIn};
 ghost use Rattle.run.specs.Steps.{Runs, Inside, Places, Saves, Saved, Comparable};
@@ -56,6 +56,14 @@ fn write_slots(part: &mut [i32], slot: usize)
     }
 }
 
+// The turn in round k of an order of so many literals.
+fn turn_of(k: u32, size: usize) -> usize
+    requires { ⌜ 0 < size ⌝ }
+    ensures { λ r. ⌜ r ≡ k % size ⌝ }
+{
+    k as usize % size
+}
+
 // Writes 1, -1, 2, -2, .. of v variables, turned left by k mod 2v places.
 fn write_order(order: &mut [i32], v: u32, k: u32)
     requires { ⌜ (length (now order) ≡ 2 * v) × (v ≤ 1024) ⌝ }
@@ -65,7 +73,7 @@ fn write_order(order: &mut [i32], v: u32, k: u32)
     if size == 0 {
         return;
     }
-    let turn = k as usize % size;
+    let turn = turn_of(k, size);
     let rest = size - turn;
     write_slots(&mut order[..rest], turn);
     write_slots(&mut order[rest..], 0);

@@ -6,8 +6,6 @@ use Rattle.run.proofs.Comparing.{Copying, copying-none, copying-more, c
 use borrow.Author.Needs.{needs}
 use Rattle.run.proofs.copy_numbers.Statement.{statement}
 use Rattle.run.proofs.copy_numbers.Tie as tie
-use Rattle.run.proofs.copy_numbers.Reads as reads
-use Rattle.run.proofs.copy_numbers.Lts as lts
 
 abbrev Inv-loop : tie.InvT-loop
 Inv-loop from to₀ i₀ to i = Copying from to₀ to i

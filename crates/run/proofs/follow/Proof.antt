@@ -7,12 +7,6 @@ use Rattle.run.proofs.Running.{runs-formed, runs-callable, runs-ready, 
 use borrow.Author.Needs.{needs}
 use Rattle.run.proofs.follow.Statement.{statement}
 use Rattle.run.proofs.follow.Tie as tie
-use Rattle.run.proofs.follow.Reads as reads
-use Rattle.run.proofs.follow.Lts as lts
-use Rattle.run.proofs.follow_failed.Reads as follow-failed-reads
-use Rattle.settle.proofs.settle.Reads as settle-reads
-use Rattle.run.proofs.follow_stamp.Reads as follow-stamp-reads
-use Rattle.run.proofs.follow_sweep.Reads as follow-sweep-reads
 
 -- what stands at the call
 abbrev lent : tie.Start → Standing

@@ -4,9 +4,6 @@ use Rattle.settle.specs.Settle.{between}
 use borrow.Author.Needs.{needs}
 use Rattle.run.proofs.follow_failed.Statement.{statement}
 use Rattle.run.proofs.follow_failed.Tie as tie
-use Rattle.run.proofs.follow_failed.Reads as reads
-use Rattle.run.proofs.follow_failed.Lts as lts
-use Rattle.failed.proofs.unless_stale.Reads as unless-stale-reads
 
 unless-stale-requires : tie.Need-unless-stale-requires
 unless-stale-requires c κs = search needs

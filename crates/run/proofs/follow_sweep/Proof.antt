@@ -4,9 +4,6 @@ use Rattle.settle.specs.Settle.{between}
 use borrow.Author.Needs.{needs}
 use Rattle.run.proofs.follow_sweep.Statement.{statement}
 use Rattle.run.proofs.follow_sweep.Tie as tie
-use Rattle.run.proofs.follow_sweep.Reads as reads
-use Rattle.run.proofs.follow_sweep.Lts as lts
-use Rattle.sweep.proofs.sweep_entered.Reads as sweep-entered-reads
 
 sweep-entered-requires : tie.Need-sweep-entered-requires
 sweep-entered-requires c κs = search needs

@@ -4,16 +4,10 @@ use mathlib.Core.Bool.{Bool, _||_}
 use Rattle.tables.specs.Tables.{tables}
 use Rattle.settle.specs.Settle.{Standing}
 use Rattle.settle.specs.Steps.{standingIn}
-use Rattle.run.proofs.Unchanged.{copies-tell, copies-compare, runs-saves}
+use Rattle.run.proofs.Unchanged.{copies-tell, copies-compare}
 use borrow.Author.Needs.{needs}
 use Rattle.run.proofs.make_round.Statement.{statement}
 use Rattle.run.proofs.make_round.Tie as tie
-use Rattle.run.proofs.make_round.Reads as reads
-use Rattle.run.proofs.make_round.Lts as lts
-use Rattle.run.proofs.either.Reads as either-reads
-use Rattle.run.proofs.round.Reads as round-reads
-use Rattle.run.proofs.same_tables.Reads as same-tables-reads
-use Rattle.run.proofs.save.Reads as save-reads
 
 -- what the round leaves
 abbrev left : tie.After-round → Standing

@@ -2,7 +2,6 @@
 use Prim.Native.Nat.{_-_}
 use native.Mathlib.Omega.{arith}
 use mathlib.Core.Path.{sym, _∙_}
-use borrow.Author.Needs.{needs}
 use Rattle.tables.specs.Tables.{tables}
 use Rattle.settle.specs.Settle.{Standing}
 use Rattle.settle.specs.Steps.{standingIn}
@@ -10,9 +9,6 @@ use Rattle.run.specs.Steps.{Places}
 use Rattle.run.proofs.Rounds.{Rounding, rounding-none, rounding-stops, rounding-more, rounding-done}
 use Rattle.run.proofs.make_rounds.Statement.{statement}
 use Rattle.run.proofs.make_rounds.Tie as tie
-use Rattle.run.proofs.make_rounds.Reads as reads
-use Rattle.run.proofs.make_rounds.Lts as lts
-use Rattle.run.proofs.make_round.Reads as make-round-reads
 
 abbrev Inv-loop : tie.InvT-loop
 Inv-loop count clauses₀ literals₀ variables₀ times₀ links₀ kept₀ parts₀ rows₀ state₀ k₀ clauses literals variables times links kept parts rows state k =

@@ -9,9 +9,6 @@ use Rattle.settle.specs.Steps.{standingIn}
 use Rattle.run.proofs.Rounds.{Following, following-none, following-stops, following-more, following-done}
 use Rattle.run.proofs.round.Statement.{statement}
 use Rattle.run.proofs.round.Tie as tie
-use Rattle.run.proofs.round.Reads as reads
-use Rattle.run.proofs.round.Lts as lts
-use Rattle.run.proofs.follow.Reads as follow-reads
 
 abbrev Inv-loop : tie.InvT-loop
 Inv-loop k clauses₀ literals₀ variables₀ times₀ links₀ state₀ i₀ clauses literals variables times links state i =

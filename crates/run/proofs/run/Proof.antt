@@ -5,10 +5,6 @@ use Rattle.run.proofs.Calling.{opens-runs, resumes-runs, call-refused, 
 use borrow.Author.Needs.{needs}
 use Rattle.run.proofs.run.Statement.{statement}
 use Rattle.run.proofs.run.Tie as tie
-use Rattle.run.proofs.run.Reads as reads
-use Rattle.run.proofs.run.Lts as lts
-use Rattle.run.proofs.run_entered.Reads as run-entered-reads
-use Rattle.shape.proofs.entry_of.Reads as entry-of-reads
 
 -- the tables as they are lent
 abbrev lent : tie.Start → Tables

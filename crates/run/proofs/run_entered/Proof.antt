@@ -4,9 +4,6 @@ use Rattle.run.specs.Run.{runReply}
 use borrow.Author.Needs.{needs}
 use Rattle.run.proofs.run_entered.Statement.{statement}
 use Rattle.run.proofs.run_entered.Tie as tie
-use Rattle.run.proofs.run_entered.Reads as reads
-use Rattle.run.proofs.run_entered.Lts as lts
-use Rattle.run.proofs.run_rounds.Reads as run-rounds-reads
 
 run-rounds-requires : tie.Need-run-rounds-requires
 run-rounds-requires c κs = search needs

@@ -8,8 +8,6 @@ use Rattle.run.proofs.Comparing.{Comparing, comparing-none, comparing-s
 use borrow.Author.Needs.{needs, sfits-of}
 use Rattle.run.proofs.same_literals.Statement.{statement}
 use Rattle.run.proofs.same_literals.Tie as tie
-use Rattle.run.proofs.same_literals.Reads as reads
-use Rattle.run.proofs.same_literals.Lts as lts
 
 abbrev Inv-loop : tie.InvT-loop
 Inv-loop a b i₀ i = Comparing eqZ a b i

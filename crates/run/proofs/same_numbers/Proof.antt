@@ -7,8 +7,6 @@ use Rattle.run.proofs.Comparing.{Comparing, comparing-none, comparing-s
 use borrow.Author.Needs.{needs}
 use Rattle.run.proofs.same_numbers.Statement.{statement}
 use Rattle.run.proofs.same_numbers.Tie as tie
-use Rattle.run.proofs.same_numbers.Reads as reads
-use Rattle.run.proofs.same_numbers.Lts as lts
 
 abbrev Inv-loop : tie.InvT-loop
 Inv-loop a b i₀ i = Comparing eqb a b i

@@ -2,7 +2,7 @@
 use borrow.Author.Tests.{not-true, not-false}
 use Prim.Native.Nat.{ℕ, _+_, _-_, _≤_}
 use native.Mathlib.Omega.{arith}
-use mathlib.Core.Path.{_≡_, refl, sym, ap, ap₂, _∙_}
+use mathlib.Core.Path.{_≡_, sym, ap, ap₂, _∙_}
 use mathlib.Core.Bool.{Bool}
 use mathlib.Core.List.{List}
 use lib.ListN.{length, take, drop, length-drop}
@@ -17,9 +17,6 @@ use Rattle.run.proofs.Comparing.{below-stop, below-next, below-none}
 use borrow.Author.Needs.{needs}
 use Rattle.run.proofs.same_parts.Statement.{statement}
 use Rattle.run.proofs.same_parts.Tie as tie
-use Rattle.run.proofs.same_parts.Reads as reads
-use Rattle.run.proofs.same_parts.Lts as lts
-use Rattle.run.proofs.same_literals.Reads as same-literals-reads
 
 -- clause i has the same literals in both tables
 abbrev same : List ℕ → List ℤ → List ℤ → ℕ → Bool

@@ -9,11 +9,6 @@ use Rattle.run.proofs.Unchanged.{records-differ, parts-differ, variable
 use borrow.Author.Needs.{needs}
 use Rattle.run.proofs.same_tables.Statement.{statement}
 use Rattle.run.proofs.same_tables.Tie as tie
-use Rattle.run.proofs.same_tables.Reads as reads
-use Rattle.run.proofs.same_tables.Lts as lts
-use Rattle.run.proofs.same_literals.Reads as same-literals-reads
-use Rattle.run.proofs.same_numbers.Reads as same-numbers-reads
-use Rattle.run.proofs.same_parts.Reads as same-parts-reads
 
 -- the fronts that are lent are as long as is said
 first : (s : tie.Start) → length (take (3 * s .args .n) (s .args .kept .now)) ≡ 3 * s .args .n

@@ -5,10 +5,6 @@ use lib.ListN.{take}
 use borrow.Author.Needs.{needs}
 use Rattle.run.proofs.save.Statement.{statement}
 use Rattle.run.proofs.save.Tie as tie
-use Rattle.run.proofs.save.Reads as reads
-use Rattle.run.proofs.save.Lts as lts
-use Rattle.run.proofs.copy_literals.Reads as copy-literals-reads
-use Rattle.run.proofs.copy_numbers.Reads as copy-numbers-reads
 
 copy-numbers-requires : tie.Need-copy-numbers-requires
 copy-numbers-requires c κs = search needs

@@ -6,10 +6,6 @@ use Rattle.run.proofs.Running.{runs-formed, runs-known, stamp-refused, 
 use borrow.Author.Needs.{needs}
 use Rattle.run.proofs.stamp_ordered.Statement.{statement}
 use Rattle.run.proofs.stamp_ordered.Tie as tie
-use Rattle.run.proofs.stamp_ordered.Reads as reads
-use Rattle.run.proofs.stamp_ordered.Lts as lts
-use Rattle.stamp.proofs.ask_ordered.Reads as ask-ordered-reads
-use Rattle.stamp.proofs.stamp_acyclic.Reads as stamp-acyclic-reads
 
 ask-ordered-requires : tie.Need-ask-ordered-requires
 ask-ordered-requires c κs = runs-formed (c .before .before .pre)

@@ -14,10 +14,6 @@ use Rattle.run.proofs.Orders.{order-length}
 use borrow.Author.Needs.{needs}
 use Rattle.run.proofs.stamp_turned.Statement.{statement}
 use Rattle.run.proofs.stamp_turned.Tie as tie
-use Rattle.run.proofs.stamp_turned.Reads as reads
-use Rattle.run.proofs.stamp_turned.Lts as lts
-use Rattle.run.proofs.stamp_ordered.Reads as stamp-ordered-reads
-use Rattle.run.proofs.write_order.Reads as write-order-reads
 
 -- what is lent of the place afterwards is the order
 front : (c : tie.After-write-order) → take (2 * c .before .before .before .before .args .st .v) (c .write-order .last .0 ++ drop (2 * c .before .before .before .before .args .st .v) (c .before .before .before .before .args .place .now)) ≡ orderOf (c .before .before .before .before .args .st .v) (c .before .before .before .before .args .k)

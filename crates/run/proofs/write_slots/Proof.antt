@@ -7,9 +7,6 @@ use Rattle.run.proofs.Orders.{Listing, listing-none, listing-more, list
 use borrow.Author.Needs.{needs}
 use Rattle.run.proofs.write_slots.Statement.{statement}
 use Rattle.run.proofs.write_slots.Tie as tie
-use Rattle.run.proofs.write_slots.Reads as reads
-use Rattle.run.proofs.write_slots.Lts as lts
-use Rattle.literal.proofs.lit_at.Reads as lit-at-reads
 
 abbrev Inv-loop : tie.InvT-loop
 Inv-loop part₀ slot i₀ part i = Listing slot part₀ part i

@@ -1,0 +1,4 @@
+pub mod Short
+pub mod Refused
+pub mod Columned
+pub mod Recorded

@@ -1,0 +1,65 @@
+-- Every call's definition refuses short columns with 1 and changes nothing, and so a slice of fewer than 2,048 records. Assumes nothing.
+use Prim.Native.Nat.{ℕ, _<_}
+use mathlib.Core.Path.{_≡_, ap}
+use mathlib.Core.Bool.{Bool, true, false}
+use mathlib.Core.List.{List}
+use lib.IntN.{ℤ}
+use lib.ListN.{length}
+use Rattle.state.specs.declared.State.{State}
+use Rattle.state.specs.declared.Answer.the-variants.{Refused}
+use Rattle.state.specs.declared.Refusal.the-variants.{Shape}
+use Rattle.records.specs.declared.StampRecord.{StampRecord}
+use Rattle.tables.specs.Tables.{Tables}
+use Rattle.tables.specs.Calls.{After, refuse}
+use Rattle.shape.specs.declared.Entry.{Entry}
+use Rattle.dimacs.specs.Text.{judgeText, bodyOf}
+use Rattle.load.specs.Load.{loadBy, loadCall}
+use Rattle.write.specs.Write.{AfterWrite, afterWrite, writeInto, writeText, writeCall}
+use Rattle.propagate.specs.Propagate.{propagateBy, propagateCall}
+use Rattle.merge.specs.Merge.{mergeBy, mergeCall}
+use Rattle.stamp.specs.Stamp.{stampBy, stampCall}
+use Rattle.failed.specs.Failed.{failedBy, failedCall}
+use Rattle.sweep.specs.Sweep.{sweepBy, sweepCall}
+use Rattle.calls.specs.Calls.{recorded}
+use Rattle.calls.proofs.Short.{short-shape, short-entry, short-long, few-lent}
+
+module _ (t : Tables) (st : State) (short : length (t .times) < 4096) where
+  pub load-short : (text : List ℕ) → loadCall text t st ≡ refuse Shape st t
+  unfolding loadCall
+  load-short text = ap (λ (b : Bool). elim b as (λ y. After) [ true ↦ loadBy (judgeText text) (bodyOf text (judgeText text)) t st | false ↦ refuse Shape st t ]) (short-long t short)
+
+  pub write-short : (out : List ℕ) → writeCall t st out ≡ afterWrite (Refused Shape) out
+  unfolding writeCall
+  write-short out = ap (λ (b : Bool). elim b as (λ y. AfterWrite) [ true ↦ writeInto (writeText t st) out | false ↦ afterWrite (Refused Shape) out ]) (short-shape t short st)
+
+  pub propagate-short : (n : ℕ) → propagateCall n t st ≡ refuse Shape st t
+  unfolding propagateCall
+  propagate-short n = ap (λ (e : Entry). propagateBy e n t st) (short-entry t short 1 st)
+
+  pub merge-short : (n : ℕ) → mergeCall n t st ≡ refuse Shape st t
+  unfolding mergeCall
+  merge-short n = ap (λ (e : Entry). mergeBy e n t st) (short-entry t short 2 st)
+
+  pub stamp-short : (order : List ℤ) → stampCall order t st ≡ refuse Shape st t
+  unfolding stampCall
+  stamp-short order = ap (λ (e : Entry). stampBy e order t st) (short-entry t short 0 st)
+
+  pub failed-short : failedCall t st ≡ refuse Shape st t
+  unfolding failedCall
+  failed-short = ap (λ (e : Entry). failedBy e t st) (short-entry t short 0 st)
+
+  pub sweep-short : (n : ℕ) → sweepCall n t st ≡ refuse Shape st t
+  unfolding sweepCall
+  sweep-short n = ap (λ (e : Entry). sweepBy e n t st) (short-entry t short 3 st)
+
+-- document 01, refusal 1: "a table is shorter than stated", of the lent records
+module _ (clauses : List ℕ) (literals variables : List ℤ) (stamps : List StampRecord) (st : State) (few : length stamps < 2048) where
+  abbrev t : Tables
+  t = recorded clauses literals variables stamps
+
+  pub few-refused : ((text : List ℕ) → loadCall text t st ≡ refuse Shape st t) × ((out : List ℕ) → writeCall t st out ≡ afterWrite (Refused Shape) out) × ((n : ℕ) → propagateCall n t st ≡ refuse Shape st t)
+      × ((n : ℕ) → mergeCall n t st ≡ refuse Shape st t) × ((order : List ℤ) → stampCall order t st ≡ refuse Shape st t) × (failedCall t st ≡ refuse Shape st t) × ((n : ℕ) → sweepCall n t st ≡ refuse Shape st t)
+  few-refused = (load-short t st short, write-short t st short, propagate-short t st short, merge-short t st short, stamp-short t st short, failed-short t st short, sweep-short t st short)
+    where
+      short : length (t .times) < 4096
+      short = few-lent stamps few

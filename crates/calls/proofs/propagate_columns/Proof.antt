@@ -1,0 +1,55 @@
+-- `calls::propagate_columns` meets its contract: refusal 1 where the columns hold fewer than 2,048 records, and otherwise the call of the pass on the whole columns. Assumes nothing.
+use Prim.Native.Nat.{ℕ}
+use mathlib.Core.Path.{_≡_, sym, _∙_}
+use mathlib.Core.List.{List}
+use lib.IntN.{ℤ}
+use Rattle.tables.specs.Tables.{tables}
+use Rattle.tables.specs.Calls.{after}
+use Rattle.propagate.specs.Propagate.{propagateCall}
+use Rattle.calls.specs.Calls.{held}
+use Rattle.calls.proofs.Short.{few-held, whole}
+use Rattle.calls.proofs.Refused.{propagate-short}
+use borrow.Author.Needs.{needs}
+use Rattle.calls.proofs.propagate_columns.Statement.{statement}
+use Rattle.calls.proofs.propagate_columns.Tie as tie
+
+refuse-short-requires : tie.Need-refuse-short-requires
+refuse-short-requires c κs = search needs
+
+returns : tie.Need-returns
+returns c = let a = c .before .before .before .before .args in c .refuse-short .ensures _ ∙ sym (propagate-short (held (a .clauses .now) (a .literals .now) (a .variables .now) (a .c)) (a .st) (few-held (a .c) (c .before .if1 .taken)) (a .n))
+
+slice-aggregate-propagate : tie.Need-slice-aggregate-propagate
+slice-aggregate-propagate c = search needs
+
+slice-aggregate-propagate-2 : tie.Need-slice-aggregate-propagate-2
+slice-aggregate-propagate-2 c = search needs
+
+propagate-requires : tie.Need-propagate-requires
+propagate-requires c κs = search needs
+
+same-length : tie.Need-same-length
+same-length c = search needs
+
+same-length-2 : tie.Need-same-length-2
+same-length-2 c = search needs
+
+same-length-3 : tie.Need-same-length-3
+same-length-3 c = search needs
+
+returns-2 : tie.Need-returns-2
+returns-2 c = let a = c .before .before .before .before .before .before .before .before .before .before .before .before .before .before .before .args in whole (a .c) (c .before .before .before .before .before .before .before .before .before .before .before .before .if1 .left) (search (needs, c .before .before .before .before .before .before .before .before .before .before .before .before .before .before .before .good .1 .1 .1 .0)) (search (needs, c .before .before .before .before .before .before .before .before .before .before .before .before .before .before .before .good .1 .1 .1 .0)) (λ (ts : List ℕ) (ls : List ℤ). after (c .before .before .before .before .propagate .result) (tables (c .before .before .before .before .propagate .last .0) (c .before .before .before .before .propagate .last .1 .0) (c .before .before .before .before .propagate .last .1 .1 .0) ts ls) ≡ propagateCall (a .n) (tables (a .clauses .now) (a .literals .now) (a .variables .now) ts ls) (a .st)) (c .before .before .before .before .propagate .ensures)
+
+pub propagate-columns-spec : {M : Type 1} → statement M
+propagate-columns-spec =
+    tie.close
+    (tie.spec
+    refuse-short-requires
+    returns
+    slice-aggregate-propagate
+    slice-aggregate-propagate-2
+    propagate-requires
+    same-length
+    same-length-2
+    same-length-3
+    returns-2)

@@ -1,0 +1,42 @@
+-- `calls::write_columns` meets its contract: refusal 1 where the columns hold fewer than 2,048 records, and otherwise the call on the whole columns. Assumes nothing.
+use Prim.Native.Nat.{ℕ}
+use mathlib.Core.Path.{_≡_, sym}
+use mathlib.Core.List.{List}
+use lib.IntN.{ℤ}
+use Rattle.tables.specs.Tables.{tables}
+use Rattle.write.specs.Write.{afterWrite, writeCall}
+use Rattle.calls.specs.Calls.{held}
+use Rattle.calls.proofs.Short.{few-held, whole}
+use Rattle.calls.proofs.Refused.{write-short}
+use borrow.Author.Needs.{needs}
+use Rattle.calls.proofs.write_columns.Statement.{statement}
+use Rattle.calls.proofs.write_columns.Tie as tie
+
+returns : tie.Need-returns
+returns c = let a = c .before .before .before .before .args in sym (write-short (held (a .clauses .now) (a .literals .now) (a .variables .now) (a .c)) (a .st) (few-held (a .c) (c .if1 .taken)) (a .out .now))
+
+slice-aggregate-write : tie.Need-slice-aggregate-write
+slice-aggregate-write c = search needs
+
+slice-aggregate-write-2 : tie.Need-slice-aggregate-write-2
+slice-aggregate-write-2 c = search needs
+
+write-requires : tie.Need-write-requires
+write-requires c κs = search needs
+
+same-length : tie.Need-same-length
+same-length c = search needs
+
+returns-2 : tie.Need-returns-2
+returns-2 c = let a = c .before .before .before .before .before .before .before .before .before .before .before .before .args in whole (a .c) (c .before .before .before .before .before .before .before .before .if1 .left) (search needs) (search needs) (λ (ts : List ℕ) (ls : List ℤ). afterWrite (c .before .before .write .result) (c .before .before .write .last .1 .1 .1 .1 .1 .1 .0) ≡ writeCall (tables (a .clauses .now) (a .literals .now) (a .variables .now) ts ls) (a .st) (a .out .now)) (c .before .before .write .ensures)
+
+pub write-columns-spec : {M : Type 1} → statement M
+write-columns-spec =
+    tie.close
+    (tie.spec
+    returns
+    slice-aggregate-write
+    slice-aggregate-write-2
+    write-requires
+    same-length
+    returns-2)

@@ -1,0 +1,33 @@
+-- The tables with the stamps as records in a slice that the caller lends, and what Stamp leaves in that slice. Assumes nothing: these are definitions.
+use Prim.Native.Nat.{ℕ}
+use mathlib.Core.List.{List}
+use lib.IntN.{ℤ}
+use Rattle.state.specs.Answers.{Reply, replyOf}
+use Rattle.state.specs.declared.State.{State}
+use Rattle.state.specs.declared.Outcome.{Outcome}
+use Rattle.records.specs.declared.StampRecord.{StampRecord}
+use Rattle.records.specs.declared.Columns.{Columns}
+use Rattle.records.specs.Records.{timesOf, linksOf, packed, heldTimes, heldLinks}
+use Rattle.tables.specs.Tables.{Tables, tables}
+use Rattle.tables.specs.Calls.{After}
+
+-- the tables that the definitions of the calls speak of: a slice of fewer than 2,048 records gives columns that are too short, which every call refuses
+abbrev pub recorded : List ℕ → List ℤ → List ℤ → List StampRecord → Tables
+recorded clauses literals variables stamps = tables clauses literals variables (timesOf stamps) (linksOf stamps)
+
+-- the same with the columns by value
+abbrev pub held : List ℕ → List ℤ → List ℤ → Columns → Tables
+held clauses literals variables c = tables clauses literals variables (heldTimes c) (heldLinks c)
+
+-- what Stamp leaves: its reply, the state and the lent records. The other tables are lent to it for reading only
+pub record AfterStamp : Type 0 where
+  pub reply : Reply
+  pub state : State
+  pub stamps : List StampRecord
+
+abbrev pub afterStamp : Outcome → List StampRecord → AfterStamp
+afterStamp o stamps = record { reply = replyOf (o .answer); state = o .state; stamps = stamps }
+
+-- the definition's tables as records: the columns are put over the lent records, so that later ones stay
+abbrev pub inRecords : After → List StampRecord → AfterStamp
+inRecords a stamps = record { reply = a .reply; state = a .state; stamps = packed (a .tables .times) (a .tables .links) stamps }

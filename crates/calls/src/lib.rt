@@ -1,0 +1,299 @@
+// The calls over a lent slice of stamp records. Each copies the records into columns and hands these, by value, to a function that makes the call on columns:
+// refusal 1 where they hold fewer than 2,048 records, and else what the call's own crate does with them.
+use records::Columns;
+use records::StampRecord;
+use state::Answer;
+use state::Outcome;
+use state::Refusal;
+use state::State;
+ghost use mathlib.Core.Path.{_≡_};
+ghost use Rattle.tables.specs.Tables.{Tables};
+ghost use Rattle.tables.specs.Calls.{after, refuse};
+ghost use Rattle.state.specs.declared.Refusal.the-variants.{Shape};
+ghost use Rattle.load.specs.Load.{loadCall};
+ghost use Rattle.write.specs.Write.{afterWrite, writeCall};
+ghost use Rattle.propagate.specs.Propagate.{propagateCall};
+ghost use Rattle.merge.specs.Merge.{mergeCall};
+ghost use Rattle.stamp.specs.Stamp.{stampCall};
+ghost use Rattle.failed.specs.Failed.{failedCall};
+ghost use Rattle.sweep.specs.Sweep.{sweepCall};
+ghost use Rattle.calls.specs.Calls.{recorded, held, afterStamp, inRecords};
+
+// Refusal 1: fewer than 2,048 records are lent.
+fn refuse_short(st: State) -> Outcome
+    ensures { λ r. ⌜ ((t : Tables) → after r t ≡ refuse Shape st t) ⌝ }
+{
+    Outcome {
+        answer: Answer::Refused(Refusal::Shape),
+        state: st,
+    }
+}
+
+fn load_columns(
+    text: &[u8],
+    clauses: &mut [u32],
+    literals: &mut [i32],
+    variables: &mut [i32],
+    c: Columns,
+    st: State,
+) -> Outcome
+    ensures { λ r. ⌜ after r (held (now (clauses .exit)) (now (literals .exit)) (now (variables .exit)) c)
+        ≡ loadCall (now (text .entry)) (held (now (clauses .entry)) (now (literals .entry)) (now (variables .entry)) c) st ⌝ }
+{
+    if c.count < 2048 {
+        return refuse_short(st);
+    }
+    let times = c.times;
+    let links = c.links;
+    load::load(text, clauses, literals, variables, &times, &links, st)
+}
+
+// A load. Of the stamps only the number of records counts.
+pub fn load(
+    text: &[u8],
+    clauses: &mut [u32],
+    literals: &mut [i32],
+    variables: &mut [i32],
+    stamps: &[StampRecord],
+    st: State,
+) -> Outcome
+    ensures { λ r. ⌜ after r (recorded (now (clauses .exit)) (now (literals .exit)) (now (variables .exit)) (now (stamps .entry)))
+        ≡ loadCall (now (text .entry)) (recorded (now (clauses .entry)) (now (literals .entry)) (now (variables .entry)) (now (stamps .entry))) st ⌝ }
+{
+    let c = records::columns_of(stamps);
+    load_columns(text, clauses, literals, variables, c, st)
+}
+
+fn write_columns(
+    clauses: &[u32],
+    literals: &[i32],
+    variables: &[i32],
+    c: Columns,
+    st: State,
+    out: &mut [u8],
+) -> Answer
+    ensures { λ r. ⌜ afterWrite r (now (out .exit)) ≡ writeCall (held (now (clauses .entry)) (now (literals .entry)) (now (variables .entry)) c) st (now (out .entry)) ⌝ }
+{
+    if c.count < 2048 {
+        return Answer::Refused(Refusal::Shape);
+    }
+    let times = c.times;
+    let links = c.links;
+    write::write(clauses, literals, variables, &times, &links, st, out)
+}
+
+// Write. Of the stamps only the shape rule speaks.
+pub fn write(
+    clauses: &[u32],
+    literals: &[i32],
+    variables: &[i32],
+    stamps: &[StampRecord],
+    st: State,
+    out: &mut [u8],
+) -> Answer
+    ensures { λ r. ⌜ afterWrite r (now (out .exit)) ≡ writeCall (recorded (now (clauses .entry)) (now (literals .entry)) (now (variables .entry)) (now (stamps .entry))) st (now (out .entry)) ⌝ }
+{
+    let c = records::columns_of(stamps);
+    write_columns(clauses, literals, variables, c, st, out)
+}
+
+fn propagate_columns(
+    clauses: &mut [u32],
+    literals: &mut [i32],
+    variables: &mut [i32],
+    c: Columns,
+    st: State,
+    n: u16,
+) -> Outcome
+    ensures { λ r. ⌜ after r (held (now (clauses .exit)) (now (literals .exit)) (now (variables .exit)) c)
+        ≡ propagateCall n (held (now (clauses .entry)) (now (literals .entry)) (now (variables .entry)) c) st ⌝ }
+{
+    if c.count < 2048 {
+        return refuse_short(st);
+    }
+    let times = c.times;
+    let links = c.links;
+    propagate::propagate(clauses, literals, variables, &times, &links, st, n)
+}
+
+// Propagate. Of the stamps only the shape rule speaks.
+pub fn propagate(
+    clauses: &mut [u32],
+    literals: &mut [i32],
+    variables: &mut [i32],
+    stamps: &[StampRecord],
+    st: State,
+    n: u16,
+) -> Outcome
+    ensures { λ r. ⌜ after r (recorded (now (clauses .exit)) (now (literals .exit)) (now (variables .exit)) (now (stamps .entry)))
+        ≡ propagateCall n (recorded (now (clauses .entry)) (now (literals .entry)) (now (variables .entry)) (now (stamps .entry))) st ⌝ }
+{
+    let c = records::columns_of(stamps);
+    propagate_columns(clauses, literals, variables, c, st, n)
+}
+
+fn merge_columns(
+    clauses: &mut [u32],
+    literals: &mut [i32],
+    variables: &mut [i32],
+    c: Columns,
+    st: State,
+    n: u16,
+) -> Outcome
+    ensures { λ r. ⌜ after r (held (now (clauses .exit)) (now (literals .exit)) (now (variables .exit)) c)
+        ≡ mergeCall n (held (now (clauses .entry)) (now (literals .entry)) (now (variables .entry)) c) st ⌝ }
+{
+    if c.count < 2048 {
+        return refuse_short(st);
+    }
+    let times = c.times;
+    let links = c.links;
+    merge::merge(clauses, literals, variables, &times, &links, st, n)
+}
+
+// Merge. Of the stamps only the shape rule speaks.
+pub fn merge(
+    clauses: &mut [u32],
+    literals: &mut [i32],
+    variables: &mut [i32],
+    stamps: &[StampRecord],
+    st: State,
+    n: u16,
+) -> Outcome
+    ensures { λ r. ⌜ after r (recorded (now (clauses .exit)) (now (literals .exit)) (now (variables .exit)) (now (stamps .entry)))
+        ≡ mergeCall n (recorded (now (clauses .entry)) (now (literals .entry)) (now (variables .entry)) (now (stamps .entry))) st ⌝ }
+{
+    let c = records::columns_of(stamps);
+    merge_columns(clauses, literals, variables, c, st, n)
+}
+
+// What Stamp makes: the columns, and the outcome.
+struct Stamped {
+    columns: Columns,
+    outcome: Outcome,
+}
+
+fn stamp_columns(
+    clauses: &[u32],
+    literals: &[i32],
+    variables: &[i32],
+    c: Columns,
+    st: State,
+    order: &[i32],
+) -> Stamped
+    ensures { λ r. ⌜ (r .columns .count ≡ c .count) × (after (r .outcome) (held (now (clauses .entry)) (now (literals .entry)) (now (variables .entry)) (r .columns))
+        ≡ stampCall (now (order .entry)) (held (now (clauses .entry)) (now (literals .entry)) (now (variables .entry)) c) st) ⌝ }
+{
+    if c.count < 2048 {
+        return Stamped {
+            columns: c,
+            outcome: refuse_short(st),
+        };
+    }
+    let mut times = c.times;
+    let mut links = c.links;
+    let outcome = stamp::stamp(
+        clauses,
+        literals,
+        variables,
+        &mut times,
+        &mut links,
+        st,
+        order,
+    );
+    let count = c.count;
+    Stamped {
+        columns: Columns {
+            times,
+            links,
+            count,
+        },
+        outcome,
+    }
+}
+
+// Stamp. Later records of a longer slice stay.
+pub fn stamp(
+    clauses: &[u32],
+    literals: &[i32],
+    variables: &[i32],
+    stamps: &mut [StampRecord],
+    st: State,
+    order: &[i32],
+) -> Outcome
+    ensures { λ r. ⌜ afterStamp r (now (stamps .exit))
+        ≡ inRecords (stampCall (now (order .entry)) (recorded (now (clauses .entry)) (now (literals .entry)) (now (variables .entry)) (now (stamps .entry))) st) (now (stamps .entry)) ⌝ }
+{
+    let c = records::columns_of(stamps);
+    let d = stamp_columns(clauses, literals, variables, c, st, order);
+    records::put_columns(stamps, d.columns);
+    d.outcome
+}
+
+fn failed_columns(
+    clauses: &[u32],
+    literals: &[i32],
+    variables: &mut [i32],
+    c: Columns,
+    st: State,
+) -> Outcome
+    ensures { λ r. ⌜ after r (held (now (clauses .entry)) (now (literals .entry)) (now (variables .exit)) c)
+        ≡ failedCall (held (now (clauses .entry)) (now (literals .entry)) (now (variables .entry)) c) st ⌝ }
+{
+    if c.count < 2048 {
+        return refuse_short(st);
+    }
+    let times = c.times;
+    let links = c.links;
+    failed::failed(clauses, literals, variables, &times, &links, st)
+}
+
+// Failed.
+pub fn failed(
+    clauses: &[u32],
+    literals: &[i32],
+    variables: &mut [i32],
+    stamps: &[StampRecord],
+    st: State,
+) -> Outcome
+    ensures { λ r. ⌜ after r (recorded (now (clauses .entry)) (now (literals .entry)) (now (variables .exit)) (now (stamps .entry)))
+        ≡ failedCall (recorded (now (clauses .entry)) (now (literals .entry)) (now (variables .entry)) (now (stamps .entry))) st ⌝ }
+{
+    let c = records::columns_of(stamps);
+    failed_columns(clauses, literals, variables, c, st)
+}
+
+fn sweep_columns(
+    clauses: &mut [u32],
+    literals: &mut [i32],
+    variables: &[i32],
+    c: Columns,
+    st: State,
+    n: u16,
+) -> Outcome
+    ensures { λ r. ⌜ after r (held (now (clauses .exit)) (now (literals .exit)) (now (variables .entry)) c)
+        ≡ sweepCall n (held (now (clauses .entry)) (now (literals .entry)) (now (variables .entry)) c) st ⌝ }
+{
+    if c.count < 2048 {
+        return refuse_short(st);
+    }
+    let times = c.times;
+    let links = c.links;
+    sweep::sweep(clauses, literals, variables, &times, &links, st, n)
+}
+
+// Sweep.
+pub fn sweep(
+    clauses: &mut [u32],
+    literals: &mut [i32],
+    variables: &[i32],
+    stamps: &[StampRecord],
+    st: State,
+    n: u16,
+) -> Outcome
+    ensures { λ r. ⌜ after r (recorded (now (clauses .exit)) (now (literals .exit)) (now (variables .entry)) (now (stamps .entry)))
+        ≡ sweepCall n (recorded (now (clauses .entry)) (now (literals .entry)) (now (variables .entry)) (now (stamps .entry))) st ⌝ }
+{
+    let c = records::columns_of(stamps);
+    sweep_columns(clauses, literals, variables, c, st, n)
+}

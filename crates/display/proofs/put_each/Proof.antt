@@ -1,0 +1,61 @@
+-- `display::put_each` is safe and ends: the buffer keeps its length, and the literals left fall. Assumes nothing.
+use Prim.Native.Nat.{_-_, _≤_}
+use mathlib.Core.Path.{_≡_}
+use lib.ListN.{length}
+use borrow.Author.Needs.{needs}
+use Rattle.display.proofs.put_each.Statement.{statement}
+use Rattle.display.proofs.put_each.Tie as tie
+
+abbrev Inv-loop : tie.InvT-loop
+Inv-loop out₀ at literals count last next₀ i₀ out next i = (length out ≡ length out₀) × (last ≤ length literals)
+
+abbrev μ-loop : tie.MeasureT-loop
+μ-loop out₀ at literals count last next₀ i₀ out next i = last - i
+
+least-requires : tie.Need-least-requires Inv-loop μ-loop
+least-requires c κs = search needs
+
+loop-holds : tie.Need-loop-holds Inv-loop μ-loop
+loop-holds c = search needs
+
+mul-put-next-signed : tie.Need-mul-put-next-signed Inv-loop μ-loop
+mul-put-next-signed c = search needs
+
+shared-slice-copy-out-put-next-signed :
+    tie.Need-shared-slice-copy-out-put-next-signed Inv-loop μ-loop
+shared-slice-copy-out-put-next-signed c = search needs
+
+put-next-signed-requires : tie.Need-put-next-signed-requires Inv-loop μ-loop
+put-next-signed-requires c κs = search needs
+
+add-i : tie.Need-add-i Inv-loop μ-loop
+add-i c = search needs
+
+loop-less : tie.Need-loop-less Inv-loop μ-loop
+loop-less c = search needs
+
+loop-again : tie.Need-loop-again Inv-loop μ-loop
+loop-again c = search needs
+
+same-length : tie.Need-same-length Inv-loop μ-loop
+same-length c = search needs
+
+returns : tie.Need-returns Inv-loop μ-loop
+returns c = search needs
+
+pub put-each-spec : {M : Type 1} → statement M
+put-each-spec =
+    tie.close
+    (tie.spec
+    Inv-loop
+    μ-loop
+    least-requires
+    loop-holds
+    mul-put-next-signed
+    shared-slice-copy-out-put-next-signed
+    put-next-signed-requires
+    add-i
+    loop-less
+    loop-again
+    same-length
+    returns)

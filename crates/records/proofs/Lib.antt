@@ -1,0 +1,6 @@
+pub mod Again
+pub mod Big
+pub mod Cases
+pub mod Local
+pub mod Over
+pub mod Packed

@@ -1,0 +1,67 @@
+-- A run's Stamp is never refused: what Settle leaves without the mark has no clause that refusal 6 names and no cycle for refusal 7, and the order of a round has no entry for refusal 8. Assumes nothing.
+use Prim.Native.Nat.{ℕ, _+_, _*_, _≤_, _<_}
+use native.Mathlib.Omega.{arith}
+use mathlib.Core.Path.{_≡_, refl, sym, ap, subst, _∙_}
+use mathlib.Core.Bool.{Bool, true, false}
+use mathlib.Core.List.{List}
+use lib.ListN.{length}
+use lib.Dec.{ltb, eqb}
+use lib.IntN.{ℤ}
+use borrow.Author.Tests.{eq-eqb, le-ltb}
+use Rattle.state.specs.declared.State.{State}
+use Rattle.state.specs.declared.Refusal.the-variants.{Unsettled, Cyclic, Order}
+use Rattle.tables.specs.Tables.{Tables}
+use Rattle.tables.specs.Passes.{firstUnsettled}
+use Rattle.tables.specs.Calls.{After, refuse}
+use Rattle.groups.specs.Groups.{cyclic}
+use Rattle.merge.specs.Merge.{edgesOf}
+use Rattle.stamp.specs.Stamp.{firstBad, stampFresh, stampAcyclic, stampSettled, stampOrdered}
+use Rattle.settle.specs.Settle.{Standing, settle}
+use Rattle.settle.specs.Steps.{standingIn}
+use Rattle.settle.proofs.Acyclic.{Quiet, settle-quiet}
+use Rattle.run.specs.Run.{orderOf}
+use Rattle.run.specs.Steps.{Runs}
+use Rattle.run.proofs.Orders.{order-length}
+use Rattle.run.proofs.Passing.{order-passes}
+use Rattle.run.proofs.Running.{runs-formed}
+
+-- a Stamp that no test stops
+module _ (order : List ℤ) (t : Tables) (st : State) where
+  acyclic-fresh : cyclic (edgesOf t (st .n)) (2 * st .v) ≡ false → stampAcyclic order t st ≡ stampFresh order t st
+  unfolding stampAcyclic
+  acyclic-fresh e = ap by e
+    where
+      by : Bool → After
+      by b = elim b [ true ↦ refuse Cyclic st t | false ↦ stampFresh order t st ]
+
+  settled-fresh : firstUnsettled t (st .n) ≡ st .n → cyclic (edgesOf t (st .n)) (2 * st .v) ≡ false → stampSettled order t st ≡ stampFresh order t st
+  unfolding stampSettled
+  settled-fresh settled e = ap by (le-ltb (firstUnsettled t (st .n)) (st .n) (omega (arith, settled))) ∙ acyclic-fresh e
+    where
+      by : Bool → After
+      by b = elim b [ true ↦ refuse (Unsettled (firstUnsettled t (st .n) + 1)) st t | false ↦ stampAcyclic order t st ]
+
+  pub ordered-fresh : length order ≡ 2 * st .v → firstBad (st .v) order ≡ 2 * st .v → firstUnsettled t (st .n) ≡ st .n → cyclic (edgesOf t (st .n)) (2 * st .v) ≡ false → stampOrdered order t st ≡ stampFresh order t st
+  unfolding stampOrdered
+  ordered-fresh many good settled e = ap by-length (eq-eqb (length order) (2 * st .v) many) ∙ ap by-entry (le-ltb (firstBad (st .v) order) (2 * st .v) (omega (arith, good))) ∙ settled-fresh settled e
+    where
+      by-entry : Bool → After
+      by-entry b = elim b [ true ↦ refuse (Order (firstBad (st .v) order)) st t | false ↦ stampSettled order t st ]
+
+      by-length : Bool → After
+      by-length b =
+          elim b [
+            | true ↦ elim (ltb (firstBad (st .v) order) (2 * st .v)) [ true ↦ refuse (Order (firstBad (st .v) order)) st t | false ↦ stampSettled order t st ]
+            | false ↦ refuse (Order 0) st t
+          ]
+
+-- THE THEOREM
+pub stamp-taken : (k : ℕ) {w : Standing} → Runs w → settle w .state .mark ≡ false
+    → stampOrdered (orderOf (settle w .state .v) k) (settle w .tables) (settle w .state) ≡ stampFresh (orderOf (settle w .state .v) k) (settle w .tables) (settle w .state)
+stamp-taken k {w} R clear =
+    let Q = settle-quiet (w .tables) (w .state) (runs-formed R) clear in
+    let same-n : settle w .state .n ≡ w .state .n = ap (λ (s : State). s .n) (Q .state) in
+    let same-v : settle w .state .v ≡ w .state .v = ap (λ (s : State). s .v) (Q .state) in
+    let few : settle w .state .v ≤ 1024 = omega (arith, same-v, R .shape .v-limit) in
+    ordered-fresh (orderOf (settle w .state .v) k) (settle w .tables) (settle w .state) (order-length (settle w .state .v) k) (order-passes (settle w .state .v) k few)
+    (subst (λ (x : ℕ). firstUnsettled (settle w .tables) x ≡ x) (sym same-n) (Q .settled)) (Q .acyclic)
