@@ -20,6 +20,7 @@ use Rattle.merge.specs.Merge.{mergeBy, mergeCall}
 use Rattle.stamp.specs.Stamp.{stampBy, stampCall}
 use Rattle.failed.specs.Failed.{failedBy, failedCall}
 use Rattle.sweep.specs.Sweep.{sweepBy, sweepCall}
+use Rattle.run.specs.Run.{runBy, runCall}
 use Rattle.calls.specs.Calls.{recorded}
 use Rattle.calls.proofs.Short.{short-shape, short-entry, short-long, few-lent}
 
@@ -52,6 +53,10 @@ module _ (t : Tables) (st : State) (short : length (t .times) < 4096) where
   unfolding sweepCall
   sweep-short n = ap (λ (e : Entry). sweepBy e n t st) (short-entry t short 3 st)
 
+  pub run-short : (n : ℕ) → runCall n t st ≡ refuse Shape st t
+  unfolding runCall
+  run-short n = ap (λ (e : Entry). runBy e n t st) (short-entry t short 0 st)
+
 -- document 01, refusal 1: "a table is shorter than stated", of the lent records
 module _ (clauses : List ℕ) (literals variables : List ℤ) (stamps : List StampRecord) (st : State) (few : length stamps < 2048) where
   abbrev t : Tables
@@ -59,7 +64,8 @@ module _ (clauses : List ℕ) (literals variables : List ℤ) (stamps : List Sta
 
   pub few-refused : ((text : List ℕ) → loadCall text t st ≡ refuse Shape st t) × ((out : List ℕ) → writeCall t st out ≡ afterWrite (Refused Shape) out) × ((n : ℕ) → propagateCall n t st ≡ refuse Shape st t)
       × ((n : ℕ) → mergeCall n t st ≡ refuse Shape st t) × ((order : List ℤ) → stampCall order t st ≡ refuse Shape st t) × (failedCall t st ≡ refuse Shape st t) × ((n : ℕ) → sweepCall n t st ≡ refuse Shape st t)
-  few-refused = (load-short t st short, write-short t st short, propagate-short t st short, merge-short t st short, stamp-short t st short, failed-short t st short, sweep-short t st short)
+      × ((n : ℕ) → runCall n t st ≡ refuse Shape st t)
+  few-refused = (load-short t st short, write-short t st short, propagate-short t st short, merge-short t st short, stamp-short t st short, failed-short t st short, sweep-short t st short, run-short t st short)
     where
       short : length (t .times) < 4096
       short = few-lent stamps few

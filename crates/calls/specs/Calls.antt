@@ -1,4 +1,4 @@
--- The tables with the stamps as records in a slice that the caller lends, and what Stamp leaves in that slice. Assumes nothing: these are definitions.
+-- The tables with the stamps as records in a slice that the caller lends, and what Stamp and Run leave in that slice. Assumes nothing: these are definitions.
 use Prim.Native.Nat.{ℕ}
 use mathlib.Core.List.{List}
 use lib.IntN.{ℤ}
@@ -31,3 +31,26 @@ afterStamp o stamps = record { reply = replyOf (o .answer); state = o .state; st
 -- the definition's tables as records: the columns are put over the lent records, so that later ones stay
 abbrev pub inRecords : After → List StampRecord → AfterStamp
 inRecords a stamps = record { reply = a .reply; state = a .state; stamps = packed (a .tables .times) (a .tables .links) stamps }
+
+-- what Run leaves: its reply, the state, the tables and the lent records
+pub record AfterRun : Type 0 where
+  pub reply : Reply
+  pub state : State
+  pub clauses : List ℕ
+  pub literals : List ℤ
+  pub variables : List ℤ
+  pub stamps : List StampRecord
+
+abbrev pub afterRun : Outcome → List ℕ → List ℤ → List ℤ → List StampRecord → AfterRun
+afterRun o clauses literals variables stamps = record { reply = replyOf (o .answer); state = o .state; clauses = clauses; literals = literals; variables = variables; stamps = stamps }
+
+-- the definition's tables, the stamps as records over the lent ones
+abbrev pub runInRecords : After → List StampRecord → AfterRun
+runInRecords a stamps = record {
+  reply = a .reply;
+  state = a .state;
+  clauses = a .tables .clauses;
+  literals = a .tables .literals;
+  variables = a .tables .variables;
+  stamps = packed (a .tables .times) (a .tables .links) stamps;
+}

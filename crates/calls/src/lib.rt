@@ -17,7 +17,8 @@ ghost use Rattle.merge.specs.Merge.{mergeCall};
 ghost use Rattle.stamp.specs.Stamp.{stampCall};
 ghost use Rattle.failed.specs.Failed.{failedCall};
 ghost use Rattle.sweep.specs.Sweep.{sweepCall};
-ghost use Rattle.calls.specs.Calls.{recorded, held, afterStamp, inRecords};
+ghost use Rattle.run.specs.Run.{runCall};
+ghost use Rattle.calls.specs.Calls.{recorded, held, afterStamp, inRecords, afterRun, runInRecords};
 
 // Refusal 1: fewer than 2,048 records are lent.
 fn refuse_short(st: State) -> Outcome
@@ -167,7 +168,7 @@ pub fn merge(
     merge_columns(clauses, literals, variables, c, st, n)
 }
 
-// What Stamp makes: the columns, and the outcome.
+// What Stamp and Run make: the columns, and the outcome.
 struct Stamped {
     columns: Columns,
     outcome: Outcome,
@@ -296,4 +297,54 @@ pub fn sweep(
 {
     let c = records::columns_of(stamps);
     sweep_columns(clauses, literals, variables, c, st, n)
+}
+
+fn run_columns(
+    clauses: &mut [u32],
+    literals: &mut [i32],
+    variables: &mut [i32],
+    c: Columns,
+    st: State,
+    n: u16,
+) -> Stamped
+    ensures { λ r. ⌜ (r .columns .count ≡ c .count) × (after (r .outcome) (held (now (clauses .exit)) (now (literals .exit)) (now (variables .exit)) (r .columns))
+        ≡ runCall n (held (now (clauses .entry)) (now (literals .entry)) (now (variables .entry)) c) st) ⌝ }
+{
+    if c.count < 2048 {
+        return Stamped {
+            columns: c,
+            outcome: refuse_short(st),
+        };
+    }
+    let mut times = c.times;
+    let mut links = c.links;
+    let outcome = run::run(clauses, literals, variables, &mut times, &mut links, st, n);
+    let count = c.count;
+    let ran = Columns {
+        times,
+        links,
+        count,
+    };
+    Stamped {
+        columns: ran,
+        outcome,
+    }
+}
+
+// Run. Later records of a longer slice stay.
+pub fn run(
+    clauses: &mut [u32],
+    literals: &mut [i32],
+    variables: &mut [i32],
+    stamps: &mut [StampRecord],
+    st: State,
+    n: u16,
+) -> Outcome
+    ensures { λ r. ⌜ afterRun r (now (clauses .exit)) (now (literals .exit)) (now (variables .exit)) (now (stamps .exit))
+        ≡ runInRecords (runCall n (recorded (now (clauses .entry)) (now (literals .entry)) (now (variables .entry)) (now (stamps .entry))) st) (now (stamps .entry)) ⌝ }
+{
+    let c = records::columns_of(stamps);
+    let ran = run_columns(clauses, literals, variables, c, st, n);
+    records::put_columns(stamps, ran.columns);
+    ran.outcome
 }

@@ -9,6 +9,7 @@ use lib.Dec.{eqb}
 use lib.IntN.{ℤ}
 use Rattle.literal.specs.Assignments.{Assignment, Satisfies}
 use Rattle.state.specs.declared.State.{State}
+use Rattle.state.specs.declared.Pass.the-variants.{Idle}
 use Rattle.tables.specs.Tables.{Tables}
 use Rattle.tables.specs.Long.{Long}
 use Rattle.tables.specs.Stands as stands
@@ -20,6 +21,7 @@ use Rattle.shape.specs.declared.Entry.the-variants.{No, Opens, Resumes}
 use Rattle.dimacs.specs.Text.{judgeText, textClauses}
 use Rattle.dimacs.specs.declared.Verdict.the-variants.{Fits}
 use Rattle.load.specs.Load.{loadCall}
+use Rattle.roundtrip.proofs.Reread.{text-loads}
 use Rattle.stamp.specs.Stamp.{stampBy, stampCall}
 use Rattle.failed.specs.Failed.{failedBy, failedCall}
 use Rattle.sweep.specs.Sweep.{sweepBy, sweepCall}
@@ -35,6 +37,7 @@ use Rattle.run.proofs.Keeping.{follow-runs, round-runs}
 use Rattle.run.proofs.Calling.{opens-runs, resumes-runs}
 use Rattle.unhiding.specs.Lists.{Call, propagate, merge, stamp, failed, sweep, stepsOn}
 use Rattle.represented.proofs.Made.{Few, Made, left, made-none, made-call, made-then}
+use Rattle.represented.proofs.Loaded.{load-held}
 use Rattle.represented.proofs.Demand3 as list
 
 few-clauses : {w : Standing} → Runs w → w .state .n ≤ 65535
@@ -162,3 +165,9 @@ module _ (text : List ℕ) (v n body : ℕ) (accepted : judgeText text ≡ Fits 
   run-keeps count τ =
       let M = run-calls count (loaded .tables) (loaded .state) in
       subst (λ (w : Standing). stands.Stands (w .tables) (w .state) τ ↔ Satisfies τ (textClauses text)) (M .ends) (list.demand-3 text v n body accepted t L st (M .calls) τ)
+
+  -- and it is not refused, unless the load has set the mark
+  pub run-taken : loaded .state .mark ≡ false → entryOf 0 (loaded .tables) (loaded .state) ≡ Opens
+  run-taken clear =
+      let idle : loaded .state .pass ≡ Idle = ap (λ (a : After). a .state .pass) (text-loads text v n body accepted t L st) in
+      runs-opens (record { shape = load-held text v n body accepted t L st .shape; idle = idle; unmarked = clear }) 0

@@ -190,7 +190,9 @@ fn table_of(line: &[u8], from: usize, to: usize) -> Named {
 }
 
 // The records that there are: 16 more than stated.
-fn records_of(table: Table) -> u32 {
+fn records_of(table: Table) -> u32
+    ensures { λ r. ⌜ r ≤ 16400 ⌝ }
+{
     match table {
         Table::Clauses => 4112,
         Table::Literals => 16400,
@@ -292,7 +294,7 @@ fn set_link(line: &[u8], from: usize, place: usize) -> Line {
 
 // Discovery and finish are times, parent and start links.
 fn set_stamp(line: &[u8], from: usize, row: usize, field: usize) -> Line
-    requires { ⌜ row < 65536 ⌝ }
+    requires { ⌜ row < 16400 ⌝ }
 {
     if field < 2 {
         return set_time(line, from, row * 2 + field);
@@ -305,7 +307,7 @@ fn set_stamp(line: &[u8], from: usize, row: usize, field: usize) -> Line
 
 // One number of a record; the value stands from `from` to the end of the line.
 fn set_field(line: &[u8], from: usize, table: Table, row: usize, field: usize) -> Line
-    requires { ⌜ row < 65536 ⌝ }
+    requires { ⌜ row < 16400 ⌝ }
 {
     match table {
         Table::Clauses => {
@@ -331,9 +333,6 @@ fn set_field(line: &[u8], from: usize, table: Table, row: usize, field: usize) -
 // The field stands from `from` on, and behind it the value.
 fn set_record(line: &[u8], from: usize, table: Table, row: u32) -> Line {
     if records_of(table) <= row {
-        return Line::Wrong;
-    }
-    if 65535 < row {
         return Line::Wrong;
     }
     let end = word_end(line, from);

@@ -69,7 +69,7 @@ fn lots(_random: &mut Random, size: usize) -> (usize, Vec<Vec<i32>>) {
     (variables as usize, clauses)
 }
 
-/// Rings of eight equal literals, and triples over them.
+/// Rings of eight equal literals, and triples over them: three quarters of the clauses, so that what is written fits the program's output.
 fn rings(random: &mut Random, size: usize) -> (usize, Vec<Vec<i32>>) {
     let variables = size / 4;
     let mut clauses = Vec::new();
@@ -79,7 +79,7 @@ fn rings(random: &mut Random, size: usize) -> (usize, Vec<Vec<i32>>) {
             clauses.push(vec![-(a as i32), b as i32]);
         }
     }
-    while clauses.len() < size {
+    while clauses.len() < 3 * size / 4 {
         clauses.push(different(random, variables, 3));
     }
     random.shuffle(&mut clauses);
