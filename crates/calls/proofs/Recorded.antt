@@ -30,12 +30,12 @@ use Rattle.stamp.proofs.Freshness.{times-long, links-long}
 use Rattle.calls.specs.Calls.{recorded, AfterStamp, afterStamp, inRecords}
 
 -- the tables that Stamp only reads, and as many stamps
-record Kept (t u : Tables) : Type 0 where
-  clauses : t .clauses ≡ u .clauses
-  literals : t .literals ≡ u .literals
-  variables : t .variables ≡ u .variables
-  times : length (u .times) ≡ length (t .times)
-  links : length (u .links) ≡ length (t .links)
+pub record Kept (t u : Tables) : Type 0 where
+  pub clauses : t .clauses ≡ u .clauses
+  pub literals : t .literals ≡ u .literals
+  pub variables : t .variables ≡ u .variables
+  pub times : length (u .times) ≡ length (t .times)
+  pub links : length (u .links) ≡ length (t .links)
 
 unchanged : (t : Tables) → Kept t t
 unchanged t = record { clauses = refl; literals = refl; variables = refl; times = refl; links = refl }
@@ -58,7 +58,7 @@ module _ (order : List ℤ) (t : Tables) (st : State) where
       go true e = subst (λ (a : After). Kept t (a .tables)) (sym (acyclic-no order t st e)) (unchanged t)
       go false e = subst (λ (a : After). Kept t (a .tables)) (sym (acyclic-yes order t st e)) (written K)
 
-  stamp-kept : Kept t (stampCall order t st .tables)
+  pub stamp-kept : Kept t (stampCall order t st .tables)
   stamp-kept = by (askOf order t st) refl
     where
       by : (r : Ruling) → askOf order t st ≡ r → Kept t (stampCall order t st .tables)

@@ -1,8 +1,7 @@
 -- `calls::run` meets its contract: a walk of its MIR, by hand. The records are read into columns (the slice is shared for that call), Run is made on those by value, with the three other tables given up to that call, and the columns are put into the slice, which is given up to the last call.
 -- All that the proof knows of the three callees is that each meets its contract. Assumes nothing.
-use mathlib.Core.Path.{_≡_, refl, sym, _∙_, ap, subst}
-use Prim.Native.Nat.{ℕ, _<_, _≤_, _^_, min}
-use native.Mathlib.Nat.{min-le-left, min-le-right}
+use mathlib.Core.Path.{_≡_, refl, _∙_, ap}
+use Prim.Native.Nat.{ℕ, _<_, _^_}
 use mathlib.Core.List.{List, [], _∷_}
 use lib.IntN.{ℤ}
 use lib.ListN.{length}
@@ -53,7 +52,6 @@ use Rattle.state.proofs.Outcome as Re
 use Rattle.state.proofs.Outcome.Laws as Re′
 use Rattle.records.specs.declared.StampRecord.{StampRecord}
 use Rattle.records.specs.declared.Columns.{Columns}
-use Rattle.records.specs.Records.{packed, heldTimes, heldLinks}
 use Rattle.records.proofs.Local.{only}
 use Rattle.records.proofs.Columns as K
 use Rattle.records.proofs.Columns.Laws as K′
@@ -74,6 +72,7 @@ use Rattle.calls.proofs.Stamped as D
 use Rattle.calls.proofs.Stamped.Laws as D′
 use Rattle.calls.proofs.Short.{as-recorded}
 use Rattle.calls.proofs.Columned.{R, Co, Columned, to-co, asks-co, says-co}
+use Rattle.calls.proofs.Returned.{Pu, is-columns, is-outcome, Put, to-pu, asks-pu}
 use Rattle.calls.proofs.run_columns as ca
 use Rattle.calls.proofs.run_columns.Symbol as ca-def
 use Rattle.calls.proofs.run_columns.Symbol.{name as #ca}
@@ -90,27 +89,9 @@ stayed = (gave-slice (0 ∷ []) tt (plain (λ _. u32)), (gave-slice (1 ∷ []) t
 abbrev Last : Type 0
 Last = List ℕ × (List ℤ × (List ℤ × (Unit {0} × (Unit {0} × (Unit {0} × (Unit {0}))))))
 
--- the contracts that the proof cites, besides that of `columns_of` (`Columned.antt`)
-module _ {M : Type 1} (𝓤 : URA M) (H : Heap 𝓤) (A : Atoms 𝓤) (mem : Memory → SProp 𝓤) (run : Routine → Fun 𝓤) where
-  abbrev Ca : Contract 𝓤
-  Ca = tripleOf 𝓤 H A ca.signature (ca.spec 𝓤 H A mem run)
-
-  abbrev Pu : Contract 𝓤
-  Pu = tripleOf 𝓤 H A pu.signature (pu.spec 𝓤 H A mem run)
-
--- the facts of the two fields of what the pass makes
-module _ (d : Stamped) (us : List Val) (is-d : Is D.the-row d us) where
-  is-columns : Is K.the-row (d .columns) (K′.lowered (d .columns) ∷ [])
-  is-columns = subst (Is K.the-row (d .columns)) (K′.lowers .val-is (d .columns) _ at-field) at-field
-    where
-      at-field : Is K.the-row (d .columns) (LL.vals K.the-type K′.the-laws (d .columns))
-      at-field = LL.owed D.the-type D′.the-laws d us is-d .0
-
-  is-outcome : Is Re.the-row (d .outcome) (Re′.lowered (d .outcome) ∷ [])
-  is-outcome = subst (Is Re.the-row (d .outcome)) (Re′.lowers .val-is (d .outcome) _ at-field) at-field
-    where
-      at-field : Is Re.the-row (d .outcome) (LL.vals Re.the-type Re′.the-laws (d .outcome))
-      at-field = LL.owed D.the-type D′.the-laws d us is-d .1 .0
+-- the contract that the proof cites, besides those of `columns_of` (`Columned.antt`) and `put_columns` (`Returned.antt`)
+abbrev Ca : {M : Type 1} (𝓤 : URA M) (H : Heap 𝓤) (A : Atoms 𝓤) (mem : Memory → SProp 𝓤) (run : Routine → Fun 𝓤) → Contract 𝓤
+Ca 𝓤 H A mem run = tripleOf 𝓤 H A ca.signature (ca.spec 𝓤 H A mem run)
 
 module _ {M : Type 1} (𝓤 : URA M) (H : Heap 𝓤) (A : Atoms 𝓤) (W : Given 𝓤 H A) (mem : Memory → SProp 𝓤) (run : Routine → Fun 𝓤) (κ₀ κ₁ κ₂ κ₃ : Lft) (q₀ q₁ q₂ q₃ : Share) (r₁ : RefT (List ℕ)) (r₂ : RefT (List ℤ)) (r₃ : RefT (List ℤ)) (b o : ℕ) (γ : GName) (ys : List StampRecord) (st : State) (n : ℕ) (is-st : Is S.the-row st (S′.lowered st ∷ [])) (n-fits : n < 2 ^ 16) where
   -- the lent slice under a name
@@ -163,31 +144,18 @@ module _ {M : Type 1} (𝓤 : URA M) (H : Heap 𝓤) (A : Atoms 𝓤) (W : Given
   abbrev Said : Columns → Stamped → Last → Type 0
   Said c d zs = (d .columns .count ≡ c .count) × (after (d .outcome) (held (zs .0) (zs .1 .0) (zs .1 .1 .0) (d .columns)) ≡ runCall n (held (r₁ .now) (r₂ .now) (r₃ .now) c) st)
 
-  -- the columns that are put back are of as many records
-  abbrev to-pu : Stamped → Pu 𝓤 H A mem run .Ghost
-  to-pu d = (((κ₃, tt), (q₃, tt), tt, (s γ ys, (d .columns, tt)), (v₄ ∷ [], (K′.lowered (d .columns) ∷ [], tt))), tt)
-
-  asks-pu : (c : Columns) (d : Stamped) → Columned ys c → d .columns .count ≡ c .count
-      → ent 𝓤 (onEntry 𝓤 H A pu.signature (κ₃, tt) (q₃, tt) (s γ ys, (d .columns, tt)) (v₄ ∷ [], (K′.lowered (d .columns) ∷ [], tt))) (Pu 𝓤 H A mem run .pre (to-pu d))
-  asks-pu c d columned as-many =
-      qed W ((‵ (flft κ₃ q₃) ⊛ ‵ ftrue) ∷ ‵ (owns (MutSlice (named 0) κ₃ R ∷ K.the-row ∷ []) (s γ ys, (d .columns, tt)) (v₄ ∷ [], (K′.lowered (d .columns) ∷ [], tt))) ∷ []) ∵
-      says ! (subst (λ (k : ℕ). k ≤ 2048) (sym count) (min-le-left 2048 (length ys)), subst (λ (k : ℕ). k ≤ length ys) (sym count) (min-le-right 2048 (length ys))) $ frame ! $ done !
-    where
-      count : d .columns .count ≡ min 2048 (length ys)
-      count = as-many ∙ columned .0
-
-  abbrev Put : Stamped → List StampRecord → Type 0
-  Put d ws = ws ≡ packed (heldTimes (d .columns)) (heldLinks (d .columns)) ys
+  abbrev to-put : Stamped → Pu 𝓤 H A mem run .Ghost
+  to-put d = to-pu 𝓤 H A W mem run κ₃ q₃ (s γ ys) d
 
   abbrev Asked : Stamped → Last → List StampRecord → Type 0
   Asked d zs ws = afterRun (d .outcome) (zs .0) (zs .1 .0) (zs .1 .1 .0) ws ≡ runInRecords (runCall n (recorded (r₁ .now) (r₂ .now) (r₃ .now) ys) st) ys
 
-  asked : (c : Columns) (d : Stamped) (zs : Last) (ws : List StampRecord) → Columned ys c → Said c d zs → Put d ws → Asked d zs ws
+  asked : (c : Columns) (d : Stamped) (zs : Last) (ws : List StampRecord) → Columned ys c → Said c d zs → Put ys d ws → Asked d zs ws
   asked c d zs ws columned said was-put =
       as-recorded c ys (columned .1) (columned .2) (λ (ts : List ℕ) (ls : List ℤ). afterRun (d .outcome) (zs .0) (zs .1 .0) (zs .1 .1 .0) ws ≡ runInRecords (runCall n (tableLists (r₁ .now) (r₂ .now) (r₃ .now) ts ls) st) ys)
       (ap (λ (l : List StampRecord). afterRun (d .outcome) (zs .0) (zs .1 .0) (zs .1 .1 .0) l) was-put ∙ ap (λ (a : After). runInRecords a ys) (said .1))
 
-  exits : (c : Columns) (d : Stamped) (zs : Last) (ws : List StampRecord) → Is Re.the-row (d .outcome) (Re′.lowered (d .outcome) ∷ []) → Columned ys c → Said c d zs → Put d ws → length (zs .0) ≡ length (r₁ .now) → length (zs .1 .0) ≡ length (r₂ .now) → length (zs .1 .1 .0) ≡ length (r₃ .now) → length ws ≡ length ys
+  exits : (c : Columns) (d : Stamped) (zs : Last) (ws : List StampRecord) → Is Re.the-row (d .outcome) (Re′.lowered (d .outcome) ∷ []) → Columned ys c → Said c d zs → Put ys d ws → length (zs .0) ≡ length (r₁ .now) → length (zs .1 .0) ≡ length (r₂ .now) → length (zs .1 .1 .0) ≡ length (r₃ .now) → length ws ≡ length ys
       → ent 𝓤 (⋆ 𝓤 H A (‵ (flft κ₀ q₀) ∷ ‵ (flft κ₁ q₁) ∷ ‵ (flft κ₂ q₂) ∷ ‵ (flft κ₃ q₃) ∷ ‵ (finally u32 (r₁ .name) (zs .0)) ∷ ‵ (finally i32 (r₂ .name) (zs .1 .0)) ∷ ‵ (finally i32 (r₃ .name) (zs .1 .1 .0)) ∷ ‵ (finally R γ ws) ∷ [])) (Post (Re′.lowered (d .outcome)))
   exits c d zs ws is-o columned said was-put e₁ e₂ e₃ e₄ =
       qed W (‵ (flft κ₀ q₀) ∷ ‵ (flft κ₁ q₁) ∷ ‵ (flft κ₂ q₂) ∷ ‵ (flft κ₃ q₃) ∷ ‵ (finally u32 (r₁ .name) (zs .0)) ∷ ‵ (finally i32 (r₂ .name) (zs .1 .0)) ∷ ‵ (finally i32 (r₃ .name) (zs .1 .1 .0)) ∷ ‵ (finally R γ ws) ∷ []) ∵
@@ -246,11 +214,11 @@ module _ {M : Type 1} (𝓤 : URA M) (H : Heap 𝓤) (A : Atoms 𝓤) (W : Given
         -- the columns are put into the records
         assigns ! (addr ! (from ! (fld ! refl (hop ! (look-in ! 38 (sub ! 0 refl (whole !))) (stop !))))) (from ! (stop !)) (init ! 10 refl (tt, tt)) $
         assigns ! (agg ! (and-then ! (load ! (from ! (stop !)) (look ! 10 refl)) (and-then ! (load ! (from ! (fld ! refl (stop !))) (look-in ! 38 (sub ! 1 refl (whole !)))) (no-more !)))) (from ! (stop !)) (init ! 8 refl (tt, (tt, (record { fits = g₄ .0 }, tt)))) $
-        nothing ! $ owned ! K.the-row (Is K.the-row) (LL.makes K.the-type K′.the-plain 𝓤 H A) (d .columns) (K′.lowered (d .columns) ∷ []) (is-columns d (u′ ∷ []) is-d) $ fjoin ! $ move ! (7 ∷ 0 ∷ []) $ fjoin ! $ nothing ! $ move ! (8 ∷ 0 ∷ []) $ join ! $ use2 W (raw (Pu 𝓤 H A mem run .pre (to-pu d))) (asks-pu c d columned (said .0)) $
-        calls-at ! fm (Pu 𝓤 H A mem run) known-pu (to-pu d) (and-then ! (load ! (from ! (stop !)) (look ! 7 refl)) (and-then ! (load ! (from ! (fld ! refl (stop !))) (look-in ! 29 (sub ! 0 refl (whole !)))) (no-more !))) (λ w.
+        nothing ! $ owned ! K.the-row (Is K.the-row) (LL.makes K.the-type K′.the-plain 𝓤 H A) (d .columns) (K′.lowered (d .columns) ∷ []) (is-columns d (u′ ∷ []) is-d) $ fjoin ! $ move ! (7 ∷ 0 ∷ []) $ fjoin ! $ nothing ! $ move ! (8 ∷ 0 ∷ []) $ join ! $ use2 W (raw (Pu 𝓤 H A mem run .pre (to-put d))) (asks-pu 𝓤 H A W mem run κ₃ q₃ (s γ ys) c d columned (said .0)) $
+        calls-at ! fm (Pu 𝓤 H A mem run) known-pu (to-put d) (and-then ! (load ! (from ! (stop !)) (look ! 7 refl)) (and-then ! (load ! (from ! (fld ! refl (stop !))) (look-in ! 29 (sub ! 0 refl (whole !)))) (no-more !))) (λ w.
         use1 W (later (some (λ (r : Unit {0}). ((‵ (flft κ₃ q₃) ⊛ ‵ ftrue) ⊛ ‵ (Nothing .own r (w ∷ []))) ⊛ raw (ensured 𝓤 H A pu.ended (pu.clauses 𝓤 H A mem run) (κ₃, tt) (s γ ys, (d .columns, tt)) tt r)))) (id⊢ 𝓤 _) $ await ! tt $ pick ! (λ r.
-        split ! $ move ! (1 ∷ []) $ use1 W (some (λ (ws : List StampRecord × (Unit {0} × Unit {0})). ‵ (lasts pu.ended (κ₃, tt) (s γ ys, (d .columns, tt)) ws) ⊛ raw (fact 𝓤 (Put d (ws .0))))) (id⊢ 𝓤 _) $ pick ! (λ ws.
-        split ! $ move ! (1 ∷ []) $ heard ! (Put d (ws .0)) (λ was-put.
+        split ! $ move ! (1 ∷ []) $ use1 W (some (λ (ws : List StampRecord × (Unit {0} × Unit {0})). ‵ (lasts pu.ended (κ₃, tt) (s γ ys, (d .columns, tt)) ws) ⊛ raw (fact 𝓤 (Put ys d (ws .0))))) (id⊢ 𝓤 _) $ pick ! (λ ws.
+        split ! $ move ! (1 ∷ []) $ heard ! (Put ys d (ws .0)) (λ was-put.
         fsplit ! $ fsplit ! $ move ! (1 ∷ []) $ feqL ! (λ e₄.
         move ! (1 ∷ []) $ drop ! $ move ! (1 ∷ []) $ split ! $ move ! (1 ∷ []) $
         peeks ! Nothing (Is Nothing) (shows 𝓤 H A Nothing) r (w ∷ []) (λ is-r.

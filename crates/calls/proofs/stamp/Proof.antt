@@ -1,8 +1,7 @@
 -- `calls::stamp` meets its contract: a walk of its MIR, by hand. The records are read into columns (the slice is shared for that call), the pass is made on those by value, and the columns are put into the slice, which is given up to that call.
 -- All that the proof knows of the three callees is that each meets its contract. Assumes nothing.
-use mathlib.Core.Path.{_≡_, refl, sym, _∙_, ap, subst}
-use Prim.Native.Nat.{ℕ, _≤_, min}
-use native.Mathlib.Nat.{min-le-left, min-le-right}
+use mathlib.Core.Path.{_≡_, refl, _∙_, ap}
+use Prim.Native.Nat.{ℕ}
 use mathlib.Core.List.{List, [], _∷_}
 use lib.IntN.{ℤ}
 use lib.ListN.{length}
@@ -53,7 +52,6 @@ use Rattle.state.proofs.Outcome as Re
 use Rattle.state.proofs.Outcome.Laws as Re′
 use Rattle.records.specs.declared.StampRecord.{StampRecord}
 use Rattle.records.specs.declared.Columns.{Columns}
-use Rattle.records.specs.Records.{packed, heldTimes, heldLinks}
 use Rattle.records.proofs.Local.{only}
 use Rattle.records.proofs.Columns as K
 use Rattle.records.proofs.Columns.Laws as K′
@@ -74,6 +72,7 @@ use Rattle.calls.proofs.Stamped as D
 use Rattle.calls.proofs.Stamped.Laws as D′
 use Rattle.calls.proofs.Short.{as-recorded}
 use Rattle.calls.proofs.Columned.{R, Co, Columned, to-co, asks-co, says-co}
+use Rattle.calls.proofs.Returned.{Pu, is-columns, is-outcome, Put, to-pu, asks-pu}
 use Rattle.calls.proofs.stamp_columns as ca
 use Rattle.calls.proofs.stamp_columns.Symbol as ca-def
 use Rattle.calls.proofs.stamp_columns.Symbol.{name as #ca}
@@ -86,27 +85,9 @@ use Rattle.calls.proofs.stamp.Code as code
 abbrev stayed : Stays (f.ended .signature .params) (f.ended .kept)
 stayed = (stay-none-slice (0 ∷ []) tt (plain (λ _. u32)) yes, (stay-none-slice (1 ∷ []) tt (plain (λ _. i32)) yes, (stay-none-slice (2 ∷ []) tt (plain (λ _. i32)) yes, (gave-slice (3 ∷ []) tt (plain (λ _. R)), (stay-none (λ _. S.the-row) yes, (stay-none-slice (4 ∷ []) tt (plain (λ _. i32)) yes, tt))))))
 
--- the contracts that the proof cites, besides that of `columns_of` (`Columned.antt`)
-module _ {M : Type 1} (𝓤 : URA M) (H : Heap 𝓤) (A : Atoms 𝓤) (mem : Memory → SProp 𝓤) (run : Routine → Fun 𝓤) where
-  abbrev Ca : Contract 𝓤
-  Ca = tripleOf 𝓤 H A ca.signature (ca.spec 𝓤 H A mem run)
-
-  abbrev Pu : Contract 𝓤
-  Pu = tripleOf 𝓤 H A pu.signature (pu.spec 𝓤 H A mem run)
-
--- the facts of the two fields of what the pass makes
-module _ (d : Stamped) (us : List Val) (is-d : Is D.the-row d us) where
-  is-columns : Is K.the-row (d .columns) (K′.lowered (d .columns) ∷ [])
-  is-columns = subst (Is K.the-row (d .columns)) (K′.lowers .val-is (d .columns) _ at-field) at-field
-    where
-      at-field : Is K.the-row (d .columns) (LL.vals K.the-type K′.the-laws (d .columns))
-      at-field = LL.owed D.the-type D′.the-laws d us is-d .0
-
-  is-outcome : Is Re.the-row (d .outcome) (Re′.lowered (d .outcome) ∷ [])
-  is-outcome = subst (Is Re.the-row (d .outcome)) (Re′.lowers .val-is (d .outcome) _ at-field) at-field
-    where
-      at-field : Is Re.the-row (d .outcome) (LL.vals Re.the-type Re′.the-laws (d .outcome))
-      at-field = LL.owed D.the-type D′.the-laws d us is-d .1 .0
+-- the contract that the proof cites, besides those of `columns_of` (`Columned.antt`) and `put_columns` (`Returned.antt`)
+abbrev Ca : {M : Type 1} (𝓤 : URA M) (H : Heap 𝓤) (A : Atoms 𝓤) (mem : Memory → SProp 𝓤) (run : Routine → Fun 𝓤) → Contract 𝓤
+Ca 𝓤 H A mem run = tripleOf 𝓤 H A ca.signature (ca.spec 𝓤 H A mem run)
 
 module _ {M : Type 1} (𝓤 : URA M) (H : Heap 𝓤) (A : Atoms 𝓤) (W : Given 𝓤 H A) (mem : Memory → SProp 𝓤) (run : Routine → Fun 𝓤) (κ₀ κ₁ κ₂ κ₃ κ₄ : Lft) (q₀ q₁ q₂ q₃ q₄ : Share) (r₁ : RefT (List ℕ)) (r₂ : RefT (List ℤ)) (r₃ : RefT (List ℤ)) (b o : ℕ) (γ : GName) (ys : List StampRecord) (st : State) (r₆ : RefT (List ℤ)) (is-st : Is S.the-row st (S′.lowered st ∷ [])) where
   -- the lent slice under a name
@@ -177,31 +158,18 @@ module _ {M : Type 1} (𝓤 : URA M) (H : Heap 𝓤) (A : Atoms 𝓤) (W : Given
   says-ca : (c : Columns) (d : Stamped) → ent 𝓤 (ensured 𝓤 H A ca.ended (ca.clauses 𝓤 H A mem run) (κ₀, (κ₁, (κ₂, (κ₄, tt)))) (args c) tt d) (fact 𝓤 (Said c d))
   says-ca c d = exE 𝓤 _ (λ ws. snd∗ 𝓤 (sem 𝓤 H A (lasts ca.ended (κ₀, (κ₁, (κ₂, (κ₄, tt)))) (args c) ws)) (fact 𝓤 (Said c d)))
 
-  -- the columns that are put back are of as many records
-  abbrev to-pu : Stamped → Pu 𝓤 H A mem run .Ghost
-  to-pu d = (((κ₃, tt), (q₃, tt), tt, (s γ ys, (d .columns, tt)), (v₄ ∷ [], (K′.lowered (d .columns) ∷ [], tt))), tt)
-
-  asks-pu : (c : Columns) (d : Stamped) → Columned ys c → Said c d
-      → ent 𝓤 (onEntry 𝓤 H A pu.signature (κ₃, tt) (q₃, tt) (s γ ys, (d .columns, tt)) (v₄ ∷ [], (K′.lowered (d .columns) ∷ [], tt))) (Pu 𝓤 H A mem run .pre (to-pu d))
-  asks-pu c d columned said =
-      qed W ((‵ (flft κ₃ q₃) ⊛ ‵ ftrue) ∷ ‵ (owns (MutSlice (named 0) κ₃ R ∷ K.the-row ∷ []) (s γ ys, (d .columns, tt)) (v₄ ∷ [], (K′.lowered (d .columns) ∷ [], tt))) ∷ []) ∵
-      says ! (subst (λ (n : ℕ). n ≤ 2048) (sym count) (min-le-left 2048 (length ys)), subst (λ (n : ℕ). n ≤ length ys) (sym count) (min-le-right 2048 (length ys))) $ frame ! $ done !
-    where
-      count : d .columns .count ≡ min 2048 (length ys)
-      count = said .0 ∙ columned .0
-
-  abbrev Put : Stamped → List StampRecord → Type 0
-  Put d zs = zs ≡ packed (heldTimes (d .columns)) (heldLinks (d .columns)) ys
+  abbrev to-put : Stamped → Pu 𝓤 H A mem run .Ghost
+  to-put d = to-pu 𝓤 H A W mem run κ₃ q₃ (s γ ys) d
 
   abbrev Asked : Stamped → List StampRecord → Type 0
   Asked d zs = afterStamp (d .outcome) zs ≡ inRecords (stampCall (r₆ .now) (recorded (r₁ .now) (r₂ .now) (r₃ .now) ys) st) ys
 
-  asked : (c : Columns) (d : Stamped) (zs : List StampRecord) → Columned ys c → Said c d → Put d zs → Asked d zs
+  asked : (c : Columns) (d : Stamped) (zs : List StampRecord) → Columned ys c → Said c d → Put ys d zs → Asked d zs
   asked c d zs columned said was-put =
       as-recorded c ys (columned .1) (columned .2) (λ (ts : List ℕ) (ls : List ℤ). afterStamp (d .outcome) zs ≡ inRecords (stampCall (r₆ .now) (tableLists (r₁ .now) (r₂ .now) (r₃ .now) ts ls) st) ys)
       (ap (λ (l : List StampRecord). afterStamp (d .outcome) l) was-put ∙ ap (λ (a : After). inRecords a ys) (said .1))
 
-  exits : (c : Columns) (d : Stamped) (zs : List StampRecord) → Is Re.the-row (d .outcome) (Re′.lowered (d .outcome) ∷ []) → Columned ys c → Said c d → Put d zs → length zs ≡ length ys
+  exits : (c : Columns) (d : Stamped) (zs : List StampRecord) → Is Re.the-row (d .outcome) (Re′.lowered (d .outcome) ∷ []) → Columned ys c → Said c d → Put ys d zs → length zs ≡ length ys
       → ent 𝓤 (⋆ 𝓤 H A (‵ (flft κ₀ q₀) ∷ ‵ (flft κ₁ q₁) ∷ ‵ (flft κ₂ q₂) ∷ ‵ (flft κ₃ q₃) ∷ ‵ (flft κ₄ q₄) ∷ ‵ O₁ ∷ ‵ O₂ ∷ ‵ O₃ ∷ ‵ (finally R γ zs) ∷ ‵ O₆ ∷ [])) (Post (Re′.lowered (d .outcome)))
   exits c d zs is-o columned said was-put same-length =
       qed W (‵ (flft κ₀ q₀) ∷ ‵ (flft κ₁ q₁) ∷ ‵ (flft κ₂ q₂) ∷ ‵ (flft κ₃ q₃) ∷ ‵ (flft κ₄ q₄) ∷ ‵ O₁ ∷ ‵ O₂ ∷ ‵ O₃ ∷ ‵ (finally R γ zs) ∷ ‵ O₆ ∷ []) ∵
@@ -252,11 +220,11 @@ module _ {M : Type 1} (𝓤 : URA M) (H : Heap 𝓤) (A : Atoms 𝓤) (W : Given
         -- the columns are put into the records
         assigns ! (addr ! (from ! (fld ! refl (hop ! (look-in ! 28 (sub ! 0 refl (whole !))) (stop !))))) (from ! (stop !)) (init ! 12 refl (tt, tt)) $
         assigns ! (agg ! (and-then ! (load ! (from ! (stop !)) (look ! 12 refl)) (and-then ! (load ! (from ! (fld ! refl (stop !))) (look-in ! 28 (sub ! 1 refl (whole !)))) (no-more !)))) (from ! (stop !)) (init ! 10 refl (tt, (tt, (record { fits = g₄ .0 }, tt)))) $
-        nothing ! $ owned ! K.the-row (Is K.the-row) (LL.makes K.the-type K′.the-plain 𝓤 H A) (d .columns) (K′.lowered (d .columns) ∷ []) (is-columns d (u′ ∷ []) is-d) $ fjoin ! $ move ! (5 ∷ 0 ∷ []) $ fjoin ! $ nothing ! $ move ! (6 ∷ 0 ∷ []) $ join ! $ use2 W (raw (Pu 𝓤 H A mem run .pre (to-pu d))) (asks-pu c d columned said) $
-        calls-at ! fm (Pu 𝓤 H A mem run) known-pu (to-pu d) (and-then ! (load ! (from ! (stop !)) (look ! 9 refl)) (and-then ! (load ! (from ! (fld ! refl (stop !))) (look-in ! 19 (sub ! 0 refl (whole !)))) (no-more !))) (λ w.
+        nothing ! $ owned ! K.the-row (Is K.the-row) (LL.makes K.the-type K′.the-plain 𝓤 H A) (d .columns) (K′.lowered (d .columns) ∷ []) (is-columns d (u′ ∷ []) is-d) $ fjoin ! $ move ! (5 ∷ 0 ∷ []) $ fjoin ! $ nothing ! $ move ! (6 ∷ 0 ∷ []) $ join ! $ use2 W (raw (Pu 𝓤 H A mem run .pre (to-put d))) (asks-pu 𝓤 H A W mem run κ₃ q₃ (s γ ys) c d columned (said .0)) $
+        calls-at ! fm (Pu 𝓤 H A mem run) known-pu (to-put d) (and-then ! (load ! (from ! (stop !)) (look ! 9 refl)) (and-then ! (load ! (from ! (fld ! refl (stop !))) (look-in ! 19 (sub ! 0 refl (whole !)))) (no-more !))) (λ w.
         use1 W (later (some (λ (r : Unit {0}). ((‵ (flft κ₃ q₃) ⊛ ‵ ftrue) ⊛ ‵ (Nothing .own r (w ∷ []))) ⊛ raw (ensured 𝓤 H A pu.ended (pu.clauses 𝓤 H A mem run) (κ₃, tt) (s γ ys, (d .columns, tt)) tt r)))) (id⊢ 𝓤 _) $ await ! tt $ pick ! (λ r.
-        split ! $ move ! (1 ∷ []) $ use1 W (some (λ (zs : List StampRecord × (Unit {0} × Unit {0})). ‵ (lasts pu.ended (κ₃, tt) (s γ ys, (d .columns, tt)) zs) ⊛ raw (fact 𝓤 (Put d (zs .0))))) (id⊢ 𝓤 _) $ pick ! (λ zs.
-        split ! $ move ! (1 ∷ []) $ heard ! (Put d (zs .0)) (λ was-put.
+        split ! $ move ! (1 ∷ []) $ use1 W (some (λ (zs : List StampRecord × (Unit {0} × Unit {0})). ‵ (lasts pu.ended (κ₃, tt) (s γ ys, (d .columns, tt)) zs) ⊛ raw (fact 𝓤 (Put ys d (zs .0))))) (id⊢ 𝓤 _) $ pick ! (λ zs.
+        split ! $ move ! (1 ∷ []) $ heard ! (Put ys d (zs .0)) (λ was-put.
         fsplit ! $ fsplit ! $ move ! (1 ∷ []) $ feqL ! (λ same-length.
         move ! (1 ∷ []) $ drop ! $ move ! (1 ∷ []) $ split ! $ move ! (1 ∷ []) $
         peeks ! Nothing (Is Nothing) (shows 𝓤 H A Nothing) r (w ∷ []) (λ is-r.

@@ -1,3 +1,4 @@
+-- `clauses::count_standing` meets its contract. Assumes nothing.
 use Rattle.tables.specs.Tables.{lengthOf}
 use Prim.Native.Nat.{_≤_, _<_}
 -- `clauses::count_standing` meets its contract. Assumes nothing.

@@ -1,3 +1,4 @@
+-- `components::find_components` meets its contract. Assumes nothing.
 use Rattle.components.proofs.Chain.{ready, same-least}
 use Rattle.tables.specs.Clauses.{slotsFrom}
 use Rattle.groups.specs.Groups.{Ready, leastMutual}
@@ -38,63 +39,48 @@ module _ (c : tie.After-build-graph) where
       ≡ leastMutual (implications (slotsFrom (c .before .before .before .before .before .before .before .before .before .before .before .before .before .before .before .before .args .clauses .now) (c .before .before .before .before .before .before .before .before .before .before .before .before .before .before .before .before .args .literals .now) (c .before .before .before .before .before .before .before .before .before .before .before .before .before .before .before .before .args .n) 0)) (2 * c .before .before .before .before .before .before .before .before .before .before .before .before .before .before .before .before .args .v) q
   least = same-least (c .before .before .before .before .before .before .before .before .before .before .before .before .before .before .before .before .pre .0 .listed) (c .before .before .before .before .before .before .before .before .before .before .before .before .before .before .before .before .pre .1) offsets′ targets′ count long (c .build-graph .ensures)
 
--- src/lib.rt:53:9
 build-graph-requires : tie.Need-build-graph-requires
 build-graph-requires c κs = search needs
 
--- src/lib.rt:54:29
 slice-reshare-prefix-groups : tie.Need-slice-reshare-prefix-groups
 slice-reshare-prefix-groups c = search needs
 
--- src/lib.rt:54:29
 slice-aggregate-groups : tie.Need-slice-aggregate-groups
 slice-aggregate-groups c = sym (length-take-le (count (c .before .before .before .before .before .before .before .before .before .before)) (targets′ (c .before .before .before .before .before .before .before .before .before .before)) (c .before .before .before .before .before .before .before .before .before .before .build-graph .ensures .room))
 
--- src/lib.rt:54:5
 groups-requires : tie.Need-groups-requires
 groups-requires c κs = fit (c .before .before .before .before .before .before .before .before .before .before .before .before .before .before .before .before)
 
--- src/lib.rt:32:1
 same-length : tie.Need-same-length
 same-length c = search needs
 
--- src/lib.rt:32:1
 same-length-2 : tie.Need-same-length-2
 same-length-2 c = search needs
 
--- src/lib.rt:32:1
 same-length-3 : tie.Need-same-length-3
 same-length-3 c = search needs
 
--- src/lib.rt:32:1
 same-length-4 : tie.Need-same-length-4
 same-length-4 c = search needs
 
--- src/lib.rt:32:1
 same-length-5 : tie.Need-same-length-5
 same-length-5 c = search needs
 
--- src/lib.rt:32:1
 same-length-6 : tie.Need-same-length-6
 same-length-6 c = search needs
 
--- src/lib.rt:32:1
 same-length-7 : tie.Need-same-length-7
 same-length-7 c = search needs
 
--- src/lib.rt:32:1
 same-length-8 : tie.Need-same-length-8
 same-length-8 c = search needs
 
--- src/lib.rt:32:1
 same-length-9 : tie.Need-same-length-9
 same-length-9 c = search needs
 
--- src/lib.rt:32:1
 same-length-10 : tie.Need-same-length-10
 same-length-10 c = search needs
 
--- src/lib.rt:32:1
 returns : tie.Need-returns
 returns c = λ s lt. c .before .before .before .before .before .before .before .before .before .before .before .before .groups .ensures s (omega (arith, lt, c .before .before .before .before .before .before .before .before .before .before .before .before .before .before .before .before .before .before .before .before .before .before .before .before .before .before .before .before .before .before .before .before .before .before .before .before .before .before .before .before .before .before .before .before .before .pre .1 .reps)) ∙ least (c .before .before .before .before .before .before .before .before .before .before .before .before .before .before .before .before .before .before .before .before .before .before .before .before .before .before .before .before .before) s lt
 

@@ -1,3 +1,4 @@
+-- `components::representatives` meets its contract. Assumes nothing.
 use Rattle.components.proofs.Chain.{front-zeros, own-room, own-scratch}
 use native.Mathlib.Omega.{arith}
 use Prim.Native.Nat.{_+_, _*_}
@@ -9,85 +10,65 @@ use Rattle.components.proofs.representatives.Reads as reads
 use Rattle.components.proofs.representatives.Lts as lts
 use Rattle.components.proofs.find_components.Reads as find-components-reads
 
--- src/lib.rt:44:17
 mul-slots : tie.Need-mul-slots
 mul-slots c = search needs
 
--- src/lib.rt:45:16
 add-ends : tie.Need-add-ends
 add-ends c = search needs
 
--- src/lib.rt:60:9
 slice-aggregate-find-components : tie.Need-slice-aggregate-find-components
 slice-aggregate-find-components c = search needs
 
--- src/lib.rt:61:9
 slice-aggregate-find-components-2 : tie.Need-slice-aggregate-find-components-2
 slice-aggregate-find-components-2 c = search needs
 
--- src/lib.rt:62:9
 array-borrow-prefix-offsets : tie.Need-array-borrow-prefix-offsets
 array-borrow-prefix-offsets c = search needs
 
--- src/lib.rt:62:9
 slice-aggregate-find-components-3 : tie.Need-slice-aggregate-find-components-3
 slice-aggregate-find-components-3 c = sym (front-zeros (2 * c .before .before .before .before .before .args .v + 1) 2049 (omega (arith, c .before .before .before .before .before .pre .0 .few)))
 
--- src/lib.rt:63:9
 slice-aggregate-find-components-4 : tie.Need-slice-aggregate-find-components-4
 slice-aggregate-find-components-4 c = search needs
 
--- src/lib.rt:64:9
 array-borrow-prefix-disc : tie.Need-array-borrow-prefix-disc
 array-borrow-prefix-disc c = search needs
 
--- src/lib.rt:64:9
 slice-aggregate-find-components-5 : tie.Need-slice-aggregate-find-components-5
 slice-aggregate-find-components-5 c = sym (front-zeros (2 * c .before .before .before .before .before .before .before .args .v) 2048 (omega (arith, c .before .before .before .before .before .before .before .pre .0 .few)))
 
--- src/lib.rt:65:9
 array-borrow-prefix-fin : tie.Need-array-borrow-prefix-fin
 array-borrow-prefix-fin c = search needs
 
--- src/lib.rt:65:9
 slice-aggregate-find-components-6 : tie.Need-slice-aggregate-find-components-6
 slice-aggregate-find-components-6 c = sym (front-zeros (2 * c .before .before .before .before .before .before .before .before .args .v) 2048 (omega (arith, c .before .before .before .before .before .before .before .before .pre .0 .few)))
 
--- src/lib.rt:66:9
 array-borrow-prefix-par : tie.Need-array-borrow-prefix-par
 array-borrow-prefix-par c = search needs
 
--- src/lib.rt:66:9
 slice-aggregate-find-components-7 : tie.Need-slice-aggregate-find-components-7
 slice-aggregate-find-components-7 c = sym (front-zeros (2 * c .before .before .before .before .before .before .before .before .before .args .v) 2048 (omega (arith, c .before .before .before .before .before .before .before .before .before .pre .0 .few)))
 
--- src/lib.rt:67:9
 array-borrow-prefix-top : tie.Need-array-borrow-prefix-top
 array-borrow-prefix-top c = search needs
 
--- src/lib.rt:67:9
 slice-aggregate-find-components-8 : tie.Need-slice-aggregate-find-components-8
 slice-aggregate-find-components-8 c = sym (front-zeros (2 * c .before .before .before .before .before .before .before .before .before .before .args .v) 2048 (omega (arith, c .before .before .before .before .before .before .before .before .before .before .pre .0 .few)))
 
--- src/lib.rt:68:9
 array-borrow-prefix-order : tie.Need-array-borrow-prefix-order
 array-borrow-prefix-order c = search needs
 
--- src/lib.rt:68:9
 slice-aggregate-find-components-9 : tie.Need-slice-aggregate-find-components-9
 slice-aggregate-find-components-9 c = sym (front-zeros (2 * c .before .before .before .before .before .before .before .before .before .before .before .args .v) 2048 (omega (arith, c .before .before .before .before .before .before .before .before .before .before .before .pre .0 .few)))
 
--- src/lib.rt:55:5
 find-components-requires : tie.Need-find-components-requires
 find-components-requires c κs =
     let s = c .before .before .before .before .before .before .before .before .before .before .before .before in
     (own-room (s .pre .0), own-scratch (s .args .v) (s .args .rep .now) (s .pre .0 .few) (s .pre .1))
 
--- src/lib.rt:38:1
 same-length : tie.Need-same-length
 same-length c = search needs
 
--- src/lib.rt:38:1
 returns : tie.Need-returns
 returns c = search needs
 

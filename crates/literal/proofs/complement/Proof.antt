@@ -1,3 +1,4 @@
+-- `literal::complement` meets its contract. Assumes nothing.
 use Rattle.literal.proofs.Signed.{signed}
 use Rattle.literal.proofs.complement.Statement.{statement}
 use Rattle.literal.proofs.complement.Tie as tie

@@ -1,4 +1,4 @@
--- `contains`: the invariant says that l stands in the rest exactly if it stands in the whole.
+-- `contains`: the invariant says that l stands in the rest exactly if it stands in the whole. Assumes nothing.
 use Prim.Native.Nat.{_≤_, _<_, _-_}
 use mathlib.Core.Path.{_≡_, refl}
 use native.Mathlib.Omega.{arith}

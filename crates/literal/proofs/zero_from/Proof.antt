@@ -1,4 +1,4 @@
--- `zero_from`: the invariant is a record, so that the step takes its lists and numbers from it.
+-- `zero_from`: the invariant is a record, so that the step takes its lists and numbers from it. Assumes nothing.
 use Prim.Native.Nat.{ℕ, _≤_, _<_, _-_, _+_}
 use mathlib.Core.Path.{_≡_, refl, sym}
 use mathlib.Core.List.{List, _++_, append-nil}

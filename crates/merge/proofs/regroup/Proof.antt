@@ -1,3 +1,4 @@
+-- `merge::regroup` meets its contract. Assumes nothing.
 use Rattle.merge.proofs.Regrouping.{Regrouping, regrouping-none, regrouping-all, regrouping-step, class-ranged, slot-in}
 use Rattle.literal.specs.Literals.{Literal, slotOf}
 use Rattle.literal.proofs.Signed.{read}
@@ -35,71 +36,55 @@ slot-is c = c .slot-of .ensures ∙ ap slotOf (read (c .before .before .before .
 slot-below : (c : tie.After-slot-of Inv-loop μ-loop) → c .slot-of .result < 2 * c .before .before .before .before .before .args .v
 slot-below c = omega (arith, slot-is c, slot-in (c .before .before .before .before .before .pre) (c .before .before .before .loop .inv) (c .before .before .loop-test .taken))
 
--- src/lib.rt:18:5
 loop-holds : tie.Need-loop-holds Inv-loop μ-loop
 loop-holds c = regrouping-none (c .before .args .rep .now) (c .before .args .v) (c .before .args .variables .now)
 
--- src/lib.rt:19:18
 mul-at : tie.Need-mul-at Inv-loop μ-loop
 mul-at c = search needs
 
--- src/lib.rt:20:37
 mul-slot-of : tie.Need-mul-slot-of Inv-loop μ-loop
 mul-slot-of c = search needs
 
--- src/lib.rt:20:37
 slice-copy-out-slot-of : tie.Need-slice-copy-out-slot-of Inv-loop μ-loop
 slice-copy-out-slot-of c = search needs
 
--- src/lib.rt:20:13
 slot-of-requires : tie.Need-slot-of-requires Inv-loop μ-loop
 slot-of-requires c κs =
     rw (read (c .before .before .loop .variables) (2 * c .before .before .loop .w) (c .slot-of-arg .given)) (ranged c .above, record { small = omega (arith, ranged c .within, c .before .before .before .before .pre .few) })
 
--- src/lib.rt:21:21
 mul-least : tie.Need-mul-least Inv-loop μ-loop
 mul-least c =
     let h : c .slot-of .result < length (c .before .before .before .before .before .args .rep .now) = omega (arith, slot-below c, c .before .before .before .before .before .pre .slots) in
     search needs
 
--- src/lib.rt:21:21
 shared-slice-read-least : tie.Need-shared-slice-read-least Inv-loop μ-loop
 shared-slice-read-least c = omega (arith, slot-below (c .before), c .before .before .before .before .before .before .pre .slots)
 
--- src/lib.rt:21:21
 cast-least : tie.Need-cast-least Inv-loop μ-loop
 cast-least c = omega (arith, c .shared-slice-known2 .given (c .before .slot-of .result))
 
--- src/lib.rt:22:25
 lit-at-requires : tie.Need-lit-at-requires Inv-loop μ-loop
 lit-at-requires c κs = omega (arith, slot-below (c .before), c .before .before .before .before .before .before .pre .below (c .before .slot-of .result) (slot-below (c .before)), c .before .before .before .before .before .before .pre .few)
 
--- src/lib.rt:22:9
 mul-t9 : tie.Need-mul-t9 Inv-loop μ-loop
 mul-t9 c = search needs
 
--- src/lib.rt:22:9
 slice-set-from-variables : tie.Need-slice-set-from-variables Inv-loop μ-loop
 slice-set-from-variables c = search needs
 
--- src/lib.rt:23:9
 add-w : tie.Need-add-w Inv-loop μ-loop
 add-w c = search needs
 
--- src/lib.rt:18:5
 loop-less : tie.Need-loop-less Inv-loop μ-loop
 loop-less c = search needs
 
--- src/lib.rt:18:5
 loop-again : tie.Need-loop-again Inv-loop μ-loop
 loop-again c =
     rw (toZ-ofZ {z = c .lit-at .result} (sfits-of (c .lit-at .ok)), c .lit-at .ensures, slot-is (c .before .before)) (regrouping-step (c .before .before .before .before .before .before .before .pre) (c .before .before .before .before .before .loop .inv) (c .before .before .before .before .loop-test .taken))
 
--- src/lib.rt:13:1
 same-length : tie.Need-same-length Inv-loop μ-loop
 same-length c = search needs
 
--- src/lib.rt:13:1
 returns : tie.Need-returns Inv-loop μ-loop
 returns c = regrouping-all (c .loop-test .left) (c .before .loop .inv)
 

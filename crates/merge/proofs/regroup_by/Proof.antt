@@ -1,3 +1,4 @@
+-- `merge::regroup_by` meets its contract. Assumes nothing.
 use Rattle.merge.proofs.Opening.{clash-is, regroups, classes-are}
 use Rattle.pairs.proofs.Listing.{formed-listed}
 use Rattle.merge.specs.Merge.{clashes, representative, regrouped}
@@ -38,35 +39,27 @@ module _ (c : tie.After-representatives) where
   same-classes : regrouped (through rep′) (c .before .before .before .before .args .v) (c .before .before .before .before .args .variables .now) ≡ regrouped (representative adj (c .before .before .before .before .args .v)) (c .before .before .before .before .args .v) (c .before .before .before .before .args .variables .now)
   same-classes = classes-are (c .before .before .before .before .pre .0) rep′ long (c .representatives .ensures)
 
--- src/lib.rt:41:5
 representatives-requires : tie.Need-representatives-requires
 representatives-requires c κs = (formed-listed (c .before .before .before .pre .0), c .before .before .before .pre .1)
 
--- src/lib.rt:42:8
 has-clash-requires : tie.Need-has-clash-requires
 has-clash-requires c κs = search needs
 
--- src/lib.rt:43:9
 same-length : tie.Need-same-length
 same-length c = search needs
 
--- src/lib.rt:43:9
 returns : tie.Need-returns
 returns c = (sym (c .if1 .taken) ∙ c .before .has-clash .ensures ∙ same-clash (c .before .before .before .before .before), refl)
 
--- src/lib.rt:45:5
 regroup-requires : tie.Need-regroup-requires
 regroup-requires c κs = fit (c .before .before .before .before .before .before .before)
 
--- src/lib.rt:28:1
 same-length-2 : tie.Need-same-length-2
 same-length-2 c = search needs
 
--- src/lib.rt:28:1
 same-length-3 : tie.Need-same-length-3
 same-length-3 c = search needs
 
--- src/lib.rt:28:1
 returns-2 : tie.Need-returns-2
 returns-2 c = (sym (c .before .before .before .before .if1 .left) ∙ c .before .before .before .before .before .has-clash .ensures ∙ same-clash (c .before .before .before .before .before .before .before .before .before), c .before .regroup .ensures ∙ same-classes (c .before .before .before .before .before .before .before .before .before))
 

@@ -1,3 +1,4 @@
+-- `pairs::build_graph` meets its contract. Assumes nothing.
 use Rattle.pairs.proofs.Listing.{listed-wider, few-edges, front-froms, front-tos, fit-edges}
 use Rattle.tables.specs.Clauses.{slotsFrom}
 use Rattle.graph.specs.Clauses.{froms, tos}
@@ -54,50 +55,39 @@ module _ (c : tie.After-list-pairs) where
   as-clauses : (P : List ℕ → List ℕ → Type 0) → P (take count from′) (take count to′) → P (froms clauses) (tos clauses)
   as-clauses P x = subst (P (froms clauses)) to-is (subst (λ (l : List ℕ). P l (take count to′)) from-is x)
 
--- src/lib.rt:26:9
 list-pairs-requires : tie.Need-list-pairs-requires
 list-pairs-requires c κs = let R = c .before .before .before .before .before .before .before .pre in (listed-wider (R .listed), (R .froms, R .tos))
 
--- src/lib.rt:27:18
 slice-reshare-prefix-build : tie.Need-slice-reshare-prefix-build
 slice-reshare-prefix-build c = from-long (c .before .before .before .before)
 
--- src/lib.rt:27:18
 slice-aggregate-build : tie.Need-slice-aggregate-build
 slice-aggregate-build c = sym (length-take-le (count (c .before .before .before .before .before)) (from′ (c .before .before .before .before .before)) (from-long (c .before .before .before .before .before)))
 
--- src/lib.rt:27:30
 slice-reshare-prefix-build-2 : tie.Need-slice-reshare-prefix-build-2
 slice-reshare-prefix-build-2 c = to-long (c .before .before .before .before .before)
 
--- src/lib.rt:27:30
 slice-aggregate-build-2 : tie.Need-slice-aggregate-build-2
 slice-aggregate-build-2 c = sym (length-take-le (count (c .before .before .before .before .before .before)) (to′ (c .before .before .before .before .before .before)) (to-long (c .before .before .before .before .before .before)))
 
--- src/lib.rt:27:5
 build-requires : tie.Need-build-requires
 build-requires c κs =
     let a = c .before .before .before .before .before .before .before .before .before .before .before .before .before .before .before .before .args in
     as-listed (c .before .before .before .before .before .before .before .before) (λ f t. Edges f t (a .offsets .now) (a .targets .now))
     (fit-edges (c .before .before .before .before .before .before .before .before .before .before .before .before .before .before .before .before .pre))
 
--- src/lib.rt:12:1
 same-length : tie.Need-same-length
 same-length c = search needs
 
--- src/lib.rt:12:1
 same-length-2 : tie.Need-same-length-2
 same-length-2 c = search needs
 
--- src/lib.rt:12:1
 same-length-3 : tie.Need-same-length-3
 same-length-3 c = search needs
 
--- src/lib.rt:12:1
 same-length-4 : tie.Need-same-length-4
 same-length-4 c = search needs
 
--- src/lib.rt:12:1
 returns : tie.Need-returns
 returns c =
     let w = c .before .before .before .before .before .before .before .before .before .before .before .before .before in

@@ -1,3 +1,4 @@
+-- `pairs::list_pairs` meets its contract. Assumes nothing.
 use Rattle.pairs.proofs.Pairing.{Pairing, pairing-in, pairing-out, pairing-done}
 use Rattle.tables.specs.Tables.{startOf}
 use Rattle.literal.proofs.Laws.{slot-below}
@@ -61,91 +62,72 @@ small-a c = omega (arith, slot-a c, ap slotOf (first (c .before .before)), slot-
 small-b : (c : tie.After-slot-of2 Inv-loop μ-loop) → c .slot-of2 .result < 2048
 small-b c = omega (arith, slot-b c, slot-below (literal (c .before .before .before .before) 1) 1024 (above (c .before .before .before .before) 1 (omega arith)) (within (c .before .before .before .before) 1 (omega arith)))
 
--- src/lib.rt:33:5
 loop-holds : tie.Need-loop-holds Inv-loop μ-loop
 loop-holds c = search needs
 
--- src/lib.rt:34:22
 mul-record : tie.Need-mul-record Inv-loop μ-loop
 mul-record c = search needs
 
--- src/lib.rt:35:21
 mul-start : tie.Need-mul-start Inv-loop μ-loop
 mul-start c = search needs
 
--- src/lib.rt:35:21
 shared-slice-read-start : tie.Need-shared-slice-read-start Inv-loop μ-loop
 shared-slice-read-start c = search needs
 
--- src/lib.rt:35:21
 cast-start : tie.Need-cast-start Inv-loop μ-loop
 cast-start c = omega (arith, c .shared-slice-known2 .given (3 * c .before .before .loop .i))
 
--- src/lib.rt:36:27
 add-len : tie.Need-add-len Inv-loop μ-loop
 add-len c = search needs
 
--- src/lib.rt:36:19
 mul-len : tie.Need-mul-len Inv-loop μ-loop
 mul-len c = search needs
 
--- src/lib.rt:36:19
 shared-slice-read-len : tie.Need-shared-slice-read-len Inv-loop μ-loop
 shared-slice-read-len c = search needs
 
--- src/lib.rt:37:9
 add-i : tie.Need-add-i Inv-loop μ-loop
 add-i c = search needs
 
--- src/lib.rt:39:35
 mul-slot-of : tie.Need-mul-slot-of Inv-loop μ-loop
 mul-slot-of c =
     let h : place c < length (c .before .before .before .before .before .before .before .before .args .literals .now) = omega (arith, part c) in
     search needs
 
--- src/lib.rt:39:35
 shared-slice-copy-out-slot-of : tie.Need-shared-slice-copy-out-slot-of Inv-loop μ-loop
 shared-slice-copy-out-slot-of c = omega (arith, part c)
 
--- src/lib.rt:39:17
 slot-of-requires : tie.Need-slot-of-requires Inv-loop μ-loop
 slot-of-requires c κs =
     let t = c .before in
     rw (read (c .before .before .before .before .before .before .before .before .before .args .literals .now) (place t) (c .slot-of-arg .given))
     (omega (arith, above t 0 (omega arith), ap natAbs (first t)), record { small = omega (arith, within t 0 (omega arith), ap natAbs (first t)) })
 
--- src/lib.rt:40:44
 add-slot-of : tie.Need-add-slot-of Inv-loop μ-loop
 add-slot-of c =
     let h : place (c .before .before) < length (c .before .before .before .before .before .before .before .before .before .before .args .literals .now) = omega (arith, part (c .before .before)) in
     search needs
 
--- src/lib.rt:40:35
 mul-slot-of-2 : tie.Need-mul-slot-of-2 Inv-loop μ-loop
 mul-slot-of-2 c =
     let h : place (c .before .before) + 1 < length (c .before .before .before .before .before .before .before .before .before .before .args .literals .now) = omega (arith, part (c .before .before)) in
     search needs
 
--- src/lib.rt:40:35
 shared-slice-copy-out-slot-of-2 : tie.Need-shared-slice-copy-out-slot-of-2 Inv-loop μ-loop
 shared-slice-copy-out-slot-of-2 c = omega (arith, part (c .before .before))
 
--- src/lib.rt:40:17
 slot-of-requires-2 : tie.Need-slot-of-requires-2 Inv-loop μ-loop
 slot-of-requires-2 c κs =
     let t = c .before .before .before in
     rw (read (c .before .before .before .before .before .before .before .before .before .before .before .args .literals .now) (place t + 1) (c .slot-of-arg2 .given))
     (above t 1 (omega arith), record { small = omega (arith, within t 1 (omega arith)) })
 
--- src/lib.rt:41:22
 cast-put-pair : tie.Need-cast-put-pair Inv-loop μ-loop
 cast-put-pair c = omega (arith, small-a (c .before .before))
 
--- src/lib.rt:41:32
 cast-put-pair-2 : tie.Need-cast-put-pair-2 Inv-loop μ-loop
 cast-put-pair-2 c = omega (arith, small-b c)
 
--- src/lib.rt:41:13
 put-pair-requires : tie.Need-put-pair-requires Inv-loop μ-loop
 put-pair-requires c κs =
     let P = c .before .before .before .before .before .before .before .before .before .before .loop .inv in
@@ -157,15 +139,12 @@ put-pair-requires c κs =
       ),
     )
 
--- src/lib.rt:42:13
 add-k : tie.Need-add-k Inv-loop μ-loop
 add-k c = search needs
 
--- src/lib.rt:33:5
 loop-less : tie.Need-loop-less Inv-loop μ-loop
 loop-less c = search needs
 
--- src/lib.rt:33:5
 loop-again : tie.Need-loop-again Inv-loop μ-loop
 loop-again c =
     let a = c .before .before .before .before .before .before .before .before .before .before .before .before .before .before .before .before .before .before .before .args in
@@ -174,26 +153,21 @@ loop-again c =
     pairing-in (a .n) (a .clauses .now) (a .literals .now) (a .from .now) (a .to .now) (l .from) (l .to) (l .k) (l .i) (turn (c .before .before .before .before .before .before .before .before .before .before .before)) (c .before .before .before .before .before .before .before .before .before .before .before .before .before .before .before .before .before .before .before .pre .0) (l .inv)
     (c .before .before .before .before .before .before .before .before .before .slot-of .result) (c .before .before .before .before .before .before .before .slot-of2 .result) (w .last .1 .1 .1 .0) (w .last .1 .1 .1 .1 .0) (c .before .before .before .before .before .before .before .before .before .before .before .if1 .taken) (slot-a (c .before .before .before .before .before .before .before .before .before)) (slot-b (c .before .before .before .before .before .before .before)) (w .ensures .0) (w .ensures .1)
 
--- src/lib.rt:33:5
 loop-less-2 : tie.Need-loop-less-2 Inv-loop μ-loop
 loop-less-2 c = search needs
 
--- src/lib.rt:33:5
 loop-again-2 : tie.Need-loop-again-2 Inv-loop μ-loop
 loop-again-2 c =
     let a = c .before .before .before .before .before .before .before .before .args in
     let l = c .before .before .before .before .loop in
     pairing-out (a .n) (a .clauses .now) (a .literals .now) (a .from .now) (a .to .now) (l .from) (l .to) (l .k) (l .i) (c .before .before .before .loop-test .taken) (c .before .before .before .before .before .before .before .before .pre .0) (l .inv) (c .if1 .left)
 
--- src/lib.rt:24:1
 same-length : tie.Need-same-length Inv-loop μ-loop
 same-length c = search needs
 
--- src/lib.rt:24:1
 same-length-2 : tie.Need-same-length-2 Inv-loop μ-loop
 same-length-2 c = search needs
 
--- src/lib.rt:24:1
 returns : tie.Need-returns Inv-loop μ-loop
 returns c =
     let a = c .before .before .before .before .before .args in

@@ -1,3 +1,4 @@
+-- `pairs::put_pair` meets its contract. Assumes nothing.
 use native.Mathlib.Numerals.{add-one}
 use native.Mathlib.Omega.{arith}
 use lib.ListN.{length-set}
@@ -8,59 +9,45 @@ use Rattle.pairs.proofs.put_pair.Reads as reads
 use Rattle.pairs.proofs.put_pair.Lts as lts
 use Rattle.literal.proofs.twin_of.Reads as twin-of-reads
 
--- src/lib.rt:16:15
 twin-of-requires : tie.Need-twin-of-requires
 twin-of-requires c κs = search needs
 
--- src/lib.rt:16:5
 mul-from : tie.Need-mul-from
 mul-from c = search needs
 
--- src/lib.rt:16:5
 slice-write-from : tie.Need-slice-write-from
 slice-write-from c = search needs
 
--- src/lib.rt:17:5
 mul-to : tie.Need-mul-to
 mul-to c = search needs
 
--- src/lib.rt:17:5
 slice-write-to : tie.Need-slice-write-to
 slice-write-to c = search needs
 
--- src/lib.rt:18:16
 add-next : tie.Need-add-next
 add-next c = search needs
 
--- src/lib.rt:19:18
 twin-of-requires-2 : tie.Need-twin-of-requires-2
 twin-of-requires-2 c κs = search needs
 
--- src/lib.rt:19:5
 mul-from-2 : tie.Need-mul-from-2
 mul-from-2 c = search needs
 
--- src/lib.rt:19:5
 slice-write-from-2 : tie.Need-slice-write-from-2
 slice-write-from-2 c = simp length-set (omega arith)
 
--- src/lib.rt:20:5
 mul-to-2 : tie.Need-mul-to-2
 mul-to-2 c = search needs
 
--- src/lib.rt:20:5
 slice-write-to-2 : tie.Need-slice-write-to-2
 slice-write-to-2 c = simp length-set (omega arith)
 
--- src/lib.rt:12:1
 same-length : tie.Need-same-length
 same-length c = search needs
 
--- src/lib.rt:12:1
 same-length-2 : tie.Need-same-length-2
 same-length-2 c = search needs
 
--- src/lib.rt:12:1
 returns : tie.Need-returns
 returns c = (
   rw (c .twin-of2 .ensures, c .before .twin-of .ensures, add-one (c .before .before .before .before .args .k)),

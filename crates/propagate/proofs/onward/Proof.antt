@@ -1,3 +1,4 @@
+-- `propagate::onward` meets its contract. Assumes nothing.
 use Rattle.propagate.proofs.Stepping.{onward-more, onward-again, onward-ends}
 -- `propagate::onward` meets its contract. Assumes nothing.
 use borrow.Author.Needs.{needs}

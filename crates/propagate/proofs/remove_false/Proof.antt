@@ -1,3 +1,4 @@
+-- `propagate::remove_false` meets its contract. Assumes nothing.
 use mathlib.Core.List.{List, []}
 use lib.IntN.{ℤ}
 use Rattle.base.specs.Lists.{filter}

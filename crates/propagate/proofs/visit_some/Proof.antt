@@ -1,3 +1,4 @@
+-- `propagate::visit_some` meets its contract. Assumes nothing.
 use mathlib.Core.Path.{_∙_}
 use Rattle.propagate.specs.declared.Stand.the-variants.{Going, Settled, Contradicted}
 -- `propagate::visit_some` meets its contract. Assumes nothing.

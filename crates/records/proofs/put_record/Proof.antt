@@ -5,71 +5,54 @@ use borrow.Author.Needs.{needs}
 use Rattle.records.proofs.put_record.Statement.{statement}
 use Rattle.records.proofs.put_record.Tie as tie
 
--- src/lib.rt:58:11
 mul-times : tie.Need-mul-times
 mul-times c = search needs
 
--- src/lib.rt:58:5
 mul-times-2 : tie.Need-mul-times-2
 mul-times-2 c = search needs
 
--- src/lib.rt:58:5
 slice-write-times : tie.Need-slice-write-times
 slice-write-times c = search needs
 
--- src/lib.rt:59:11
 mul-times-3 : tie.Need-mul-times-3
 mul-times-3 c = search needs
 
--- src/lib.rt:59:11
 add-times : tie.Need-add-times
 add-times c = search needs
 
--- src/lib.rt:59:5
 mul-times-4 : tie.Need-mul-times-4
 mul-times-4 c = search needs
 
--- src/lib.rt:59:5
 slice-write-times-2 : tie.Need-slice-write-times-2
 slice-write-times-2 c = simp length-set (omega arith)
 
--- src/lib.rt:62:11
 mul-parent : tie.Need-mul-parent
 mul-parent c = search needs
 
--- src/lib.rt:62:5
 mul-parent-2 : tie.Need-mul-parent-2
 mul-parent-2 c = search needs
 
--- src/lib.rt:62:5
 slice-set-from-parent : tie.Need-slice-set-from-parent
 slice-set-from-parent c = search needs
 
--- src/lib.rt:63:11
 mul-start : tie.Need-mul-start
 mul-start c = search needs
 
--- src/lib.rt:63:11
 add-start : tie.Need-add-start
 add-start c = search needs
 
--- src/lib.rt:63:5
 mul-start-2 : tie.Need-mul-start-2
 mul-start-2 c = search needs
 
--- src/lib.rt:63:5
 slice-set-from-start : tie.Need-slice-set-from-start
 slice-set-from-start c = simp length-set (omega arith)
 
--- src/lib.rt:54:1
 same-length : tie.Need-same-length
 same-length c = search needs
 
--- src/lib.rt:54:1
 same-length-2 : tie.Need-same-length-2
 same-length-2 c = search needs
 
--- src/lib.rt:54:1
 returns : tie.Need-returns
 returns c = search needs
 

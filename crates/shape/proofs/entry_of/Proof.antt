@@ -19,31 +19,24 @@ lent s = tables (s .args .clauses .now) (s .args .literals .now) (s .args .varia
 shape-ok-requires : tie.Need-shape-ok-requires
 shape-ok-requires c κs = search needs
 
--- src/lib.rt:375:9
 returns : tie.Need-returns
 returns c = sym (entry-misshapen (c .before .before .before .before .args .own) (lent (c .before .before .before .before)) (c .before .before .before .before .args .st) (sym (c .before .shape-ok .ensures) ∙ not-true _ (c .if1 .taken)))
 
--- src/lib.rt:377:9
 pass-number-requires : tie.Need-pass-number-requires
 pass-number-requires c κs = search needs
 
--- src/lib.rt:380:13
 returns-2 : tie.Need-returns-2
 returns-2 c = sym (entry-idle (c .before .before .before .before .before .before .before .args .own) (lent (c .before .before .before .before .before .before .before)) (c .before .before .before .before .before .before .before .args .st) (sym (c .before .before .before .before .shape-ok .ensures) ∙ not-false _ (c .before .before .before .if1 .left)) (c .before .before .pass-number .result) (c .before .before .pass-number .ensures) true (c .if3 .taken) (c .before .if2 .taken))
 
--- src/lib.rt:382:9
 returns-3 : tie.Need-returns-3
 returns-3 c = sym (entry-idle (c .before .before .before .before .before .before .before .args .own) (lent (c .before .before .before .before .before .before .before)) (c .before .before .before .before .before .before .before .args .st) (sym (c .before .before .before .before .shape-ok .ensures) ∙ not-false _ (c .before .before .before .if1 .left)) (c .before .before .pass-number .result) (c .before .before .pass-number .ensures) false (c .if3 .left) (c .before .if2 .taken))
 
--- src/lib.rt:385:9
 returns-4 : tie.Need-returns-4
 returns-4 c = sym (entry-other (c .before .before .before .before .before .before .before .args .own) (lent (c .before .before .before .before .before .before .before)) (c .before .before .before .before .before .before .before .args .st) (sym (c .before .before .before .before .shape-ok .ensures) ∙ not-false _ (c .before .before .before .if1 .left)) (c .before .before .pass-number .result) (c .before .before .pass-number .ensures) (c .before .if2 .left) (c .if4 .taken))
 
--- src/lib.rt:388:9
 returns-5 : tie.Need-returns-5
 returns-5 c = sym (entry-own (c .before .before .before .before .before .before .before .before .args .own) (lent (c .before .before .before .before .before .before .before .before)) (c .before .before .before .before .before .before .before .before .args .st) (sym (c .before .before .before .before .before .shape-ok .ensures) ∙ not-false _ (c .before .before .before .before .if1 .left)) (c .before .before .before .pass-number .result) (c .before .before .before .pass-number .ensures) true (c .if5 .taken) (c .before .before .if2 .left) (c .before .if4 .left))
 
--- src/lib.rt:363:1
 returns-6 : tie.Need-returns-6
 returns-6 c = sym (entry-own (c .before .before .before .before .before .before .before .before .args .own) (lent (c .before .before .before .before .before .before .before .before)) (c .before .before .before .before .before .before .before .before .args .st) (sym (c .before .before .before .before .before .shape-ok .ensures) ∙ not-false _ (c .before .before .before .before .if1 .left)) (c .before .before .before .pass-number .result) (c .before .before .before .pass-number .ensures) false (c .if5 .left) (c .before .before .if2 .left) (c .before .if4 .left))
 

@@ -1,3 +1,4 @@
+-- `walk::enter` and `walk::walk_edges`, which call each other, meet their contracts. Assumes nothing.
 use Prim.Native.Nat.{ℕ, zero, suc, _<_, _≤_, _*_, _+_, _-_}
 use mathlib.Core.Path.{_≡_, refl, sym, ap, subst, _∙_}
 use native.Mathlib.Omega.{arith}
@@ -39,50 +40,42 @@ abbrev walk-edges-below : ℕ → In 6 walk-edges-kinds.ps
 walk-edges-below t =
     and 6 walk-edges-kinds.ps (falls 6 walk-edges-kinds.ps _<_ μ-walk-edges t) walk-edges.Pre
 
--- src/lib.rt:29:16
 enter-add-discovered :
     (t : ℕ) →
     enter-lts.Need-add-discovered (walk-edges-below t, walk-edges.Post) (enter-at t) enter.Post
 enter-add-discovered t c = search needs
 
--- src/lib.rt:30:5
 enter-mul-disc :
     (t : ℕ) →
     enter-lts.Need-mul-disc (walk-edges-below t, walk-edges.Post) (enter-at t) enter.Post
 enter-mul-disc t c = search needs
 
--- src/lib.rt:30:5
 enter-slice-write-disc : (t : ℕ) → enter-lts.Need-slice-write-disc (
   walk-edges-below t,
   walk-edges.Post,
 ) (enter-at t) enter.Post
 enter-slice-write-disc t c = search needs
 
--- src/lib.rt:31:5
 enter-mul-par :
     (t : ℕ) → enter-lts.Need-mul-par (walk-edges-below t, walk-edges.Post) (enter-at t) enter.Post
 enter-mul-par t c = search needs
 
--- src/lib.rt:31:5
 enter-slice-write-par : (t : ℕ) → enter-lts.Need-slice-write-par (
   walk-edges-below t,
   walk-edges.Post,
 ) (enter-at t) enter.Post
 enter-slice-write-par t c = search needs
 
--- src/lib.rt:32:5
 enter-mul-top :
     (t : ℕ) → enter-lts.Need-mul-top (walk-edges-below t, walk-edges.Post) (enter-at t) enter.Post
 enter-mul-top t c = search needs
 
--- src/lib.rt:32:5
 enter-slice-write-top : (t : ℕ) → enter-lts.Need-slice-write-top (
   walk-edges-below t,
   walk-edges.Post,
 ) (enter-at t) enter.Post
 enter-slice-write-top t c = search needs
 
--- src/lib.rt:33:16
 enter-walk-edges-requires : (t : ℕ) → enter-lts.Need-walk-edges-requires (
   walk-edges-below t,
   walk-edges.Post,
@@ -95,7 +88,6 @@ enter-walk-edges-requires t c κs =
       arrived (a .offsets .now) (a .targets .now) (a .disc .now) (a .fin .now) (a .par .now) (a .top .now) (a .time) (a .slot) (a .parent) (a .start) (pre .0) (pre .1 .0) (pre .1 .1 .0) (pre .1 .1 .1),
     )
 
--- src/lib.rt:33:16
 enter-add-finished :
     (t : ℕ) →
     enter-lts.Need-add-finished (walk-edges-below t, walk-edges.Post) (enter-at t) enter.Post
@@ -108,46 +100,39 @@ enter-add-finished t c =
     let done = walked (a .offsets .now) (a .targets .now) _ (fresh (set (a .disc .now) (a .slot) (a .time + 1))) (a .slot) (a .start) _ _ (α .0) (α .1 .0) (α .1 .1) (w .ensures (fresh (set (a .disc .now) (a .slot) (a .time + 1))) (le-refl _)) in
     omega (arith, done .room)
 
--- src/lib.rt:34:5
 enter-mul-fin :
     (t : ℕ) → enter-lts.Need-mul-fin (walk-edges-below t, walk-edges.Post) (enter-at t) enter.Post
 enter-mul-fin t c = search needs
 
--- src/lib.rt:34:5
 enter-slice-write-fin : (t : ℕ) → enter-lts.Need-slice-write-fin (
   walk-edges-below t,
   walk-edges.Post,
 ) (enter-at t) enter.Post
 enter-slice-write-fin t c = search needs
 
--- src/lib.rt:9:1
 enter-same-length :
     (t : ℕ) →
     enter-lts.Need-same-length (walk-edges-below t, walk-edges.Post) (enter-at t) enter.Post
 enter-same-length t c =
     c .before .before .before .before .before .before .before .before .walk-edges .kept .1 .1 .1 .1 .1 .0 ∙ length-set (c .before .before .before .before .before .before .before .before .before .before .before .before .before .before .before .before .before .before .before .args .disc .now) (c .before .before .before .before .before .before .before .before .before .before .before .before .before .before .before .before .before .before .before .args .slot) (c .before .before .before .before .before .before .before .before .before .before .before .before .before .before .before .before .before .before .before .args .time + 1)
 
--- src/lib.rt:9:1
 enter-same-length-2 :
     (t : ℕ) →
     enter-lts.Need-same-length-2 (walk-edges-below t, walk-edges.Post) (enter-at t) enter.Post
 enter-same-length-2 t c = search needs
 
--- src/lib.rt:9:1
 enter-same-length-3 :
     (t : ℕ) →
     enter-lts.Need-same-length-3 (walk-edges-below t, walk-edges.Post) (enter-at t) enter.Post
 enter-same-length-3 t c =
     c .before .before .before .before .before .before .before .before .walk-edges .kept .1 .1 .1 .1 .1 .1 .1 .0 ∙ length-set (c .before .before .before .before .before .before .before .before .before .before .before .before .before .before .before .before .before .before .before .args .par .now) (c .before .before .before .before .before .before .before .before .before .before .before .before .before .before .before .before .before .before .before .args .slot) (c .before .before .before .before .before .before .before .before .before .before .before .before .before .before .before .before .before .before .before .args .parent)
 
--- src/lib.rt:9:1
 enter-same-length-4 :
     (t : ℕ) →
     enter-lts.Need-same-length-4 (walk-edges-below t, walk-edges.Post) (enter-at t) enter.Post
 enter-same-length-4 t c =
     c .before .before .before .before .before .before .before .before .walk-edges .kept .1 .1 .1 .1 .1 .1 .1 .1 .0 ∙ length-set (c .before .before .before .before .before .before .before .before .before .before .before .before .before .before .before .before .before .before .before .args .top .now) (c .before .before .before .before .before .before .before .before .before .before .before .before .before .before .before .before .before .before .before .args .slot) (c .before .before .before .before .before .before .before .before .before .before .before .before .before .before .before .before .before .before .before .args .start)
 
--- src/lib.rt:9:1
 enter-returns :
     (t : ℕ) → enter-lts.Need-returns (walk-edges-below t, walk-edges.Post) (enter-at t) enter.Post
 enter-returns t c =
@@ -166,7 +151,6 @@ abbrev walk-edges-μ-loop : walk-edges-lts.MeasureT-loop
 walk-edges-μ-loop slot start time offsets targets disc₀ fin₀ par₀ top₀ t₀ at₀ end disc fin par top t at =
     end - at
 
--- src/lib.rt:60:18
 walk-edges-mul-at :
     (t : ℕ) →
     walk-edges-lts.Need-mul-at
@@ -177,14 +161,12 @@ walk-edges-mul-at :
     walk-edges-μ-loop
 walk-edges-mul-at t c = search needs
 
--- src/lib.rt:60:18
 walk-edges-shared-slice-read-at : (t : ℕ) → walk-edges-lts.Need-shared-slice-read-at (
   enter-below t,
   enter.Post,
 ) (walk-edges-at t) walk-edges.Post walk-edges-Inv-loop walk-edges-μ-loop
 walk-edges-shared-slice-read-at t c = search needs
 
--- src/lib.rt:60:18
 walk-edges-cast-at :
     (t : ℕ) →
     walk-edges-lts.Need-cast-at
@@ -195,7 +177,6 @@ walk-edges-cast-at :
     walk-edges-μ-loop
 walk-edges-cast-at t c = omega (arith, c .shared-slice-known3 .given (c .before .before .before .before .before .before .before .args .slot))
 
--- src/lib.rt:61:23
 walk-edges-add-end :
     (t : ℕ) →
     walk-edges-lts.Need-add-end
@@ -206,7 +187,6 @@ walk-edges-add-end :
     walk-edges-μ-loop
 walk-edges-add-end t c = search needs
 
--- src/lib.rt:61:15
 walk-edges-mul-end :
     (t : ℕ) →
     walk-edges-lts.Need-mul-end
@@ -217,14 +197,12 @@ walk-edges-mul-end :
     walk-edges-μ-loop
 walk-edges-mul-end t c = search needs
 
--- src/lib.rt:61:15
 walk-edges-shared-slice-read-end : (t : ℕ) → walk-edges-lts.Need-shared-slice-read-end (
   enter-below t,
   enter.Post,
 ) (walk-edges-at t) walk-edges.Post walk-edges-Inv-loop walk-edges-μ-loop
 walk-edges-shared-slice-read-end t c = search needs
 
--- src/lib.rt:61:15
 walk-edges-cast-end :
     (t : ℕ) →
     walk-edges-lts.Need-cast-end
@@ -235,7 +213,6 @@ walk-edges-cast-end :
     walk-edges-μ-loop
 walk-edges-cast-end t c = omega (arith, c .shared-slice-known4 .given (c .before .before .before .before .before .before .before .before .args .slot + 1))
 
--- src/lib.rt:62:5
 walk-edges-loop-holds :
     (t : ℕ) →
     walk-edges-lts.Need-loop-holds
@@ -249,7 +226,6 @@ walk-edges-loop-holds t c =
     let pre = s .pre .1 in
     record { within = pre .0 .rising (s .args .slot) (pre .1 .1); cols = pre .1 .0; fewer = le-refl _; same = λ n le. refl }
 
--- src/lib.rt:63:17
 walk-edges-mul-q :
     (t : ℕ) →
     walk-edges-lts.Need-mul-q
@@ -262,7 +238,6 @@ walk-edges-mul-q t c =
     let s = c .before .before .before .before .before .before .before .before .before .before in
     omega (arith, s .pre .1 .0 .inside (s .args .slot) (s .pre .1 .1 .1), s .good)
 
--- src/lib.rt:63:17
 walk-edges-shared-slice-read-q : (t : ℕ) → walk-edges-lts.Need-shared-slice-read-q (
   enter-below t,
   enter.Post,
@@ -271,7 +246,6 @@ walk-edges-shared-slice-read-q t c =
     let s = c .before .before .before .before .before .before .before .before .before .before .before in
     omega (arith, s .pre .1 .0 .inside (s .args .slot) (s .pre .1 .1 .1))
 
--- src/lib.rt:63:17
 walk-edges-cast-q :
     (t : ℕ) →
     walk-edges-lts.Need-cast-q
@@ -282,7 +256,6 @@ walk-edges-cast-q :
     walk-edges-μ-loop
 walk-edges-cast-q t c = omega (arith, c .shared-slice-known5 .given (c .before .before .loop .at))
 
--- src/lib.rt:64:12
 walk-edges-mul-if1 :
     (t : ℕ) →
     walk-edges-lts.Need-mul-if1
@@ -293,7 +266,6 @@ walk-edges-mul-if1 :
     walk-edges-μ-loop
 walk-edges-mul-if1 t c = omega (arith, c .shared-slice-known5 .given (c .before .before .loop .at))
 
--- src/lib.rt:64:12
 walk-edges-slice-read-if1 : (t : ℕ) → walk-edges-lts.Need-slice-read-if1 (
   enter-below t,
   enter.Post,
@@ -302,7 +274,6 @@ walk-edges-slice-read-if1 t c =
     let s = c .before .before .before .before .before .before .before .before .before .before .before .before in
     omega (arith, s .pre .1 .0 .inside (s .args .slot) (s .pre .1 .1 .1), s .pre .1 .0 .below (c .before .before .before .loop .at) (omega (arith, s .pre .1 .0 .inside (s .args .slot) (s .pre .1 .1 .1))))
 
--- src/lib.rt:65:26
 walk-edges-cast-enter :
     (t : ℕ) →
     walk-edges-lts.Need-cast-enter
@@ -313,7 +284,6 @@ walk-edges-cast-enter :
     walk-edges-μ-loop
 walk-edges-cast-enter t c = search needs
 
--- src/lib.rt:65:13
 walk-edges-enter-requires : (t : ℕ) → walk-edges-lts.Need-enter-requires (
   enter-below t,
   enter.Post,
@@ -333,7 +303,6 @@ walk-edges-enter-requires t c κs =
       ),
     )
 
--- src/lib.rt:67:9
 walk-edges-add-at :
     (t : ℕ) →
     walk-edges-lts.Need-add-at
@@ -346,7 +315,6 @@ walk-edges-add-at t c =
     let s = c .before .before .before .before .before .before .before .before .before .before .before .before .before in
     omega (arith, s .pre .1 .0 .inside (s .args .slot) (s .pre .1 .1 .1), s .good)
 
--- src/lib.rt:62:5
 walk-edges-loop-less :
     (t : ℕ) →
     walk-edges-lts.Need-loop-less
@@ -357,7 +325,6 @@ walk-edges-loop-less :
     walk-edges-μ-loop
 walk-edges-loop-less t c = search needs
 
--- src/lib.rt:62:5
 walk-edges-loop-again :
     (t : ℕ) →
     walk-edges-lts.Need-loop-again
@@ -379,7 +346,6 @@ walk-edges-loop-again t c =
     ∙ sym (edge-new (λ q. enters n (adjOf (a .offsets .now) (a .targets .now)) (a .start) (a .slot) q) (getD (a .targets .now) (l .at) 0) (stamps (l .t) (l .disc) (l .fin) (l .par) (l .top)) (w .0 .taken))) (λ w. stamps-eq (w .1) (w .2) (w .3) (w .4) (w .5)
     ∙ sym (edge-old (λ q. enters n (adjOf (a .offsets .now) (a .targets .now)) (a .start) (a .slot) q) (getD (a .targets .now) (l .at) 0) (stamps (l .t) (l .disc) (l .fin) (l .par) (l .top)) (w .0 .left))) (c .if1 .came))
 
--- src/lib.rt:39:1
 walk-edges-same-length :
     (t : ℕ) →
     walk-edges-lts.Need-same-length
@@ -390,7 +356,6 @@ walk-edges-same-length :
     walk-edges-μ-loop
 walk-edges-same-length t c = search needs
 
--- src/lib.rt:39:1
 walk-edges-same-length-2 :
     (t : ℕ) →
     walk-edges-lts.Need-same-length-2
@@ -401,7 +366,6 @@ walk-edges-same-length-2 :
     walk-edges-μ-loop
 walk-edges-same-length-2 t c = search needs
 
--- src/lib.rt:39:1
 walk-edges-same-length-3 :
     (t : ℕ) →
     walk-edges-lts.Need-same-length-3
@@ -412,7 +376,6 @@ walk-edges-same-length-3 :
     walk-edges-μ-loop
 walk-edges-same-length-3 t c = search needs
 
--- src/lib.rt:39:1
 walk-edges-same-length-4 :
     (t : ℕ) →
     walk-edges-lts.Need-same-length-4
@@ -423,7 +386,6 @@ walk-edges-same-length-4 :
     walk-edges-μ-loop
 walk-edges-same-length-4 t c = search needs
 
--- src/lib.rt:39:1
 walk-edges-returns :
     (t : ℕ) →
     walk-edges-lts.Need-returns

@@ -1,3 +1,4 @@
+-- `walk::any_back` meets its contract. Assumes nothing.
 use Prim.Native.Nat.{ℕ, _≤_, _<_, _-_, _+_}
 use mathlib.Core.Path.{_≡_, refl, sym, ap, subst, _∙_}
 use mathlib.Core.Bool.{Bool, true, false}
@@ -22,34 +23,27 @@ Inv-loop offsets targets disc fin s₀ s = (s ≤ length disc) × ((a : ℕ) →
 abbrev μ-loop : tie.MeasureT-loop
 μ-loop offsets targets disc fin s₀ s = length disc - s
 
--- src/lib.rt:262:5
 loop-holds : tie.Need-loop-holds Inv-loop μ-loop
 loop-holds c = search needs
 
--- src/lib.rt:263:12
 goes-back-requires : tie.Need-goes-back-requires Inv-loop μ-loop
 goes-back-requires c κs = search needs
 
--- src/lib.rt:264:13
 returns : tie.Need-returns Inv-loop μ-loop
 returns c =
     let k = c .before .goes-back .ensures .0 (c .if1 .taken) in
     (λ _. (c .before .before .before .loop .s, c .before .before .loop-test .taken, k .0, k .1), λ e. absurd (true-not e))
 
--- src/lib.rt:266:9
 add-s : tie.Need-add-s Inv-loop μ-loop
 add-s c = search needs
 
--- src/lib.rt:262:5
 loop-less : tie.Need-loop-less Inv-loop μ-loop
 loop-less c = search needs
 
--- src/lib.rt:262:5
 loop-again : tie.Need-loop-again Inv-loop μ-loop
 loop-again c =
     (omega (arith, c .before .before .loop-test .taken), below-more _ _ (c .before .before .before .loop .inv .1) (c .before .goes-back .ensures .1 (c .if1 .left)))
 
--- src/lib.rt:255:1
 returns-2 : tie.Need-returns-2 Inv-loop μ-loop
 returns-2 c =
     (λ e. absurd (true-not (sym e)), λ _ k. c .before .loop .inv .1 (k .0) (omega (arith, k .1, c .loop-test .left)) (k .2, k .3))

@@ -1,3 +1,4 @@
+-- `walk::clear` meets its contract. Assumes nothing.
 use Prim.Native.Nat.{ℕ, _≤_, _<_, _-_}
 use mathlib.Core.Path.{_≡_, refl, sym, ap, subst, _∙_}
 use mathlib.Core.List.{List, _++_}
@@ -17,27 +18,21 @@ Inv-loop disc₀ i₀ disc i = (i ≤ length disc₀) × (length disc ≡ length
 abbrev μ-loop : tie.MeasureT-loop
 μ-loop disc₀ i₀ disc i = length disc₀ - i
 
--- src/lib.rt:177:5
 loop-holds : tie.Need-loop-holds Inv-loop μ-loop
 loop-holds c = search needs
 
--- src/lib.rt:178:9
 mul-disc : tie.Need-mul-disc Inv-loop μ-loop
 mul-disc c = search needs
 
--- src/lib.rt:178:9
 slice-write-disc : tie.Need-slice-write-disc Inv-loop μ-loop
 slice-write-disc c = search needs
 
--- src/lib.rt:179:9
 add-i : tie.Need-add-i Inv-loop μ-loop
 add-i c = search needs
 
--- src/lib.rt:177:5
 loop-less : tie.Need-loop-less Inv-loop μ-loop
 loop-less c = search needs
 
--- src/lib.rt:177:5
 loop-again : tie.Need-loop-again Inv-loop μ-loop
 loop-again c = (
   omega arith,
@@ -45,11 +40,9 @@ loop-again c = (
   ap (λ (l : List ℕ). set l (c .before .loop .i) 0) (c .before .loop .inv .2) ∙ fill-more (c .before .loop .i) 0 (c .before .before .args .disc .now) (omega arith),
 )
 
--- src/lib.rt:173:1
 same-length : tie.Need-same-length Inv-loop μ-loop
 same-length c = search needs
 
--- src/lib.rt:173:1
 returns : tie.Need-returns Inv-loop μ-loop
 returns c = cleared (c .before .before .args .disc .now) (c .before .loop .disc) (c .before .loop .i) (omega arith) (omega arith) (c .before .loop .inv .2)
 

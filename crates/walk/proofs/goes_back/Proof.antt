@@ -1,3 +1,4 @@
+-- `walk::goes_back` meets its contract. Assumes nothing.
 use Prim.Native.Nat.{ℕ, _≤_, _<_, _-_, _+_}
 use mathlib.Core.Path.{_≡_, refl, sym, ap, subst, _∙_}
 use mathlib.Core.Logic.{⊎-elim}
@@ -22,94 +23,74 @@ Inv-loop slot offsets targets disc fin ds fs at₀ end at = Seeking offsets targ
 abbrev μ-loop : tie.MeasureT-loop
 μ-loop slot offsets targets disc fin ds fs at₀ end at = end - at
 
--- src/lib.rt:236:14
 mul-ds : tie.Need-mul-ds Inv-loop μ-loop
 mul-ds c = search needs
 
--- src/lib.rt:236:14
 shared-slice-read-ds : tie.Need-shared-slice-read-ds Inv-loop μ-loop
 shared-slice-read-ds c = search needs
 
--- src/lib.rt:237:14
 mul-fs : tie.Need-mul-fs Inv-loop μ-loop
 mul-fs c = search needs
 
--- src/lib.rt:237:14
 shared-slice-read-fs : tie.Need-shared-slice-read-fs Inv-loop μ-loop
 shared-slice-read-fs c = search needs
 
--- src/lib.rt:238:18
 mul-at : tie.Need-mul-at Inv-loop μ-loop
 mul-at c = search needs
 
--- src/lib.rt:238:18
 shared-slice-read-at : tie.Need-shared-slice-read-at Inv-loop μ-loop
 shared-slice-read-at c = search needs
 
--- src/lib.rt:238:18
 cast-at : tie.Need-cast-at Inv-loop μ-loop
 cast-at c = omega (arith, c .shared-slice-known3 .given (c .before .before .before .args .slot))
 
--- src/lib.rt:239:23
 add-end : tie.Need-add-end Inv-loop μ-loop
 add-end c = search needs
 
--- src/lib.rt:239:15
 mul-end : tie.Need-mul-end Inv-loop μ-loop
 mul-end c = search needs
 
--- src/lib.rt:239:15
 shared-slice-read-end : tie.Need-shared-slice-read-end Inv-loop μ-loop
 shared-slice-read-end c = search needs
 
--- src/lib.rt:239:15
 cast-end : tie.Need-cast-end Inv-loop μ-loop
 cast-end c = omega (arith, c .shared-slice-known4 .given (c .before .before .before .before .args .slot + 1))
 
--- src/lib.rt:240:5
 loop-holds : tie.Need-loop-holds Inv-loop μ-loop
 loop-holds c =
     let s = c .before .before .before .before in
     seeking-none (s .args .offsets .now) (s .args .targets .now) (s .args .disc .now) (s .args .fin .now) (s .args .slot) (s .pre .0 .rising (s .args .slot) (s .pre .1 .1))
 
--- src/lib.rt:241:17
 mul-q : tie.Need-mul-q Inv-loop μ-loop
 mul-q c =
     let s = c .before .before .before .before .before .before in
     omega (arith, s .pre .0 .inside (s .args .slot) (s .pre .1 .1), s .good)
 
--- src/lib.rt:241:17
 shared-slice-read-q : tie.Need-shared-slice-read-q Inv-loop μ-loop
 shared-slice-read-q c =
     let s = c .before .before .before .before .before .before .before in
     omega (arith, s .pre .0 .inside (s .args .slot) (s .pre .1 .1), s .good)
 
--- src/lib.rt:241:17
 cast-q : tie.Need-cast-q Inv-loop μ-loop
 cast-q c = omega (arith, c .shared-slice-known5 .given (c .before .before .loop .at))
 
--- src/lib.rt:243:16
 mul-if2 : tie.Need-mul-if2 Inv-loop μ-loop
 mul-if2 c = omega (arith, c .before .shared-slice-known5 .given (c .before .before .before .loop .at))
 
--- src/lib.rt:243:16
 shared-slice-read-if2 : tie.Need-shared-slice-read-if2 Inv-loop μ-loop
 shared-slice-read-if2 c =
     let s = c .before .before .before .before .before .before .before .before .before in
     s .pre .0 .below (c .before .before .before .before .loop .at) (omega (arith, s .pre .0 .inside (s .args .slot) (s .pre .1 .1), c .before .before .before .loop-test .taken))
 
--- src/lib.rt:244:26
 mul-if3 : tie.Need-mul-if3 Inv-loop μ-loop
 mul-if3 c = omega (arith, c .before .before .before .shared-slice-known5 .given (c .before .before .before .before .before .loop .at))
 
--- src/lib.rt:244:26
 shared-slice-read-if3 : tie.Need-shared-slice-read-if3 Inv-loop μ-loop
 shared-slice-read-if3 c =
     let s = c .before .before .before .before .before .before .before .before .before .before .before in
     let k = s .pre .0 .below (c .before .before .before .before .before .before .loop .at) (omega (arith, s .pre .0 .inside (s .args .slot) (s .pre .1 .1), c .before .before .before .before .before .loop-test .taken)) in
     omega (arith, k, s .pre .1 .0)
 
--- src/lib.rt:245:21
 returns : tie.Need-returns Inv-loop μ-loop
 returns c =
     let s = c .before .before .before .before .before .before .before .before .before .before .before .before in
@@ -119,17 +100,14 @@ returns c =
       λ e. absurd (true-not e),
     )
 
--- src/lib.rt:249:9
 add-at : tie.Need-add-at Inv-loop μ-loop
 add-at c =
     let s = c .before .before .before .before .before .before .before .before in
     omega (arith, s .pre .0 .inside (s .args .slot) (s .pre .1 .1), s .good)
 
--- src/lib.rt:240:5
 loop-less : tie.Need-loop-less Inv-loop μ-loop
 loop-less c = search needs
 
--- src/lib.rt:240:5
 loop-again : tie.Need-loop-again Inv-loop μ-loop
 loop-again c =
     let s = c .before .before .before .before .before .before .before .before in
@@ -138,7 +116,6 @@ loop-again c =
     seeking-step (a .offsets .now) (a .targets .now) (a .disc .now) (a .fin .now) (a .slot) _ _ (l .at) (c .before .before .loop-test .taken) (s .pre .0 .inside (s .args .slot) (s .pre .1 .1)) (l .inv)
     (λ k. ⊎-elim (λ w. omega (arith, k .ends, w .4 .left)) (⊎-elim (λ w. omega (arith, k .begins, w .2 .left)) (λ w. k .other (w .left))) (c .if1 .came))
 
--- src/lib.rt:230:1
 returns-2 : tie.Need-returns-2 Inv-loop μ-loop
 returns-2 c =
     let a = c .before .before .before .before .before .before .args in (

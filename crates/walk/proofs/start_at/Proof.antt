@@ -1,3 +1,4 @@
+-- `walk::start_at` meets its contract. Assumes nothing.
 use Prim.Native.Nat.{ℕ, _≤_, _<_, _-_, _+_}
 use mathlib.Core.Path.{_≡_, refl, sym, ap, subst, _∙_}
 use native.Mathlib.Omega.{arith}
@@ -12,35 +13,27 @@ use Rattle.walk.proofs.start_at.Reads as reads
 use Rattle.walk.proofs.start_at.Lts as lts
 use Rattle.walk.proofs.enter.Reads as enter-reads
 
--- src/lib.rt:92:8
 mul-if1 : tie.Need-mul-if1
 mul-if1 c = search needs
 
--- src/lib.rt:92:8
 slice-read-if1 : tie.Need-slice-read-if1
 slice-read-if1 c = search needs
 
--- src/lib.rt:93:9
 enter-requires : tie.Need-enter-requires
 enter-requires c κs = (c .before .before .before .before .before .before .before .before .before .before .before .before .pre .0, (c .before .before .before .before .before .before .before .before .before .before .before .before .pre .1 .0, (c .before .before .before .before .before .before .before .before .before .before .before .before .pre .1 .1, c .before .before .before .before .if1 .taken)))
 
--- src/lib.rt:73:1
 same-length : tie.Need-same-length
 same-length c = search needs
 
--- src/lib.rt:73:1
 same-length-2 : tie.Need-same-length-2
 same-length-2 c = search needs
 
--- src/lib.rt:73:1
 same-length-3 : tie.Need-same-length-3
 same-length-3 c = search needs
 
--- src/lib.rt:73:1
 same-length-4 : tie.Need-same-length-4
 same-length-4 c = search needs
 
--- src/lib.rt:73:1
 returns : tie.Need-returns
 unfolding starts
 returns c =
@@ -48,7 +41,6 @@ returns c =
     λ n le. c .before .before .before .before .before .before .before .before .enter .ensures n le
     ∙ sym (edge-new (starts n (adjOf (a .offsets .now) (a .targets .now))) (a .slot) (stamps (a .time) (a .disc .now) (a .fin .now) (a .par .now) (a .top .now)) (c .before .before .before .before .before .before .before .before .before .before .before .before .before .if1 .taken))
 
--- src/lib.rt:73:1
 returns-2 : tie.Need-returns-2
 returns-2 c =
     let a = c .before .before .before .before .before .before .before .before .args in

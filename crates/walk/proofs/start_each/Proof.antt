@@ -1,3 +1,4 @@
+-- `walk::start_each` meets its contract. Assumes nothing.
 use Prim.Native.Nat.{ℕ, _≤_, _<_, _-_, _+_}
 use mathlib.Core.Path.{_≡_, refl, sym, ap, subst, _∙_}
 use native.Mathlib.Omega.{arith}
@@ -19,19 +20,15 @@ Inv-loop order time offsets targets disc₀ fin₀ par₀ top₀ t₀ k₀ disc 
 abbrev μ-loop : tie.MeasureT-loop
 μ-loop order time offsets targets disc₀ fin₀ par₀ top₀ t₀ k₀ disc fin par top t k = length order - k
 
--- src/lib.rt:165:5
 loop-holds : tie.Need-loop-holds Inv-loop μ-loop
 loop-holds c = search needs
 
--- src/lib.rt:166:22
 mul-start-at : tie.Need-mul-start-at Inv-loop μ-loop
 mul-start-at c = search needs
 
--- src/lib.rt:166:22
 shared-slice-read-start-at : tie.Need-shared-slice-read-start-at Inv-loop μ-loop
 shared-slice-read-start-at c = search needs
 
--- src/lib.rt:166:9
 start-at-requires : tie.Need-start-at-requires Inv-loop μ-loop
 start-at-requires c κs =
     let s = c .before .before .before .before .before .before .before .before .before .before .before .before .before .before in
@@ -43,15 +40,12 @@ start-at-requires c κs =
       ),
     )
 
--- src/lib.rt:167:9
 add-k : tie.Need-add-k Inv-loop μ-loop
 add-k c = search needs
 
--- src/lib.rt:165:5
 loop-less : tie.Need-loop-less Inv-loop μ-loop
 loop-less c = search needs
 
--- src/lib.rt:165:5
 loop-again : tie.Need-loop-again Inv-loop μ-loop
 loop-again c =
     let s = c .before .before .before .before .before .before .before .before .before .before .before .before .before .before .before .before .before .before .before .before .before .before .before in
@@ -68,23 +62,18 @@ loop-again c =
           (w .ensures),
     )
 
--- src/lib.rt:145:1
 same-length : tie.Need-same-length Inv-loop μ-loop
 same-length c = search needs
 
--- src/lib.rt:145:1
 same-length-2 : tie.Need-same-length-2 Inv-loop μ-loop
 same-length-2 c = search needs
 
--- src/lib.rt:145:1
 same-length-3 : tie.Need-same-length-3 Inv-loop μ-loop
 same-length-3 c = search needs
 
--- src/lib.rt:145:1
 same-length-4 : tie.Need-same-length-4 Inv-loop μ-loop
 same-length-4 c = search needs
 
--- src/lib.rt:145:1
 returns : tie.Need-returns Inv-loop μ-loop
 returns c =
     let a = c .before .before .before .before .before .before .before .before .before .args in
