@@ -3,7 +3,7 @@
 //!
 //! Without an argument it replays a list of calls; `unhide` is the program of
 //! that name; `check SEED COUNT` tries random calls against all assignments;
-//! `cases` runs the named cases.
+//! `cases` runs the named cases, and `script` prints them as a list of calls.
 
 mod tables;
 
@@ -31,6 +31,7 @@ mod check;
 mod compare_calls;
 mod compare_figures;
 mod compare_walks;
+mod named;
 mod truth;
 
 #[path = "../generate/calls.rs"]
@@ -64,6 +65,7 @@ fn main() {
             _ => usage(),
         },
         ["cases"] => exit(cases::cases()),
+        ["script"] => print(&named::script()),
         _ => usage(),
     }
 }
@@ -95,6 +97,6 @@ fn print(output: &[u8]) {
 }
 
 fn usage() {
-    eprintln!("usage: second [unhide | check SEED COUNT | cases]");
+    eprintln!("usage: second [unhide | check SEED COUNT | cases | script]");
     exit(2);
 }

@@ -10,10 +10,10 @@ use lib.ListN.{length, take}
 use lib.IntN.{ℤ}
 use Rattle.state.specs.Answers.{Reply}
 use Rattle.state.specs.declared.State.{State}
-use Rattle.tables.specs.Calls.{After}
+use Rattle.tables.specs.Calls.{After, emptyState}
 use Rattle.load.specs.Load.{loadCall}
 use Rattle.write.specs.Write.{writeText}
-use Rattle.unhiding.specs.Texts.{emptyTables, emptyState, unhideText}
+use Rattle.unhiding.specs.Texts.{emptyTables, unhideText}
 use Rattle.unhiding.specs.Lists.{Call, Lent, Step, Trail, stepsOn}
 
 abbrev pub bytes : String → List ℕ

@@ -1,14 +1,12 @@
 // One load as a C function, by which a load is measured.
 ghost use mathlib.Core.Path.{_≡_};
 ghost use Rattle.tables.specs.Tables.{Tables, tables};
-ghost use Rattle.tables.specs.Calls.{after};
+ghost use Rattle.tables.specs.Calls.{after, emptyState};
 ghost use Rattle.load.specs.Load.{loadCall};
-ghost use Rattle.load_bench.specs.Result.{resultOf, blank};
+ghost use Rattle.load_bench.specs.Result.{resultOf};
 use results::refused;
 use state::Answer;
 use state::Outcome;
-use state::Pass;
-use state::State;
 
 // V, or the refusal's number, negative.
 fn result_of(outcome: Outcome) -> i64
@@ -29,18 +27,6 @@ fn result_of(outcome: Outcome) -> i64
     }
 }
 
-fn blank_state() -> State
-    ensures { λ r. ⌜ r ≡ blank ⌝ }
-{
-    State {
-        v: 0,
-        n: 0,
-        pass: Pass::Idle,
-        fresh: false,
-        mark: false,
-    }
-}
-
 // Loads a text into the tables.
 #[no_mangle]
 pub extern "C" fn load_text(
@@ -51,11 +37,11 @@ pub extern "C" fn load_text(
     times: &[u32],
     links: &[i32],
 ) -> i64
-    ensures { λ r. ⌜ r ≡ resultOf (loadCall (now (text .entry)) (tables (now (clauses .entry)) (now (literals .entry)) (now (variables .entry)) (now (times .entry)) (now (links .entry))) blank) ⌝ }
+    ensures { λ r. ⌜ r ≡ resultOf (loadCall (now (text .entry)) (tables (now (clauses .entry)) (now (literals .entry)) (now (variables .entry)) (now (times .entry)) (now (links .entry))) emptyState) ⌝ }
     ensures { λ _. ⌜ tables (now (clauses .exit)) (now (literals .exit)) (now (variables .exit)) (now (times .entry)) (now (links .entry))
-        ≡ loadCall (now (text .entry)) (tables (now (clauses .entry)) (now (literals .entry)) (now (variables .entry)) (now (times .entry)) (now (links .entry))) blank .tables ⌝ }
+        ≡ loadCall (now (text .entry)) (tables (now (clauses .entry)) (now (literals .entry)) (now (variables .entry)) (now (times .entry)) (now (links .entry))) emptyState .tables ⌝ }
 {
-    let st = blank_state();
+    let st = tables::empty_state();
     let outcome = load::load(text, clauses, literals, variables, times, links, st);
     result_of(outcome)
 }

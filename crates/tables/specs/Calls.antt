@@ -31,6 +31,10 @@ refuse r st t = answered (Refused r) st t
 abbrev pub state : ℕ → ℕ → Pass → Bool → Bool → State
 state v n pass fresh mark = record { v = v; n = n; pass = pass; fresh = fresh; mark = mark }
 
+-- the state before any load
+abbrev pub emptyState : State
+emptyState = state 0 0 Idle false false
+
 -- "The mark and a load close any pass", and both spend the stamps
 abbrev pub marked : State → State
 marked st = state (st .v) (st .n) Idle false true

@@ -1,7 +1,24 @@
-// The tables that a caller lends: their stated lengths.
+// The tables that a caller lends: their stated lengths, and the state that goes with empty ones.
+ghost use mathlib.Core.Path.{_≡_};
 ghost use Rattle.base.specs.Decide.{Decides};
+ghost use Rattle.tables.specs.Calls.{emptyState};
 ghost use Rattle.tables.specs.Tables.{tables};
 ghost use Rattle.tables.specs.Long.{Long};
+use state::Pass;
+use state::State;
+
+// The state before any load.
+pub fn empty_state() -> State
+    ensures { λ r. ⌜ r ≡ emptyState ⌝ }
+{
+    State {
+        v: 0,
+        n: 0,
+        pass: Pass::Idle,
+        fresh: false,
+        mark: false,
+    }
+}
 
 // No table is shorter than stated.
 pub fn long_ok(

@@ -8,24 +8,19 @@ use lib.ListN.{take, replicate, length}
 use lib.Dec.{ltb}
 use lib.IntN.{ℤ, pos}
 use Rattle.state.specs.Answers.{Reply}
-use Rattle.state.specs.declared.State.{State}
-use Rattle.state.specs.declared.Pass.the-variants.{Idle}
 use Rattle.state.specs.declared.Answer.{Answer}
 use Rattle.state.specs.declared.Answer.the-variants.{Refused, Loaded, Open, Done, Stamped, Failed, Ran, Written}
 use Rattle.results.specs.Results.{resultBy}
 use Rattle.tables.specs.Tables.{Tables, tables}
-use Rattle.tables.specs.Calls.{After, state}
+use Rattle.tables.specs.Calls.{After, emptyState}
 use Rattle.load.specs.Load.{loadCall}
 use Rattle.printing.specs.Printing.{digits}
 use Rattle.write.specs.Write.{AfterWrite, writeCall}
 use Rattle.run.specs.Run.{runCall}
 
--- tables of the stated sizes that hold 0, and the state that goes with them
+-- tables of the stated sizes that hold 0
 abbrev pub emptyTables : Tables
 emptyTables = tables (replicate 12288 0) (replicate 16384 (pos 0)) (replicate 2048 (pos 0)) (replicate 4096 0) (replicate 4096 (pos 0))
-
-abbrev pub emptyState : State
-emptyState = state 0 0 Idle false false
 
 -- what stands is written, or the output keeps its bytes and the refusal is answered
 abbrev pub writeAfter : ℕ → After → List ℕ → AfterWrite

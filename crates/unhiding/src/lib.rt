@@ -6,23 +6,9 @@ ghost use Rattle.state.specs.Answers.{replyOf};
 ghost use Rattle.tables.specs.Tables.{tables};
 ghost use Rattle.tables.specs.Calls.{after};
 ghost use Rattle.write.specs.Write.{afterWrite};
-ghost use Rattle.unhiding.specs.Texts.{emptyState, refuses, runUnless, writeAfter, simplifyIn, simplifyText, resultOf, fits};
+ghost use Rattle.unhiding.specs.Texts.{refuses, runUnless, writeAfter, simplifyIn, simplifyText, resultOf, fits};
 use state::Answer;
 use state::Outcome;
-use state::Pass;
-use state::State;
-
-fn empty_state() -> State
-    ensures { λ r. ⌜ r ≡ emptyState ⌝ }
-{
-    State {
-        v: 0,
-        n: 0,
-        pass: Pass::Idle,
-        fresh: false,
-        mark: false,
-    }
-}
 
 fn is_refusal(answer: Answer) -> bool
     ensures { λ r. ⌜ r ≡ refuses (replyOf answer .number) ⌝ }
@@ -93,7 +79,7 @@ fn simplify(
     ensures { λ r. ⌜ afterWrite r (now (out .exit)) ≡ simplifyIn (tables (now (clauses .entry)) (now (literals .entry)) (now (variables .entry)) (now (times .entry)) (now (links .entry))) (now (text .entry)) rounds (now (out .entry)) ⌝ }
     ensures { λ r. ⌜ fits r (length (now (out .entry))) ⌝ }
 {
-    let st = empty_state();
+    let st = tables::empty_state();
     let loaded = load::load(text, clauses, literals, variables, times, links, st);
     let answer = loaded.answer;
     if is_refusal(answer) {

@@ -3,9 +3,8 @@ use mathlib.Core.Path.{_≡_, sym, ap, _∙_}
 use denote.Ref.{now}
 use Rattle.state.specs.declared.State.{State}
 use Rattle.tables.specs.Tables.{tables}
-use Rattle.tables.specs.Calls.{after}
+use Rattle.tables.specs.Calls.{after, emptyState}
 use Rattle.load.specs.Load.{loadCall}
-use Rattle.unhiding.specs.Texts.{emptyState}
 use Rattle.unhiding.proofs.Simplified.{refused-load, kept-load, refused-fits}
 use borrow.Author.Needs.{needs}
 use Rattle.unhiding.proofs.simplify.Statement.{statement}

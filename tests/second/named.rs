@@ -1,0 +1,498 @@
+//! Named cases: texts, good and bad, the pallet cases, refusals by call, and
+//! formulas at the limits; each with what a replay of it prints.
+
+/// The bytes of a load, the calls behind it, a line each, and what a replay of
+/// both prints.
+pub struct Case {
+    pub name: &'static str,
+    pub text: Vec<u8>,
+    pub calls: &'static str,
+    pub prints: &'static str,
+}
+
+impl Case {
+    /// The lines of a replay.
+    pub fn script(&self) -> Vec<u8> {
+        let mut script = format!("load {}\n", self.text.len()).into_bytes();
+        script.extend(&self.text);
+        script.push(b'\n');
+        script.extend(self.calls.as_bytes());
+        script
+    }
+}
+
+/// All cases.
+pub fn cases() -> Vec<Case> {
+    let mut cases = short();
+    cases.extend(large());
+    cases
+}
+
+/// The script of all cases. Behind each short one it looks at the state and the
+/// tables, so that a refusal that changed something is seen.
+pub fn script() -> Vec<u8> {
+    let mut script = Vec::new();
+    for case in short() {
+        script.extend(case.script());
+        script.extend(b"state\nclauses\nliterals\nvariables\n");
+    }
+    for case in large() {
+        script.extend(case.script());
+    }
+    script
+}
+
+/// Cases on small formulas.
+fn short() -> Vec<Case> {
+    let texts = TEXTS.iter().map(|&(name, text, prints)| Case {
+        name,
+        text: text.to_vec(),
+        calls: if prints.starts_with("loaded") {
+            "write 256\n"
+        } else {
+            ""
+        },
+        prints,
+    });
+    let passes = CALLS.iter().map(|&(name, text, calls, prints)| Case {
+        name,
+        text: text.as_bytes().to_vec(),
+        calls,
+        prints,
+    });
+    texts.chain(passes).collect()
+}
+
+/// A text, and what its load prints; behind a load stands what Write gives.
+const TEXTS: &[(&str, &[u8], &str)] = &[
+    (
+        "document-input",
+        b"p cnf 4 3\n-1 2 0\n-2 3 0\n1 3 4 0\n",
+        "loaded 4 3 0\nwritten 32\np cnf 4 3\n-1 2 0\n-2 3 0\n1 3 4 0\n",
+    ),
+    (
+        "P1",
+        b"p cnf 0 0\n",
+        "loaded 0 0 0\nwritten 10\np cnf 0 0\n",
+    ),
+    ("P10-leading-zero", b"p cnf 1 1\n01 0", "refused 2 10\n"),
+    ("P10-beyond-V", b"p cnf 1 1\n2 0", "refused 3 10\n"),
+    ("P10-unfinished", b"p cnf 1 1\n1\n", "refused 2 12\n"),
+    ("P11-V-1025", b"p cnf 1025 0\n", "refused 3 6\n"),
+    ("empty-text", b"", "refused 2 0\n"),
+    ("comment-cut-off", b"c a comment", "refused 2 11\n"),
+    ("p-alone", b"p", "refused 2 1\n"),
+    ("other-format", b"p dnf 1 1\n", "refused 2 2\n"),
+    ("two-spaces-behind-p", b"p  cnf 1 1\n", "refused 2 2\n"),
+    ("two-spaces-before-V", b"p cnf  1 1\n", "refused 2 6\n"),
+    ("two-spaces-before-N", b"p cnf 1  1\n", "refused 2 8\n"),
+    ("V-cut-off", b"p cnf 1", "refused 2 7\n"),
+    ("N-cut-off", b"p cnf 1 ", "refused 2 8\n"),
+    ("V-leading-zero", b"p cnf 01 0", "refused 2 7\n"),
+    ("N-leading-zero", b"p cnf 1 00\n", "refused 2 9\n"),
+    ("V-plus", b"p cnf +1 0", "refused 2 6\n"),
+    ("V-minus", b"p cnf -1 0", "refused 2 6\n"),
+    ("header-CR-LF", b"p cnf 1 0\r\n", "refused 2 9\n"),
+    ("header-NUL", b"p cnf 1 0\x00", "refused 2 9\n"),
+    ("header-space-at-end", b"p cnf 1 0 \n", "refused 2 9\n"),
+    ("V-1025-bad-rest", b"p cnf 1025 x", "refused 3 6\n"),
+    ("N-4097", b"p cnf 1 4097\n", "refused 3 8\n"),
+    (
+        "V-30-digits",
+        b"p cnf 999999999999999999999999999999 0\n",
+        "refused 3 6\n",
+    ),
+    (
+        "N-30-digits",
+        b"p cnf 1 999999999999999999999999999999\n",
+        "refused 3 8\n",
+    ),
+    (
+        "V-30-digits-letter",
+        b"p cnf 999999999999999999999999999999x 0\n",
+        "refused 3 6\n",
+    ),
+    (
+        "N-30-digits-letter",
+        b"p cnf 1 999999999999999999999999999999x\n",
+        "refused 3 8\n",
+    ),
+    ("minus-nought", b"p cnf 1 1\n-0 0", "refused 2 10\n"),
+    ("two-noughts", b"p cnf 1 1\n00 0", "refused 2 10\n"),
+    ("digit-letter", b"p cnf 1 1\n1x 0", "refused 2 10\n"),
+    ("two-minuses", b"p cnf 1 1\n--1 0", "refused 2 10\n"),
+    ("plus", b"p cnf 1 1\n+1 0", "refused 2 10\n"),
+    ("minus-alone", b"p cnf 1 1\n- 0", "refused 2 10\n"),
+    ("minus-at-end", b"p cnf 1 1\n1 0-", "refused 2 12\n"),
+    (
+        "comment-behind-header",
+        b"p cnf 1 1\nc x\n1 0\n",
+        "refused 2 10\n",
+    ),
+    ("NUL", b"p cnf 1 1\n\x00 0", "refused 2 10\n"),
+    ("byte-255", b"p cnf 1 1\n1 \xff 0", "refused 2 12\n"),
+    ("form-feed", b"p cnf 1 1\n1\x0c0", "refused 2 10\n"),
+    ("literal-above-V", b"p cnf 2 1\n3 0", "refused 3 10\n"),
+    (
+        "literal-below-minus-V",
+        b"p cnf 2 1\n1 -3 0",
+        "refused 3 12\n",
+    ),
+    (
+        "literal-30-digits",
+        b"p cnf 2 1\n999999999999999999999999999999 0",
+        "refused 3 10\n",
+    ),
+    (
+        "literal-minus-30-digits",
+        b"p cnf 2 1\n-999999999999999999999999999999 0",
+        "refused 3 10\n",
+    ),
+    (
+        "literal-30-digits-letter",
+        b"p cnf 2 1\n999999999999999999999999999999x 0",
+        "refused 2 10\n",
+    ),
+    (
+        "literals-V-minus-V",
+        b"p cnf 2 2\n2 0\n-2 0\n",
+        "loaded 2 2 0\nwritten 19\np cnf 2 2\n2 0\n-2 0\n",
+    ),
+    (
+        "literal-behind-clause-N",
+        b"p cnf 1 1\n1 0 1",
+        "refused 3 14\n",
+    ),
+    (
+        "clause-behind-clause-N",
+        b"p cnf 1 1\n1 0 0",
+        "refused 3 14\n",
+    ),
+    (
+        "bad-token-behind-clause-N",
+        b"p cnf 1 1\n1 0 x",
+        "refused 2 14\n",
+    ),
+    ("nought-behind-N-0", b"p cnf 1 0\n0", "refused 3 10\n"),
+    ("too-few-clauses", b"p cnf 1 2\n1 0\n", "refused 3 14\n"),
+    ("ends-behind-N", b"p cnf 1 1", "refused 3 9\n"),
+    ("unfinished-clause", b"p cnf 1 1\n1", "refused 2 11\n"),
+    (
+        "unfinished-and-too-few",
+        b"p cnf 1 2\n1 0 1",
+        "refused 2 15\n",
+    ),
+    (
+        "N-0",
+        b"p cnf 3 0\n",
+        "loaded 3 0 0\nwritten 10\np cnf 3 0\n",
+    ),
+    (
+        "N-0-no-LF",
+        b"p cnf 3 0",
+        "loaded 3 0 0\nwritten 10\np cnf 3 0\n",
+    ),
+    (
+        "N-0-separators",
+        b"p cnf 3 0\n \t\r\n",
+        "loaded 3 0 0\nwritten 10\np cnf 3 0\n",
+    ),
+    (
+        "comment-of-any-bytes",
+        b"c \x00\xff\r\nc\np cnf 0 0",
+        "loaded 0 0 0\nwritten 10\np cnf 0 0\n",
+    ),
+    (
+        "repeat-and-dropped-clause",
+        b"p cnf 3 3\n2 1 2 0 3 1 -3 0 -2 0",
+        "loaded 3 3 0\nwritten 21\np cnf 3 2\n2 1 0\n-2 0\n",
+    ),
+    (
+        "empty-clause",
+        b"c a\nc\np cnf 3 4\n\t1\r\n1 2 0 0 3 -3 0\n\n  -2 0",
+        "loaded 3 4 1\nwritten 12\np cnf 3 1\n0\n",
+    ),
+];
+
+/// A text, the calls behind its load, and what all of them print.
+const CALLS: &[(&str, &str, &str, &str)] = &[
+    (
+        "short-table",
+        "p cnf 0 0\n",
+        "lend clauses 4095\nload 10\np cnf 0 0\n\nload 1\nx\nlend clauses 4096\n",
+        "loaded 0 0 0\nrefused 1 0\nrefused 1 0\n",
+    ),
+    (
+        "exact-output",
+        "p cnf 4 3\n-1 2 0\n-2 3 0\n1 3 4 0\n",
+        "write 32\n",
+        "loaded 4 3 0\nwritten 32\np cnf 4 3\n-1 2 0\n-2 3 0\n1 3 4 0\n",
+    ),
+    (
+        "short-output",
+        "p cnf 4 3\n-1 2 0\n-2 3 0\n1 3 4 0\n",
+        "write 31\n",
+        "loaded 4 3 0\nrefused 10 32\n",
+    ),
+    (
+        "P2",
+        "p cnf 4 3\n-1 2 0\n-2 3 0\n1 3 4 0\n",
+        "stamp 1 -1 2 -2 3 -3 4 -4\nstamps\nfailed\nsweep 65535\nwrite 256\n",
+        "loaded 4 3 0\nstamped\n1 6 1 1\n9 10 -2 -3\n2 5 1 1\n8 11 -3 -3\n3 4 2 1\n7 12 -3 -3\n13 14 4 4\n15 16 -4 -4\nfailed 0\ndone 3 0 1\nwritten 30\np cnf 4 3\n-1 2 0\n-2 3 0\n3 4 0\n",
+    ),
+    (
+        "P2-run",
+        "p cnf 4 3\n-1 2 0\n-2 3 0\n1 3 4 0\n",
+        "run 1\nwrite 256\n",
+        "loaded 4 3 0\nran 1\nwritten 30\np cnf 4 3\n-1 2 0\n-2 3 0\n3 4 0\n",
+    ),
+    (
+        "P3",
+        "p cnf 3 3\n-1 2 0\n-2 3 0\n-1 3 0\n",
+        "stamp 1 -1 2 -2 3 -3\nstamps\nfailed\nsweep 65535\nwrite 256\n",
+        "loaded 3 3 0\nstamped\n1 6 1 1\n9 10 -2 -3\n2 5 1 1\n8 11 -3 -3\n3 4 2 1\n7 12 -3 -3\nfailed 0\ndone 3 1 2\nwritten 24\np cnf 3 2\n-1 2 0\n-2 3 0\n",
+    ),
+    (
+        "P4",
+        "p cnf 3 3\n-1 3 0\n-1 2 0\n-2 3 0\n",
+        "stamp 1 -1 2 -2 3 -3\nstamps\nfailed\nsweep 65535\nwrite 256\n",
+        "loaded 3 3 0\nstamped\n1 6 1 1\n8 9 -3 -3\n4 5 1 1\n10 11 -3 -3\n2 3 1 1\n7 12 -3 -3\nfailed 0\ndone 3 0 0\nwritten 31\np cnf 3 3\n-1 3 0\n-1 2 0\n-2 3 0\n",
+    ),
+    (
+        "P5",
+        "p cnf 4 3\n-1 2 0\n-2 3 0\n-1 3 4 0\n",
+        "stamp 1 -1 2 -2 3 -3 4 -4\nstamps\nfailed\nsweep 65535\nwrite 256\n",
+        "loaded 4 3 0\nstamped\n1 6 1 1\n9 10 -2 -3\n2 5 1 1\n8 11 -3 -3\n3 4 2 1\n7 12 -3 -3\n13 14 4 4\n15 16 -4 -4\nfailed 0\ndone 3 1 3\nwritten 24\np cnf 4 2\n-1 2 0\n-2 3 0\n",
+    ),
+    (
+        "P6",
+        "p cnf 2 2\n-1 2 0\n-1 -2 0\n",
+        "stamp 1 -1 2 -2\nstamps\nfailed\nsweep 65535\nwrite 256\nvariables\n",
+        "loaded 2 2 0\nstamped\n1 8 1 1\n3 4 2 1\n2 5 1 1\n6 7 1 1\nfailed 1\ndone 2 0 2\nwritten 25\np cnf 2 3\n-1 0\n-1 0\n-1 0\n1 -1\n2 0\n",
+    ),
+    (
+        "P7",
+        "p cnf 2 2\n-1 2 0\n-2 1 0\n",
+        "merge 65535\nwrite 256\n",
+        "loaded 2 2 0\ndone 2 2 4\nwritten 24\np cnf 2 2\n2 -1 0\n-2 1 0\n",
+    ),
+    (
+        "P7-steps",
+        "p cnf 2 2\n-1 2 0\n-2 1 0\n",
+        "merge 1\nmerge 1\nwrite 256\n",
+        "loaded 2 2 0\nopen 1 1 2\ndone 1 1 2\nwritten 24\np cnf 2 2\n2 -1 0\n-2 1 0\n",
+    ),
+    (
+        "P8",
+        "p cnf 2 4\n1 2 0\n1 -2 0\n-1 2 0\n-1 -2 0\n",
+        "merge 65535\nwrite 256\n",
+        "loaded 2 4 0\ndone 0 0 0\nwritten 12\np cnf 2 1\n0\n",
+    ),
+    (
+        "P8-steps",
+        "p cnf 2 4\n1 2 0\n1 -2 0\n-1 2 0\n-1 -2 0\n",
+        "merge 1\nmerge 1\nwrite 256\n",
+        "loaded 2 4 0\ndone 0 0 0\nrefused 5 0\nwritten 12\np cnf 2 1\n0\n",
+    ),
+    (
+        "P9-stamp",
+        "p cnf 4 5\n2 3 0\n-3 -1 0\n1 2 0\n-2 4 0\n-4 1 0\n",
+        "stamp 1 -1 2 -2 3 -3 4 -4\nstamps\nfailed\nsweep 65535\nwrite 256\n",
+        "loaded 4 5 0\nrefused 7 0\n0 0 0 0\n0 0 0 0\n0 0 0 0\n0 0 0 0\n0 0 0 0\n0 0 0 0\n0 0 0 0\n0 0 0 0\nrefused 9 0\nrefused 9 0\nwritten 44\np cnf 4 5\n2 3 0\n-3 -1 0\n1 2 0\n-2 4 0\n-4 1 0\n",
+    ),
+    (
+        "P9",
+        "p cnf 4 5\n2 3 0\n-3 -1 0\n1 2 0\n-2 4 0\n-4 1 0\n",
+        "merge 65535\npropagate 65535\nwrite 256\n",
+        "loaded 4 5 0\ndone 5 4 9\ndone 10 1 1\nwritten 56\np cnf 4 7\n1 0\n2 -1 0\n-2 1 0\n3 1 0\n-3 -1 0\n4 -1 0\n-4 1 0\n",
+    ),
+    (
+        "P9-steps",
+        "p cnf 4 5\n2 3 0\n-3 -1 0\n1 2 0\n-2 4 0\n-4 1 0\n",
+        "merge 1\nmerge 1\nmerge 1\nmerge 1\nmerge 1\npropagate 65535\nwrite 256\n",
+        "loaded 4 5 0\nopen 1 1 2\nopen 1 1 2\nopen 1 0 1\nopen 1 1 2\ndone 1 1 2\ndone 10 1 1\nwritten 56\np cnf 4 7\n1 0\n2 -1 0\n-2 1 0\n3 1 0\n-3 -1 0\n4 -1 0\n-4 1 0\n",
+    ),
+    (
+        "merged-unsettled",
+        "p cnf 4 5\n2 3 0\n-3 -1 0\n1 2 0\n-2 4 0\n-4 1 0\n",
+        "merge 65535\nmerge 65535\nvariables\nclauses\n",
+        "loaded 4 5 0\ndone 5 4 9\nrefused 6 3\n1 0\n1 0\n-1 0\n1 0\n0 0 0\n2 0 0\n4 1 1\n6 0 0\n8 0 0\n",
+    ),
+    (
+        "short-list",
+        "p cnf 4 3\n-1 2 0\n-2 3 0\n1 3 4 0\n",
+        "stamp 1 -1 2 -2 3 -3 4\nfailed\nsweep 65535\n",
+        "loaded 4 3 0\nrefused 8 0\nrefused 9 0\nrefused 9 0\n",
+    ),
+    (
+        "list-repeats",
+        "p cnf 4 3\n-1 2 0\n-2 3 0\n1 3 4 0\n",
+        "stamp 1 -1 2 -2 3 -3 4 3\n",
+        "loaded 4 3 0\nrefused 8 7\n",
+    ),
+    (
+        "list-with-0",
+        "p cnf 4 3\n-1 2 0\n-2 3 0\n1 3 4 0\n",
+        "stamp 1 -1 0 -2 3 -3 4 -4\n",
+        "loaded 4 3 0\nrefused 8 2\n",
+    ),
+    (
+        "list-smallest-number",
+        "p cnf 4 3\n-1 2 0\n-2 3 0\n1 3 4 0\n",
+        "stamp 1 -1 2 -2147483648 3 -3 4 -4\n",
+        "loaded 4 3 0\nrefused 8 3\n",
+    ),
+    (
+        "unit-unsettled",
+        "p cnf 3 3\n1 2 0\n-2 3 0\n3 0\n",
+        "merge 65535\nstamp 1 -1 2 -2 3 -3\n",
+        "loaded 3 3 0\nrefused 6 3\nrefused 6 3\n",
+    ),
+    (
+        "merge-in-propagate",
+        "p cnf 3 2\n1 2 0\n-2 3 0\n",
+        "propagate 1\nmerge 65535\n",
+        "loaded 3 2 0\nopen 1 0 0\nrefused 4 0\n",
+    ),
+    (
+        "propagate-in-merge",
+        "p cnf 3 2\n1 2 0\n-2 3 0\n",
+        "merge 1\npropagate 65535\nmerge 65535\n",
+        "loaded 3 2 0\nopen 1 0 0\nrefused 4 0\ndone 1 0 0\n",
+    ),
+    (
+        "stamp-in-merge",
+        "p cnf 3 2\n1 2 0\n-2 3 0\n",
+        "merge 1\nstamp 1 -1 2 -2 3 -3\n",
+        "loaded 3 2 0\nopen 1 0 0\nrefused 4 0\n",
+    ),
+    (
+        "propagate-under-mark",
+        "p cnf 1 2\n1 0\n-1 0\n",
+        "propagate 65535\npropagate 65535\n",
+        "loaded 1 2 0\ndone 2 1 2\nrefused 5 0\n",
+    ),
+    (
+        "against-the-order",
+        "p cnf 4 4\n-3 4 0\n-2 3 0\n-1 2 0\n1 0\n",
+        "propagate 65535\nwrite 256\n",
+        "loaded 4 4 0\ndone 20 4 7\nwritten 26\np cnf 4 4\n1 0\n2 0\n3 0\n4 0\n",
+    ),
+    (
+        "against-by-steps",
+        "p cnf 4 4\n-3 4 0\n-2 3 0\n-1 2 0\n1 0\n",
+        "propagate 1\npropagate 1\npropagate 1\npropagate 1\npropagate 1\npropagate 1\npropagate 1\npropagate 1\npropagate 1\npropagate 1\npropagate 1\npropagate 1\npropagate 1\npropagate 1\npropagate 1\npropagate 1\npropagate 1\npropagate 1\npropagate 1\npropagate 1\nwrite 256\n",
+        "loaded 4 4 0\nopen 1 0 0\nopen 1 0 0\nopen 1 0 0\nopen 1 1 1\nopen 1 0 0\nopen 1 0 0\nopen 1 1 2\nopen 1 0 0\nopen 1 0 0\nopen 1 1 2\nopen 1 0 0\nopen 1 0 0\nopen 1 1 2\nopen 1 0 0\nopen 1 0 0\nopen 1 0 0\nopen 1 0 0\nopen 1 0 0\nopen 1 0 0\ndone 1 0 0\nwritten 26\np cnf 4 4\n1 0\n2 0\n3 0\n4 0\n",
+    ),
+];
+
+/// Cases at the limits and on all 1,024 variables. A text that Write gives is
+/// looked at by its length alone, which the refusal of an output of 0 bytes tells.
+fn large() -> Vec<Case> {
+    let passes = "merge 65535\npropagate 65535\nwrite 0\n";
+    let case = |name, text, calls, prints| Case {
+        name,
+        text,
+        calls,
+        prints,
+    };
+    vec![
+        case(
+            "P11-V-1024",
+            b"p cnf 1024 0\n".to_vec(),
+            "write 256\n",
+            "loaded 1024 0 0\nwritten 13\np cnf 1024 0\n",
+        ),
+        // literal k, from 1, stands at 8 + 2 k, the `0` two bytes behind the last
+        case(
+            "literal-16384",
+            repeated("p cnf 1 1\n", "1 ", 16_384, "0"),
+            "write 256\n",
+            "loaded 1 1 0\nwritten 14\np cnf 1 1\n1 0\n",
+        ),
+        case(
+            "literal-16385",
+            repeated("p cnf 1 1\n", "1 ", 16_385, "0"),
+            "",
+            "refused 3 32778\n",
+        ),
+        // the `0` of clause k, from 1, stands at 14 + 2 k
+        case(
+            "clause-4096",
+            repeated("p cnf 1024 4096\n", "0 ", 4_096, ""),
+            "write 256\n",
+            "loaded 1024 4096 1\nwritten 15\np cnf 1024 1\n0\n",
+        ),
+        case(
+            "clause-4097",
+            repeated("p cnf 1024 4096\n", "0 ", 4_097, ""),
+            "",
+            "refused 3 8208\n",
+        ),
+        // each literal is a class of its own, and there is no unit
+        case(
+            "chain",
+            chain(1_023, ""),
+            passes,
+            "loaded 1024 1023 0\ndone 1023 0 0\ndone 1023 0 0\nrefused 10 11104\n",
+        ),
+        // the first variable is the complement of the last, and the others are classes of their own
+        case(
+            "ends-opposed",
+            chain(1_025, "-1024 -1 0\n1024 1 0\n"),
+            passes,
+            "loaded 1024 1025 0\ndone 1025 2 4\ndone 1025 0 0\nrefused 10 11122\n",
+        ),
+        // all 2,048 literals reach each other: the chain leads from 1 to 1024, the next clause to -1023, the chain of the complements to -2, and the last clause back to 1
+        case(
+            "ring-of-literals",
+            chain(1_025, "-1024 -1023 0\n1 2 0\n"),
+            passes,
+            "loaded 1024 1025 0\ndone 0 0 0\nrefused 5 0\nrefused 10 15\n",
+        ),
+        // all variables are equal: one class, and no clause is left
+        case(
+            "ring-of-variables",
+            chain(1_024, "-1024 1 0\n"),
+            passes,
+            "loaded 1024 1024 0\ndone 1024 1024 2048\ndone 1024 0 0\nrefused 10 18268\n",
+        ),
+        // as many variables, clauses and literals as there may be: the ring makes all variables equal, so that Merge leaves units and drops the rest
+        case(
+            "largest",
+            chain(4_096, &largest()),
+            passes,
+            "loaded 1024 4096 0\ndone 4096 2048 14336\ndone 8192 2048 2048\nrefused 10 18272\n",
+        ),
+    ]
+}
+
+fn repeated(header: &str, token: &str, count: usize, end: &str) -> Vec<u8> {
+    format!("{header}{}{end}", token.repeat(count)).into_bytes()
+}
+
+/// The 1,023 pairs by which each of 1,024 variables implies the next, and more
+/// clauses behind them.
+fn chain(clauses: usize, more: &str) -> Vec<u8> {
+    let pairs: String = (1..1_024).map(|v| format!("-{v} {} 0\n", v + 1)).collect();
+    format!("p cnf 1024 {clauses}\n{pairs}{more}").into_bytes()
+}
+
+/// The clause that closes the ring, the 1,024 pairs of a variable and the one
+/// 512 places on, and 2,048 clauses of six literals, every second one mixed.
+fn largest() -> String {
+    let pairs = (0..1_024).map(|v| format!("{} {} 0\n", v + 1, (v + 512) % 1_024 + 1));
+    let sixes = (0..2_048).map(|k| six(7 * k, k % 2 == 1));
+    let clauses: String = pairs.chain(sixes).collect();
+    format!("-1024 1 0\n{clauses}")
+}
+
+/// Six literals, whose variables lie 171 places apart around the end; every
+/// second one is negative where the clause is mixed.
+fn six(from: usize, mixed: bool) -> String {
+    let literals = (0..6).map(|j| {
+        let sign = if mixed && j % 2 == 1 { "-" } else { "" };
+        format!("{sign}{} ", (from + 171 * j) % 1_024 + 1)
+    });
+    format!("{}0\n", literals.collect::<String>())
+}
