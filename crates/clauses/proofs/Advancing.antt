@@ -1,5 +1,7 @@
 -- A call of a pass that goes through the clauses once, by any rule: it is Open exactly if visits are left, and its answer is what its visits and its counts give. Assumes nothing.
 use Prim.Native.Nat.{ℕ, _+_, _-_, _≤_, _<_, min}
+use native.Mathlib.Nat.{min-eq-left}
+use native.Mathlib.Omega.{arith}
 use mathlib.Core.Path.{_≡_, refl, sym, ap, _∙_}
 use mathlib.Core.Bool.{Bool, true, false}
 use mathlib.Core.List.{List}
@@ -73,3 +75,11 @@ module _ (pass : ℕ → Pass) (freshOpen freshDone : Bool) where
         let u : Tables = visits rule m k t in
         let counts : Counts = gone m (st .n) (t .clauses) (u .clauses) in
         stands-cases counts (k + m) st u P (more counts) (none counts)
+
+  -- a whole pass: a visit for each clause, and none is left
+  pub advance-whole : (rule : List ℤ → Fate) (t : Tables) (st : State)
+      → advance rule pass freshOpen freshDone (st .n) 0 t st ≡ answered (Done (gone (st .n) (st .n) (t .clauses) (visits rule (st .n) 0 t .clauses))) (state (st .v) (st .n) Idle freshDone false) (visits rule (st .n) 0 t)
+  advance-whole rule t st =
+      let u : Tables = visits rule (st .n) 0 t in
+      let counts : Counts = gone (st .n) (st .n) (t .clauses) (u .clauses) in
+      sym (stands-done counts (0 + st .n) st u (omega arith) ∙ advanced rule (st .n) 0 t st (st .n) (sym (min-eq-left (omega arith))) u refl counts refl)

@@ -3,6 +3,7 @@ pub mod Placing
 pub mod Stores
 pub mod Forming
 pub mod Known
+pub mod MadeTrue
 pub mod Ahead
 pub mod Counting
 pub mod Fitting

@@ -48,36 +48,40 @@ module _ (steps : ℕ) (st : State) (t : Tables) where
   unfolding mergeOpen by-clash
   opened = refl
 
+  pub open-clash : clashes (edgesOf t (st .n)) (st .v) ≡ true → mergeOpen steps t st ≡ answered (Done (gone 0 (st .n) (t .clauses) (t .clauses))) (marked st) t
+  unfolding by-clash
+  open-clash e = opened ∙ ap by-clash e
+
+  pub open-none : clashes (edgesOf t (st .n)) (st .v) ≡ false → mergeOpen steps t st ≡ mergeFrom false steps 0 (mergedClasses (st .v) (st .n) t) st
+  unfolding by-clash
+  open-none e = opened ∙ ap by-clash e
+
   -- what holds of the opening with a clash and of that without one holds of every opening
   pub open-cases : (P : After → Type 0) → (clashes (edgesOf t (st .n)) (st .v) ≡ true → P (answered (Done (gone 0 (st .n) (t .clauses) (t .clauses))) (marked st) t))
       → (clashes (edgesOf t (st .n)) (st .v) ≡ false → P (mergeFrom false steps 0 (mergedClasses (st .v) (st .n) t) st)) → P (mergeOpen steps t st)
-  unfolding by-clash
-  open-cases P clash none = subst P (sym opened) (go (clashes (edgesOf t (st .n)) (st .v)) refl)
+  open-cases P clash none = go (clashes (edgesOf t (st .n)) (st .v)) refl
     where
-      go : (b : Bool) → clashes (edgesOf t (st .n)) (st .v) ≡ b → P (by-clash b)
-      go true e = clash e
-      go false e = none e
+      go : (b : Bool) → clashes (edgesOf t (st .n)) (st .v) ≡ b → P (mergeOpen steps t st)
+      go true e = subst P (sym (open-clash e)) (clash e)
+      go false e = subst P (sym (open-none e)) (none e)
 
   -- what the opening has answered, and the variable table after it
   module _ (r : Bool) (w : List ℤ) (is : r ≡ clashes (edgesOf t (st .n)) (st .v)) (after : w ≡ openedClasses r (edgesOf t (st .n)) (st .v) (t .variables)) where
     pub opens-clash : r ≡ true → answered (Done (record { visits = 0; clauses = 0; literals = 0 })) (marked st) (tables (t .clauses) (t .literals) w (t .times) (t .links)) ≡ mergeOpen steps t st
-    unfolding by-clash
     opens-clash e =
         ap (λ (c : Counts). answered (Done c) (marked st) (tables (t .clauses) (t .literals) w (t .times) (t .links))) (none-gone (st .n) (t .clauses))
         ∙ ap (λ (x : List ℤ). answered (Done (gone 0 (st .n) (t .clauses) (t .clauses))) (marked st) (tables (t .clauses) (t .literals) x (t .times) (t .links)))
         (after ∙ ap (λ (b : Bool). openedClasses b (edgesOf t (st .n)) (st .v) (t .variables)) e)
-        ∙ ap by-clash (sym e ∙ is)
-        ∙ sym opened
+        ∙ sym (open-clash (sym is ∙ e))
 
     new-classes : r ≡ false → w ≡ regrouped (representative (edgesOf t (st .n)) (st .v)) (st .v) (t .variables)
     new-classes e = after ∙ ap (λ (b : Bool). openedClasses b (edgesOf t (st .n)) (st .v) (t .variables)) e
 
     pub opens-visits : r ≡ false → mergeFrom false steps 0 (tables (t .clauses) (t .literals) w (t .times) (t .links)) st ≡ mergeOpen steps t st
-    unfolding by-clash mergedClasses
+    unfolding mergedClasses
     opens-visits e =
         ap (λ (x : List ℤ). mergeFrom false steps 0 (tables (t .clauses) (t .literals) x (t .times) (t .links)) st) (new-classes e)
-        ∙ ap by-clash (sym e ∙ is)
-        ∙ sym opened
+        ∙ sym (open-none (sym is ∙ e))
 
     pub opens-ready : r ≡ false → Formed (st .v) (st .n) (st .n) false (t .clauses) (t .literals) (t .variables) → firstUnsettled t (st .n) ≡ st .n → Ready st 0 (t .clauses) (t .literals) w
     opens-ready e F settled = record {

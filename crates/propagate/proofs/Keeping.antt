@@ -1,4 +1,4 @@
--- A visit keeps the tables formed, unless it finds the empty clause. Assumes nothing.
+-- A visit keeps the tables formed, unless it finds the empty clause; and it leaves every class as it was. Assumes nothing.
 use Prim.Native.Nat.{ℕ, _≤_, _<_}
 use native.Mathlib.Omega.{arith}
 use mathlib.Core.Path.{_≡_, refl, sym, ap, subst, _∙_}
@@ -6,19 +6,18 @@ use mathlib.Core.Bool.{Bool, true, false, not}
 use mathlib.Core.List.{List, [], _∷_}
 use lib.ListN.{length}
 use lib.Dec.{ltb}
-use lib.IntN.{ℤ, pos, natAbs}
-use lib.Signed.{nonNeg}
-use Rattle.literal.specs.Literals.{Literal, signBy}
+use lib.IntN.{ℤ}
+use Rattle.literal.specs.Literals.{Literal}
 use Rattle.base.specs.Lists.{any, filter}
-use Rattle.tables.specs.Tables.{Tables, standing}
-use Rattle.tables.specs.Values.{isTrue, isFalse, classLiteral, setTrue}
+use Rattle.tables.specs.Tables.{Tables, standing, classOf}
+use Rattle.tables.specs.Values.{isTrue, isFalse, setTrue}
 use Rattle.tables.specs.Clauses.{literalsOf}
 use Rattle.tables.specs.Fates.{Fate, conflict, store, fateAt, shortened, droppedAt}
-use Rattle.clauses.specs.Formed.{Formed, FitClause, Known}
-use Rattle.clauses.proofs.Forming.{clause-fits, part-length, formed-values, set-classes, set-variables}
+use Rattle.clauses.specs.Formed.{Formed, FitClause}
+use Rattle.clauses.proofs.Forming.{clause-fits, part-length, formed-values}
 use Rattle.clauses.proofs.Fitting.{fit-none, fit-filter, filter-shorter}
 use Rattle.clauses.proofs.Keeping.{FormedIn, formed-shortened, formed-dropped, formed-cases}
-use Rattle.clauses.proofs.Known.{abs-signed, class-ranged, class-own}
+use Rattle.clauses.proofs.MadeTrue.{true-classes, true-variables}
 use Rattle.propagate.specs.Propagate.{notFalse, remaining, propagateClause}
 use Rattle.propagate.proofs.Parting.{fate-true, fate-left}
 
@@ -30,19 +29,7 @@ module _ (v n : ℕ) (t : Tables) (F : FormedIn v n t) (k : ℕ) (lt : k < n) wh
   -- a literal made true
   pub formed-unit : (l : ℤ) → Literal v l → FormedIn v n (droppedAt k (setTrue (t .variables) l) t)
   unfolding droppedAt
-  formed-unit l L = formed-values (formed-dropped t F k lt n (λ j lj d e. e)) (set-classes (F .vars) u (class-ranged K .above) (class-ranged K .within) (class-own K) x tri) (set-variables (F .vars) u (class-ranged K .above) (class-ranged K .within) (class-own K) x tri)
-    where
-      K : Known (t .variables) l
-      K = record { count = v; rows = F .vars; ranged = L }
-
-      u : ℕ
-      u = natAbs (classLiteral (t .variables) l)
-
-      x : ℤ
-      x = signBy (nonNeg (classLiteral (t .variables) l)) (pos 1)
-
-      tri : natAbs x ≤ 1
-      tri = omega (arith, abs-signed (nonNeg (classLiteral (t .variables) l)) (pos 1))
+  formed-unit l L = formed-values (formed-dropped t F k lt n (λ j lj d e. e)) (true-classes (F .vars) l L) (true-variables (F .vars) l L)
 
   -- what is left of clause k
   fits : FitClause v (t .variables) (ltb k n) (notFalse (t .variables) (literalsOf (t .clauses) (t .literals) k))
@@ -73,3 +60,24 @@ module _ (v n : ℕ) (t : Tables) (F : FormedIn v n t) (k : ℕ) (lt : k < n) wh
   conflict-stands =
       formed-cases t F k lt (propagateClause (t .variables)) (λ (f : Fate). f ≡ conflict → standing (t .clauses) k ≡ 1)
       (λ e h. absurd (let z : _≡_ {A = ℕ} 0 1 = cc in omega arith)) (λ stands h. stands)
+
+  -- and a visit sets values only: every class is as it was
+  remaining-classes : (D : List ℤ) → FitClause v (t .variables) (ltb k n) D → (u : ℕ) → classOf (store k (remaining D) t .variables) u ≡ classOf (t .variables) u
+  unfolding shortened droppedAt
+  remaining-classes [] P u = refl
+  remaining-classes (x ∷ []) P u = true-classes (F .vars) x (P .ranged 0 (omega arith)) u
+  remaining-classes (x ∷ y ∷ D) P u = refl
+
+  pub visit-classes : (u : ℕ) → classOf (store k (fateAt (propagateClause (t .variables)) k t) t .variables) u ≡ classOf (t .variables) u
+  unfolding droppedAt
+  visit-classes = formed-cases t F k lt (propagateClause (t .variables)) Same (λ e u. refl) (λ stands. by-test (any (isTrue (t .variables)) C) refl)
+    where
+      C : List ℤ
+      C = literalsOf (t .clauses) (t .literals) k
+
+      Same : Fate → Type 0
+      Same f = (u : ℕ) → classOf (store k f t .variables) u ≡ classOf (t .variables) u
+
+      by-test : (b : Bool) → any (isTrue (t .variables)) C ≡ b → Same (propagateClause (t .variables) C)
+      by-test true e = subst Same (sym (fate-true (t .variables) C e)) (λ u. refl)
+      by-test false e = subst Same (sym (fate-left (t .variables) C e)) (remaining-classes (notFalse (t .variables) C) fits)

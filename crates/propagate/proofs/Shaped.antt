@@ -1,14 +1,14 @@
 -- Propagate keeps the shape rule, wherever it stops. Assumes nothing.
 use Prim.Native.Nat.{ℕ, zero, suc, _+_, _*_, _≤_, _<_}
 use native.Mathlib.Omega.{arith}
-use mathlib.Core.Path.{_≡_, refl, sym, subst}
+use mathlib.Core.Path.{_≡_, refl, sym, subst, _∙_}
 use mathlib.Core.Bool.{Bool, true, false, _||_, false≢true}
 use mathlib.Core.List.{List}
 use lib.Dec.{ltb}
 use Rattle.state.specs.declared.State.{State}
 use Rattle.state.specs.declared.Pass.{Pass}
 use Rattle.state.specs.declared.Pass.the-variants.{Idle, Propagate, Merge, Sweep}
-use Rattle.tables.specs.Tables.{Tables, lengthOf}
+use Rattle.tables.specs.Tables.{Tables, lengthOf, classOf}
 use Rattle.tables.specs.Fates.{Fate, kept, left, dropped, unit, conflict, store, fateAt}
 use Rattle.stamps.specs.Fresh.{FreshStamps}
 use Rattle.shape.specs.Shape.{Cursor, Shape}
@@ -20,6 +20,7 @@ use Rattle.clauses.proofs.Visiting.{SameStamps, stamps-same, stamps-join, store
 use Rattle.clauses.proofs.Keeping.{FormedIn, formed-shape-as}
 use Rattle.clauses.proofs.Entered.{entered-formed, entered-cursor}
 use Rattle.propagate.specs.Propagate.{Progress, going, settled, contradicted, onward, changes, visited, propagateClause, propagateVisit, propagateVisits, replied, propagateFrom, begin, resumed, propagateBy, propagateCall}
+use Rattle.propagate.proofs.Keeping.{visit-classes}
 use Rattle.propagate.proofs.Stepping.{Good, visit-good, visits-good}
 
 -- ---- what every visit keeps
@@ -60,6 +61,11 @@ visits-keep P v n one (suc m) made (contradicted t) G h = h
 pub visits-stamps : (v n m made : ℕ) (p : Progress) → Good v n p → SameStamps (tablesAt p) (tablesAt (propagateVisits n m made p .progress))
 visits-stamps v n m made p G =
     visits-keep (SameStamps (tablesAt p)) v n (λ k t F lt S. stamps-join S (store-stamps k (fateAt (propagateClause (t .variables)) k t) t)) m made p G (stamps-same (tablesAt p))
+
+-- nor the classes
+pub visits-classes : (v n m made : ℕ) (p : Progress) → Good v n p → (u : ℕ) → classOf (tablesAt (propagateVisits n m made p .progress) .variables) u ≡ classOf (tablesAt p .variables) u
+visits-classes v n m made p G =
+    visits-keep (λ (t : Tables). (u : ℕ) → classOf (t .variables) u ≡ classOf (tablesAt p .variables) u) v n (λ k t F lt h u. visit-classes v n t F k lt u ∙ h u) m made p G (λ u. refl)
 
 -- the tables where a call begins, and where it stops
 pub begin-tables : (n : ℕ) (t : Tables) → tablesAt (begin n t) ≡ t
