@@ -1,4 +1,4 @@
--- The loop that counts what stands: what is counted so far, and what the records that are left give, make the whole. Assumes nothing.
+-- The loop that counts what stands: what is counted so far, and what the records that are left give, make the whole. And the counts that a call answers, from two such countings. Assumes nothing.
 use Prim.Native.Nat.{ℕ, zero, suc, _+_, _*_, _-_, _≤_, _<_}
 use native.Mathlib.Omega.{arith}
 use mathlib.Core.Path.{_≡_, refl, sym, ap, subst, _∙_}
@@ -8,7 +8,9 @@ use mathlib.Core.List.{List, [], _∷_, _++_}
 use lib.ListN.{length, take, drop, getD}
 use lib.Seq.{drop-cons, length-take-le, getD-take, drop-length}
 use Rattle.tables.specs.Tables.{lengthOf, standing, startOf}
-use Rattle.tables.specs.Clauses.{standingCount, literalCount}
+use Rattle.tables.specs.Clauses.{gone, standingCount, literalCount}
+use Rattle.state.specs.declared.Counts.{Counts}
+use Rattle.clauses.specs.declared.Totals.{Totals}
 use Rattle.clauses.specs.Formed.{Counted, Formed}
 
 -- the records of n clauses, from record i on
@@ -85,3 +87,19 @@ counting-done {n} {c} {i} {clauses} {literals} C K h =
 -- the records of formed tables can be counted
 pub formed-counted : {v n s : ℕ} {mark : Bool} {c : List ℕ} {l w : List ℤ} → Formed v n s mark c l w → Counted n c
 formed-counted F = record { number = F .number; records = omega (arith, F .records, F .number); sizes = λ i lt. omega (arith, F .rule .parts .inside i lt) }
+
+-- ---- the counts of a call
+
+-- counts that are those of two tables of records
+pub counts-are : (n visits : ℕ) (before after : List ℕ) (b a : Totals) (c : Counts)
+    → (b .clauses ≡ standingCount (take (3 * n) before)) × (b .literals ≡ literalCount (take (3 * n) before)) → (a .clauses ≡ standingCount (take (3 * n) after)) × (a .literals ≡ literalCount (take (3 * n) after))
+    → (c .visits ≡ visits) × (c .clauses ≡ b .clauses - a .clauses) × (c .literals ≡ b .literals - a .literals) → c ≡ gone visits n before after
+counts-are n visits before after b a c eb ea ec =
+    λ i. record { visits = ec .0 i; clauses = (ec .1 ∙ (λ j. eb .0 j - ea .0 j)) i; literals = (ec .2 ∙ (λ j. eb .1 j - ea .1 j)) i }
+
+-- no visit, and nothing gone
+pub none-gone : (n : ℕ) (before : List ℕ) → record { visits = 0; clauses = 0; literals = 0 } ≡ gone 0 n before before
+none-gone n before =
+    let a : 0 ≡ standingCount (take (3 * n) before) - standingCount (take (3 * n) before) = omega arith in
+    let b : 0 ≡ literalCount (take (3 * n) before) - literalCount (take (3 * n) before) = omega arith in
+    λ i. record { visits = 0; clauses = a i; literals = b i }

@@ -1,13 +1,16 @@
 -- What the shape rule asks of a clause's literals, literal by literal, and that a part of a clause meets it too. Assumes nothing.
-use Prim.Native.Nat.{ℕ, zero, suc, _≤_, _<_}
+use Prim.Native.Nat.{ℕ, zero, suc, _*_, _≤_, _<_}
 use native.Mathlib.Omega.{arith}
 use mathlib.Core.Path.{_≡_, refl, sym, ap, subst, _∙_}
 use mathlib.Core.Bool.{Bool, true, false}
-use mathlib.Core.List.{List, [], _∷_}
+use mathlib.Core.Logic.{⊎-elim}
+use mathlib.Core.List.{List, [], _∷_, map, List·Memᴰ, List·Memᴰ·not-nil, List·Memᴰ·cases-cons, Memᴰ·of-map}
 use lib.ListN.{length, getD}
 use lib.IntN.{ℤ, pos, natAbs}
 use Rattle.base.specs.Lists.{filter}
-use Rattle.literal.specs.Literals.{Literal}
+use Rattle.literal.specs.Literals.{Literal, slotOf, twin}
+use Rattle.literal.proofs.Laws.{slot-below}
+use Rattle.literal.proofs.Twins.{twin-below}
 use Rattle.tables.specs.Tables.{classOf}
 use Rattle.clauses.specs.Formed.{FitClause}
 
@@ -42,6 +45,18 @@ module _ {v : ℕ} {w : List ℤ} {b : Bool} {x : ℤ} {xs : List ℤ} (F : FitC
 
   pub fit-tail : FitClause v w b xs
   fit-tail = record { ranged = λ k h. F .ranged (suc k) (omega arith); once = λ k h j l e. F .once (suc k) (omega arith) (suc j) (omega arith) e; own = λ e k h. F .own e (suc k) (omega arith) }
+
+-- a literal of the clause is one of the variables, and its slot and the complement's are among theirs
+pub fit-member : {v : ℕ} {w : List ℤ} {b : Bool} {C : List ℤ} {l : ℤ} → FitClause v w b C → List·Memᴰ l C → Literal v l
+fit-member {C = []} F m = absurd (List·Memᴰ·not-nil m)
+fit-member {v} {C = x ∷ xs} {l} F m = ⊎-elim (λ (e : l ≡ x). subst (Literal v) (sym e) (fit-head F .ranged)) (λ r. fit-member (fit-tail F) r) (List·Memᴰ·cases-cons m)
+
+pub fit-slots : {v : ℕ} {w : List ℤ} {b : Bool} {C : List ℤ} → FitClause v w b C → (s : ℕ) → List·Memᴰ s (map slotOf C) → (s < 2 * v) × (twin s < 2 * v)
+fit-slots {v} {C = C} F s m =
+    let r = Memᴰ·of-map slotOf C m in
+    let L = fit-member F (r .1) in
+    let h : s < 2 * v = subst (λ (x : ℕ). x < 2 * v) (r .2) (slot-below (r .0) v (L .above) (L .within)) in
+    (h, twin-below v s h)
 
 -- what is left of a list was in it
 pub filter-at : (q : ℤ → Bool) (xs : List ℤ) (j : ℕ) → j < length (filter q xs) → (i : ℕ) × (i < length xs) × (getD (filter q xs) j (pos 0) ≡ getD xs i (pos 0))

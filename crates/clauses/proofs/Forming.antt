@@ -16,8 +16,9 @@ use Rattle.tables.specs.Tables.{Tables, startOf, lengthOf, standing, classOf, v
 use Rattle.tables.specs.Clauses.{literalsOf}
 use Rattle.shape.specs.Shape.{Literals, Clauses, Variable, settledTo, Cursor, Shape}
 use Rattle.stamps.specs.Fresh.{FreshStamps}
-use Rattle.clauses.specs.Formed.{Variables, Formed, FitClause}
+use Rattle.clauses.specs.Formed.{Variables, Formed, FitClause, EachKnown}
 use Rattle.clauses.proofs.Stores.{fit-view, recorded}
+use Rattle.clauses.proofs.Placing.{view-length}
 
 -- ---- the rule and its part
 
@@ -53,6 +54,31 @@ module _ {v n s : ℕ} {mark : Bool} {c : List ℕ} {l variables : List ℤ} (F 
 
   pub record-inside : 3 * i + 2 < length c
   record-inside = omega (arith, F .records, F .number, lt)
+
+  -- its record and its number, as the code asks them
+  pub record-place : (3 * i + 2 < length c) × (i ≤ 4096)
+  record-place = (record-inside, omega (arith, lt, F .number))
+
+  -- its part lies in the table, and within the places that are stated
+  pub part-places : (startOf c i + lengthOf c i ≤ length l) × (startOf c i + lengthOf c i ≤ 16384)
+  part-places = (part-inside, F .rule .parts .inside i lt)
+
+  pub part-length : length (literalsOf c l i) ≡ lengthOf c i
+  part-length = view-length i c l part-inside
+
+  pub part-short : length (literalsOf c l i) ≤ 16384
+  part-short = omega (arith, part-length, part-places .1)
+
+  pub clause-known : EachKnown variables (literalsOf c l i)
+  clause-known = record { each = λ j h. record { count = v; rows = F .vars; ranged = clause-fits .ranged j h } }
+
+  -- the flag of a clause that is not dropped
+  pub stands-one : (standing c i ≡ 0 → ⊥) → standing c i ≡ 1
+  stands-one d = omega (arith, F .rule .parts .flag i lt, d)
+
+-- under the mark a clause may stand empty
+pub formed-marked : {v n s : ℕ} {c : List ℕ} {l w : List ℤ} → Formed v n s false c l w → Formed v n s true c l w
+formed-marked F = record { number = F .number; records = F .records; places = F .places; rule = record { parts = F .rule .parts; each = F .rule .each; empty = λ i lt a b. refl }; vars = F .vars }
 
 -- a record whose flag is written again
 pub recorded-same : (c : List ℕ) (i m : ℕ) → recorded c i m (standing c i) ≡ set c (3 * i + 1) m

@@ -9,17 +9,15 @@ use mathlib.Core.Path.{_≡_, refl, _∙_}
 use mathlib.Core.Bool.{Bool, true, false}
 use mathlib.Core.List.{List}
 use lib.ListN.{length, length-set}
-use lib.IntN.{ℤ, pos, natAbs}
-use lib.Signed.{nonNeg}
-use Rattle.literal.specs.Literals.{Literal, signBy, litAt, twin}
+use lib.IntN.{ℤ}
+use Rattle.literal.specs.Literals.{Literal, litAt, twin}
 use Rattle.literal.proofs.Twins.{twin-below}
 use Rattle.stamps.specs.Columns.{columns}
 use Rattle.hidden.specs.Failed.{sameStart, failedSlot}
 use Rattle.tables.specs.Tables.{classOf}
-use Rattle.tables.specs.Values.{isTrue, isFalse, classLiteral, setTrue}
-use Rattle.clauses.specs.Formed.{Variables, Known}
-use Rattle.clauses.proofs.Forming.{set-classes, set-variables}
-use Rattle.clauses.proofs.Known.{abs-signed, class-ranged, class-own}
+use Rattle.tables.specs.Values.{isTrue, isFalse, setTrue}
+use Rattle.clauses.specs.Formed.{Variables}
+use Rattle.clauses.proofs.MadeTrue.{true-classes, true-variables}
 use Rattle.failed.specs.Failed.{Found, found, assert, failedAt, failedFrom}
 use Rattle.failed.specs.Steps.{Stamped}
 use Rattle.failed.proofs.Climbing.{slot-ranged, failed-below}
@@ -38,23 +36,7 @@ kept-more K L = record { rows = L .rows; classes = λ u. L .classes u ∙ K .cla
 
 module _ {v : ℕ} {w : List ℤ} (R : Variables v w) where
   pub kept-true : (l : ℤ) → Literal v l → Kept v w (setTrue w l)
-  kept-true l L = record {
-    rows = set-variables R u (class-ranged K .above) (class-ranged K .within) (class-own K) x tri;
-    classes = set-classes R u (class-ranged K .above) (class-ranged K .within) (class-own K) x tri;
-    size = simp length-set;
-  }
-    where
-      K : Known w l
-      K = record { count = v; rows = R; ranged = L }
-
-      u : ℕ
-      u = natAbs (classLiteral w l)
-
-      x : ℤ
-      x = signBy (nonNeg (classLiteral w l)) (pos 1)
-
-      tri : natAbs x ≤ 1
-      tri = omega (arith, abs-signed (nonNeg (classLiteral w l)) (pos 1))
+  kept-true l L = record { rows = true-variables R l L; classes = true-classes R l L; size = simp length-set }
 
   kept-assert : (l : ℤ) → Literal v l → (n : ℕ) → Kept v w (assert l w n .variables)
   kept-assert l L n = go (isTrue w l) (isFalse w l)

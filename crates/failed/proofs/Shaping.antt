@@ -6,8 +6,6 @@ use Prim.Native.Nat.{ℕ, _*_}
 use native.Mathlib.Omega.{arith}
 use mathlib.Core.Path.{_≡_, refl}
 use mathlib.Core.Bool.{Bool, true, false}
-use mathlib.Core.List.{List}
-use lib.IntN.{ℤ}
 use Rattle.stamps.specs.Columns.{columns}
 use Rattle.state.specs.declared.State.{State}
 use Rattle.state.specs.declared.Pass.the-variants.{Idle}
@@ -19,16 +17,12 @@ use Rattle.shape.specs.declared.Entry.{Entry}
 use Rattle.shape.specs.declared.Entry.the-variants.{No, Opens, Resumes}
 use Rattle.shape.proofs.Entering.{Entered, opens-entered, resumes-entered}
 use Rattle.clauses.specs.Formed.{Formed}
-use Rattle.clauses.proofs.Forming.{formed-values, formed-shape}
+use Rattle.clauses.proofs.Forming.{formed-values, formed-marked, formed-shape}
 use Rattle.clauses.proofs.Entered.{entered-formed}
 use Rattle.failed.specs.Failed.{Found, found, failedFrom, withVariables, failedFresh, unlessStale, failedBy, failedCall}
 use Rattle.failed.specs.Steps.{Stamped}
 use Rattle.failed.proofs.Keeping.{Kept, failed-kept}
 use Rattle.failed.proofs.Calling.{shape-stamped}
-
--- under the mark a clause may stand empty
-formed-marked : {v n s : ℕ} {c : List ℕ} {l w : List ℤ} → Formed v n s false c l w → Formed v n s true c l w
-formed-marked F = record { number = F .number; records = F .records; places = F .places; rule = record { parts = F .rule .parts; each = F .rule .each; empty = λ i lt a b. refl }; vars = F .vars }
 
 module _ (t : Tables) (st : State) where
   pub fresh-shape : Formed (st .v) (st .n) (st .n) false (t .clauses) (t .literals) (t .variables) → Stamped (st .v) (t .times) (t .links) → Shape (failedFresh t st .tables) (failedFresh t st .state)

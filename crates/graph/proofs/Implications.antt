@@ -107,7 +107,7 @@ implications-skew cs v slots =
 
 -- ---- no edge goes from a slot to itself
 
-twin-variable : (s : ℕ) → twin s / 2 ≡ s / 2
+pub twin-variable : (s : ℕ) → twin s / 2 ≡ s / 2
 twin-variable s =
     ⊎-elim
     (λ (e : s % 2 ≡ 0). omega (arith, e, twin-even s e))

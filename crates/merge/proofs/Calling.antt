@@ -3,10 +3,11 @@ use Prim.Native.Nat.{ℕ, zero, suc, _+_, _*_, _-_, _≤_, _<_}
 use native.Mathlib.Omega.{arith}
 use mathlib.Core.Path.{_≡_, refl, sym, ap, subst, _∙_}
 use mathlib.Core.Bool.{Bool, true, false}
+use mathlib.Core.Logic.{⊎-elim}
 use mathlib.Core.List.{List}
-use lib.ListN.{take}
 use lib.IntN.{ℤ}
 use borrow.Author.Tests.{lt-ltb, le-ltb}
+use Rattle.base.specs.Decide.{le-or}
 use Rattle.base.specs.Lists.{first}
 use Rattle.state.specs.declared.State.{State}
 use Rattle.state.specs.declared.Counts.{Counts}
@@ -16,7 +17,7 @@ use Rattle.state.specs.declared.Refusal.{Refusal}
 use Rattle.state.specs.declared.Refusal.the-variants.{Unsettled}
 use Rattle.state.specs.declared.Answer.the-variants.{Done}
 use Rattle.tables.specs.Tables.{Tables, tables}
-use Rattle.tables.specs.Clauses.{gone, standingCount, literalCount}
+use Rattle.tables.specs.Clauses.{gone}
 use Rattle.tables.specs.Passes.{unsettled, firstUnsettled}
 use Rattle.tables.specs.Calls.{After, answered, refuse, marked}
 use Rattle.shape.specs.Shape.{settledTo, Cursor}
@@ -26,6 +27,7 @@ use Rattle.shape.specs.declared.Entry.the-variants.{No, Opens, Resumes}
 use Rattle.shape.proofs.Entering.{opens-entered, resumes-entered}
 use Rattle.clauses.specs.Formed.{Formed}
 use Rattle.clauses.proofs.Forming.{shape-formed}
+use Rattle.clauses.proofs.Counting.{none-gone}
 use Rattle.clauses.proofs.Entered.{entered-formed, entered-cursor}
 use Rattle.merge.specs.Merge.{edgesOf, clashes, representative, regrouped, mergedClasses, mergeFrom, mergeOpen, mergeSettled, mergeCursor, mergeBy, mergeCall}
 use Rattle.merge.specs.Opening.{openedClasses}
@@ -33,13 +35,6 @@ use Rattle.merge.specs.Steps.{Ready}
 use Rattle.merge.proofs.Merged.{merged-formed}
 
 -- ---- the opening
-
--- no visit, and nothing gone
-none-gone : (n : ℕ) (before : List ℕ) → record { visits = 0; clauses = 0; literals = 0 } ≡ gone 0 n before before
-none-gone n before =
-    let a : 0 ≡ standingCount (take (3 * n) before) - standingCount (take (3 * n) before) = omega arith in
-    let b : 0 ≡ literalCount (take (3 * n) before) - literalCount (take (3 * n) before) = omega arith in
-    λ i. record { visits = 0; clauses = a i; literals = b i }
 
 module _ (steps : ℕ) (st : State) (t : Tables) where
   by-clash : Bool → After
@@ -53,26 +48,40 @@ module _ (steps : ℕ) (st : State) (t : Tables) where
   unfolding mergeOpen by-clash
   opened = refl
 
+  pub open-clash : clashes (edgesOf t (st .n)) (st .v) ≡ true → mergeOpen steps t st ≡ answered (Done (gone 0 (st .n) (t .clauses) (t .clauses))) (marked st) t
+  unfolding by-clash
+  open-clash e = opened ∙ ap by-clash e
+
+  pub open-none : clashes (edgesOf t (st .n)) (st .v) ≡ false → mergeOpen steps t st ≡ mergeFrom false steps 0 (mergedClasses (st .v) (st .n) t) st
+  unfolding by-clash
+  open-none e = opened ∙ ap by-clash e
+
+  -- what holds of the opening with a clash and of that without one holds of every opening
+  pub open-cases : (P : After → Type 0) → (clashes (edgesOf t (st .n)) (st .v) ≡ true → P (answered (Done (gone 0 (st .n) (t .clauses) (t .clauses))) (marked st) t))
+      → (clashes (edgesOf t (st .n)) (st .v) ≡ false → P (mergeFrom false steps 0 (mergedClasses (st .v) (st .n) t) st)) → P (mergeOpen steps t st)
+  open-cases P clash none = go (clashes (edgesOf t (st .n)) (st .v)) refl
+    where
+      go : (b : Bool) → clashes (edgesOf t (st .n)) (st .v) ≡ b → P (mergeOpen steps t st)
+      go true e = subst P (sym (open-clash e)) (clash e)
+      go false e = subst P (sym (open-none e)) (none e)
+
   -- what the opening has answered, and the variable table after it
   module _ (r : Bool) (w : List ℤ) (is : r ≡ clashes (edgesOf t (st .n)) (st .v)) (after : w ≡ openedClasses r (edgesOf t (st .n)) (st .v) (t .variables)) where
     pub opens-clash : r ≡ true → answered (Done (record { visits = 0; clauses = 0; literals = 0 })) (marked st) (tables (t .clauses) (t .literals) w (t .times) (t .links)) ≡ mergeOpen steps t st
-    unfolding by-clash
     opens-clash e =
         ap (λ (c : Counts). answered (Done c) (marked st) (tables (t .clauses) (t .literals) w (t .times) (t .links))) (none-gone (st .n) (t .clauses))
         ∙ ap (λ (x : List ℤ). answered (Done (gone 0 (st .n) (t .clauses) (t .clauses))) (marked st) (tables (t .clauses) (t .literals) x (t .times) (t .links)))
         (after ∙ ap (λ (b : Bool). openedClasses b (edgesOf t (st .n)) (st .v) (t .variables)) e)
-        ∙ ap by-clash (sym e ∙ is)
-        ∙ sym opened
+        ∙ sym (open-clash (sym is ∙ e))
 
     new-classes : r ≡ false → w ≡ regrouped (representative (edgesOf t (st .n)) (st .v)) (st .v) (t .variables)
     new-classes e = after ∙ ap (λ (b : Bool). openedClasses b (edgesOf t (st .n)) (st .v) (t .variables)) e
 
     pub opens-visits : r ≡ false → mergeFrom false steps 0 (tables (t .clauses) (t .literals) w (t .times) (t .links)) st ≡ mergeOpen steps t st
-    unfolding by-clash mergedClasses
+    unfolding mergedClasses
     opens-visits e =
         ap (λ (x : List ℤ). mergeFrom false steps 0 (tables (t .clauses) (t .literals) x (t .times) (t .links)) st) (new-classes e)
-        ∙ ap by-clash (sym e ∙ is)
-        ∙ sym opened
+        ∙ sym (open-none (sym is ∙ e))
 
     pub opens-ready : r ≡ false → Formed (st .v) (st .n) (st .n) false (t .clauses) (t .literals) (t .variables) → firstUnsettled t (st .n) ≡ st .n → Ready st 0 (t .clauses) (t .literals) w
     opens-ready e F settled = record {
@@ -106,6 +115,18 @@ module _ (steps : ℕ) (st : State) (t : Tables) (i : ℕ) (is : i ≡ firstUnse
   pub all-settled : st .n ≤ i → firstUnsettled t (st .n) ≡ st .n
   unfolding firstUnsettled
   all-settled h = omega (arith, h, is, first-within (unsettled t) (st .n) 0)
+
+-- what holds of a refusal with 6 and of an opening holds of the call that finds no pass open
+pub settled-cases : (steps : ℕ) (st : State) (t : Tables) (P : After → Type 0) → P (refuse (Unsettled (firstUnsettled t (st .n) + 1)) st t) → (firstUnsettled t (st .n) ≡ st .n → P (mergeOpen steps t st))
+    → P (mergeSettled steps t st)
+settled-cases steps st t P refused opens =
+    ⊎-elim
+    (λ (h : st .n ≤ i). subst P (first-opens steps st t i refl h) (opens (all-settled steps st t i refl h)))
+    (λ (h : i < st .n). subst P (first-refused steps st t i refl h) refused)
+    (le-or (st .n) i)
+  where
+    i : ℕ
+    i = firstUnsettled t (st .n)
 
 -- ---- the three ways of the call
 

@@ -1,34 +1,29 @@
 -- A visit keeps the tables formed and moves the bound of the settled clauses past the one that it visits. Assumes nothing.
-use Prim.Native.Nat.{ℕ, zero, suc, _+_, _-_, _≤_, _<_}
+use Prim.Native.Nat.{ℕ, zero, suc, _+_, _≤_, _<_}
 use native.Mathlib.Omega.{arith}
 use mathlib.Core.Path.{_≡_, refl, sym, ap, subst, _∙_}
 use mathlib.Core.Bool.{Bool, true, false}
 use mathlib.Core.Logic.{⊎-elim}
-use mathlib.Core.List.{List, [], map}
-use lib.ListN.{length, drop, getD, length-drop, length-map}
-use lib.Seq.{length-take-le}
+use mathlib.Core.List.{List, map}
+use lib.ListN.{length, getD, length-map}
 use lib.Dec.{ltb}
 use lib.IntN.{ℤ, pos}
 use borrow.Author.Tests.{lt-ltb, ltb-true}
 use Rattle.base.specs.Decide.{same-or}
 use Rattle.literal.specs.Clauses.{tautology}
-use Rattle.tables.specs.Tables.{Tables, startOf, lengthOf, standing}
+use Rattle.tables.specs.Tables.{Tables, lengthOf, standing}
 use Rattle.tables.specs.Values.{classLiteral}
 use Rattle.tables.specs.Clauses.{literalsOf}
-use Rattle.tables.specs.Fates.{Fate, kept, left, dropped, store, fateAt, visit, visits, shortened, droppedAt}
-use Rattle.clauses.specs.Formed.{Formed, FitClause, Known}
-use Rattle.clauses.proofs.Stores.{recorded, storedAt, stored-formed}
-use Rattle.clauses.proofs.Forming.{part-inside, clause-fits, recorded-same}
-use Rattle.clauses.proofs.Fitting.{fit-none}
+use Rattle.tables.specs.Fates.{Fate, left, dropped, store, visit, visits}
+use Rattle.clauses.specs.Formed.{FitClause, Known}
+use Rattle.clauses.proofs.Forming.{clause-fits, part-length}
+use Rattle.clauses.proofs.Keeping.{FormedTo, formed-shortened, formed-dropped, formed-cases}
+use Rattle.clauses.proofs.Visiting.{visit-beside}
 use Rattle.clauses.proofs.Known.{class-ranged, class-own}
-use Rattle.merge.specs.Merge.{mergeClause, unlessTautology}
+use Rattle.merge.specs.Merge.{mergeClause}
 use Rattle.merge.specs.Visits.{substituted}
 use Rattle.merge.proofs.Repeats.{Own, distinct-short, distinct-none, distinct-all, distinct-once, all-map, once-fits}
-use Rattle.merge.proofs.Visiting.{visit-dropped, visit-standing}
-
--- the tables of a state without the mark, whose first k clauses are settled
-abbrev pub FormedTo : ℕ → ℕ → ℕ → Tables → Type 0
-FormedTo v n k t = Formed v n k false (t .clauses) (t .literals) (t .variables)
+use Rattle.merge.proofs.Visiting.{merge-shrinks}
 
 module _ (v n k : ℕ) (t : Tables) (F : FormedTo v n k t) (lt : k < n) where
   -- a clause other than k that is to be settled after the visit was settled before it
@@ -63,11 +58,8 @@ module _ (v n k : ℕ) (t : Tables) (F : FormedTo v n k t) (lt : k < n) where
   abbrev D : List ℤ
   D = substituted (t .variables) C
 
-  size : length C ≡ lengthOf (t .clauses) k
-  size = length-take-le (lengthOf (t .clauses) k) (drop (startOf (t .clauses) k) (t .literals)) (omega (arith, part-inside F k lt, length-drop (startOf (t .clauses) k) (t .literals)))
-
   pub mapped : length (map (classLiteral (t .variables)) C) ≡ lengthOf (t .clauses) k
-  mapped = length-map C (classLiteral (t .variables)) ∙ size
+  mapped = length-map C (classLiteral (t .variables)) ∙ part-length F k lt
 
   -- each class literal is a literal of the variables and its own class
   own-literal : (i : ℕ) → i < length C → Own v (t .variables) (classLiteral (t .variables) (getD C i (pos 0)))
@@ -88,63 +80,22 @@ module _ (v n k : ℕ) (t : Tables) (F : FormedTo v n k t) (lt : k < n) where
   some-left stands z =
       F .rule .empty k lt stands (sym mapped ∙ distinct-none (map (classLiteral (t .variables)) C) z)
 
-  formed-left : standing (t .clauses) k ≡ 1 → tautology D ≡ false → FormedTo v n (suc k) (shortened k D t)
-  unfolding shortened
-  formed-left stands e =
-      subst (λ (x : List ℕ). Formed v n (suc k) false x (storedAt (t .clauses) (t .literals) k D) (t .variables)) (ap (recorded (t .clauses) k (length D)) (sym stands) ∙ recorded-same (t .clauses) k (length D))
-      (stored-formed F k lt D 1 (omega (arith, distinct-short (map (classLiteral (t .variables)) C), mapped)) (suc k) false (omega arith) (λ z. absurd (omega (arith, z))) (fits e) (λ o z. some-left stands z) (λ m. m) sooner)
-
-  formed-dropped : FormedTo v n (suc k) (droppedAt k (t .variables) t)
-  unfolding droppedAt
-  formed-dropped = stored-formed F k lt [] 0 (omega arith) (suc k) false (omega arith) (λ z. refl) fit-none (λ o z. absurd (omega (arith, o))) (λ m. m) sooner
-
   formed-standing : standing (t .clauses) k ≡ 1 → FormedTo v n (suc k) (store k (mergeClause (t .variables) C) t)
   unfolding mergeClause
   formed-standing stands = go (tautology D) refl
     where
       go : (b : Bool) → tautology D ≡ b → FormedTo v n (suc k) (store k (elim b as (λ x. Fate) [ true ↦ dropped | false ↦ left D ]) t)
-      go true e = formed-dropped
-      go false e = formed-left stands e
+      go true e = formed-dropped t F k lt (suc k) sooner
+      go false e = formed-shortened t F k lt (suc k) sooner false D stands (fits e) (omega (arith, distinct-short (map (classLiteral (t .variables)) C), mapped)) (some-left stands)
 
   -- THE LAW of a visit
   pub formed-visit : FormedTo v n (suc k) (visit (mergeClause (t .variables)) k t)
-  formed-visit =
-      ⊎-elim
-      (λ (z : standing (t .clauses) k ≡ 0). subst (FormedTo v n (suc k)) (sym (visit-dropped (mergeClause (t .variables)) k t z)) (formed-kept z))
-      (λ (d : standing (t .clauses) k ≡ 0 → ⊥). subst (FormedTo v n (suc k)) (sym (visit-standing (mergeClause (t .variables)) k t d)) (formed-standing (omega (arith, F .rule .parts .flag k lt, d))))
-      (same-or (standing (t .clauses) k) 0)
-
--- ---- a visit leaves the variables and the stamps
-
-pub record Beside (t t′ : Tables) : Type 0 where
-  pub variables : t′ .variables ≡ t .variables
-  pub times : t′ .times ≡ t .times
-  pub links : t′ .links ≡ t .links
-
-pub visit-beside : (w : List ℤ) (k : ℕ) (t : Tables) → Beside t (visit (mergeClause w) k t)
-unfolding fateAt mergeClause shortened droppedAt
-visit-beside w k t = by-flag (standing (t .clauses) k) (substituted w (literalsOf (t .clauses) (t .literals) k))
-  where
-    by-fate : (b : Bool) (D : List ℤ) → Beside t (store k (elim b as (λ x. Fate) [ true ↦ dropped | false ↦ left D ]) t)
-    by-fate true D = record { variables = refl; times = refl; links = refl }
-    by-fate false D = record { variables = refl; times = refl; links = refl }
-
-    by-flag : (flag : ℕ) (D : List ℤ) → Beside t (store k (elim flag as (λ x. Fate) [ zero ↦ kept | suc _ ↦ unlessTautology D ]) t)
-    by-flag zero D = record { variables = refl; times = refl; links = refl }
-    by-flag (suc x) D = by-fate (tautology D) D
-
-pub visits-beside : (w : List ℤ) (m k : ℕ) (t : Tables) → Beside t (visits (mergeClause w) m k t)
-unfolding visits
-visits-beside w zero k t = record { variables = refl; times = refl; links = refl }
-visits-beside w (suc m) k t =
-    let one = visit-beside w k t in
-    let rest = visits-beside w m (suc k) (visit (mergeClause w) k t) in
-    record { variables = rest .variables ∙ one .variables; times = rest .times ∙ one .times; links = rest .links ∙ one .links }
+  formed-visit = formed-cases t F k lt (mergeClause (t .variables)) (λ (f : Fate). FormedTo v n (suc k) (store k f t)) formed-kept formed-standing
 
 -- so visits keep the tables formed
 pub formed-visits : (v n m k end : ℕ) (w : List ℤ) (t : Tables) → t .variables ≡ w → end ≡ k + m → end ≤ n → FormedTo v n k t → FormedTo v n end (visits (mergeClause w) m k t)
 unfolding visits
 formed-visits v n zero k end w t same e le F = subst (λ (x : ℕ). FormedTo v n x t) (let q : k ≡ end = omega (arith, e) in q) F
 formed-visits v n (suc m) k end w t same e le F =
-    formed-visits v n m (suc k) end w (visit (mergeClause w) k t) (visit-beside w k t .variables ∙ same) (omega (arith, e)) le
+    formed-visits v n m (suc k) end w (visit (mergeClause w) k t) (visit-beside (mergeClause w) (merge-shrinks w) k t .variables ∙ same) (omega (arith, e)) le
     (subst (λ (x : List ℤ). FormedTo v n (suc k) (visit (mergeClause x) k t)) same (formed-visit v n k t F (omega (arith, e, le))))

@@ -32,18 +32,19 @@ use Rattle.tables.specs.Clauses.{literalsOf, slotsFrom}
 use Rattle.tables.specs.Passes.{valued, unsettled, firstUnsettled}
 use Rattle.shape.specs.Shape.{Variable}
 use Rattle.clauses.specs.Formed.{Formed}
-use Rattle.clauses.proofs.Forming.{part-inside}
+use Rattle.clauses.proofs.Forming.{part-length, stands-one}
+use Rattle.clauses.proofs.Keeping.{FormedTo}
 use Rattle.pairs.specs.Pairs.{Listed}
 use Rattle.pairs.proofs.Listing.{formed-listed, from-clauses, froms-mem, slot-literal}
 use Rattle.components.proofs.Chain.{listed-skew}
-use Rattle.merge.specs.Merge.{edgesOf, clashes, representative, regrouped}
+use Rattle.merge.specs.Merge.{edgesOf, clashes, representative, regrouped, mergedClasses}
 use Rattle.merge.proofs.Regrouped.{regrouped-length, regrouped-class, regrouped-value}
 use Rattle.merge.proofs.Opening.{none-clash}
 
 -- ---- a slot with an edge has its variable in a clause
 
 -- a path that goes anywhere begins with an edge
-first-edge : (adj : ℕ → List ℕ) {a b : ℕ} → Reach adj a b → (a ≡ b → ⊥) → (q : ℕ) × List·Memᴰ q (adj a)
+pub first-edge : (adj : ℕ → List ℕ) {a b : ℕ} → Reach adj a b → (a ≡ b → ⊥) → (q : ℕ) × List·Memᴰ q (adj a)
 first-edge adj here d = absurd (d refl)
 first-edge adj {a} (on {b = b} {c = c} r m) d = ⊎-elim (λ (e : a ≡ b). (c, subst (λ (x : ℕ). List·Memᴰ c (adj x)) (sym e) m)) (λ (n : a ≡ b → ⊥). first-edge adj r n) (same-or a b)
 
@@ -91,7 +92,7 @@ or-right false b e = e
 
 module _ {v n : ℕ} (t : Tables) (F : Formed v n n false (t .clauses) (t .literals) (t .variables)) (settled : firstUnsettled t n ≡ n) (i : ℕ) (lt : i < n) (j : ℕ) (lj : j < lengthOf (t .clauses) i) where
   stands : standing (t .clauses) i ≡ 1
-  stands = ⊎-elim (λ (z : standing (t .clauses) i ≡ 0). absurd (omega (arith, F .rule .parts .dropped i lt z, lj))) (λ (d : standing (t .clauses) i ≡ 0 → ⊥). omega (arith, F .rule .parts .flag i lt, d)) (same-or (standing (t .clauses) i) 0)
+  stands = ⊎-elim (λ (z : standing (t .clauses) i ≡ 0). absurd (omega (arith, F .rule .parts .dropped i lt z, lj))) (stands-one F i lt) (same-or (standing (t .clauses) i) 0)
 
   abbrev variable : ℕ
   variable = variableAt (t .literals) (startOf (t .clauses) i + j)
@@ -99,7 +100,7 @@ module _ {v n : ℕ} (t : Tables) (F : Formed v n n false (t .clauses) (t .liter
   unsettled-here : (valueOf (t .variables) variable ≡ pos 0 → ⊥) → unsettled t i ≡ true
   unsettled-here d =
       let C : List ℤ = literalsOf (t .clauses) (t .literals) i in
-      let len : length C ≡ lengthOf (t .clauses) i = length-take-le (lengthOf (t .clauses) i) (drop (startOf (t .clauses) i) (t .literals)) (omega (arith, length-drop (startOf (t .clauses) i) (t .literals), part-inside F i lt)) in
+      let len : length C ≡ lengthOf (t .clauses) i = part-length F i lt in
       let at : getD C j (pos 0) ≡ getD (t .literals) (startOf (t .clauses) i + j) (pos 0) = getD-take (lengthOf (t .clauses) i) (drop (startOf (t .clauses) i) (t .literals)) j (pos 0) lj ∙ getD-drop (startOf (t .clauses) i) (t .literals) j (pos 0) in
       let one : valued (t .variables) (getD C j (pos 0)) ≡ true = ap (valued (t .variables)) at ∙ ap not (ne-eqZ (valueOf (t .variables) variable) (pos 0) d) in
       ap (λ (b : Bool). b && (eqb (lengthOf (t .clauses) i) 1 || any (valued (t .variables)) C)) (eq-eqb (standing (t .clauses) i) 1 stands)
@@ -110,13 +111,9 @@ module _ {v n : ℕ} (t : Tables) (F : Formed v n n false (t .clauses) (t .liter
   unfolding firstUnsettled
   no-value d = omega (arith, settled, lt, first-is (unsettled t) n 0 i (omega arith) (omega arith) (unsettled-here d) .1)
 
-  -- and each is its own class
-  own-class : classOf (t .variables) variable ≡ pos variable
-  own-class = F .rule .each i lt .own (lt-ltb i n lt) j lj
-
 -- ---- the new classes
 
-module _ {v n : ℕ} (t : Tables) (F : Formed v n n false (t .clauses) (t .literals) (t .variables)) (none : clashes (edgesOf t n) v ≡ false) (settled : firstUnsettled t n ≡ n) where
+module _ {v n : ℕ} (t : Tables) (F : Formed v n n false (t .clauses) (t .literals) (t .variables)) where
   abbrev adj : ℕ → List ℕ
   adj = edgesOf t n
 
@@ -129,119 +126,129 @@ module _ {v n : ℕ} (t : Tables) (F : Formed v n n false (t .clauses) (t .liter
   abbrev rep : ℕ → ℕ
   rep = leastMutual adj (2 * v)
 
-  skew : Skew adj twin (2 * v)
-  skew = listed-skew (formed-listed F)
+  pub edges-skew : Skew adj twin (2 * v)
+  edges-skew = listed-skew (formed-listed F)
 
-  least : (s : ℕ) → s < 2 * v → Representative adj (2 * v) s (rep s)
-  least = least-mutual adj (2 * v) (skew .inside)
+  pub edges-least : (s : ℕ) → s < 2 * v → Representative adj (2 * v) s (rep s)
+  edges-least = least-mutual adj (2 * v) (edges-skew .inside)
 
-  -- a slot that reaches another was its own class, and had no value
-  moved-own : {r q : ℕ} → Reach adj r q → (r ≡ q → ⊥) → classOf old (r / 2 + 1) ≡ pos (r / 2 + 1)
+  -- a slot that reaches another was its own class
+  pub moved-own : {r q : ℕ} → Reach adj r q → (r ≡ q → ⊥) → classOf old (r / 2 + 1) ≡ pos (r / 2 + 1)
   moved-own {r} path d =
       let (i, lt, j, lj, is) = edge-variable (formed-listed F) r (first-edge adj path d .1) in
-      subst (λ (x : ℕ). classOf old x ≡ pos x) is (own-class t F settled i lt j lj)
-
-  moved-unvalued : {r q : ℕ} → Reach adj r q → (r ≡ q → ⊥) → (valueOf old (r / 2 + 1) ≡ pos 0 → ⊥) → ⊥
-  moved-unvalued {r} path d h =
-      let (i, lt, j, lj, is) = edge-variable (formed-listed F) r (first-edge adj path d .1) in
-      no-value t F settled i lt j lj (λ e. h (subst (λ (x : ℕ). valueOf old x ≡ pos 0) is e))
+      subst (λ (x : ℕ). classOf old x ≡ pos x) is (F .rule .each i lt .own (lt-ltb i n lt) j lj)
 
   -- the class of a variable is the literal of a representative
-  class-new : (u : ℕ) → u < v → classOf new (u + 1) ≡ litAt (rep (slotOf (classOf old (u + 1))))
+  pub class-new : (u : ℕ) → u < v → classOf new (u + 1) ≡ litAt (rep (slotOf (classOf old (u + 1))))
   unfolding representative
   class-new u lt = regrouped-class (representative adj v) v old u lt (omega (arith, F .vars .few, F .vars .room))
 
-  -- a representative's variable: the representative of its positive literal is that literal
-  positive-fixed : (r : ℕ) → r < 2 * v → rep r ≡ r → rep (2 * (r / 2)) ≡ 2 * (r / 2)
-  positive-fixed r lt fixed =
-      ⊎-elim
-      (λ (e : r % 2 ≡ 0). subst (λ (x : ℕ). rep x ≡ x) (let q : r ≡ 2 * (r / 2) = omega arith in q) fixed)
-      (λ (d : r % 2 ≡ 0 → ⊥).
-      subst (λ (x : ℕ). rep x ≡ x) (twin-odd r d ∙ (let q : r - 1 ≡ 2 * (r / 2) = omega arith in q))
-      (twin-rep adj (2 * v) skew r lt (none-clash adj v skew none r lt) ∙ ap twin fixed))
-      (same-or (r % 2) 0)
+  pub variable-new : (u : ℕ) → u < v → natAbs (classOf new (u + 1)) ≡ rep (slotOf (classOf old (u + 1))) / 2 + 1
+  variable-new u lt = ap natAbs (class-new u lt) ∙ lit-var (rep (slotOf (classOf old (u + 1))))
 
-  -- so a variable that was its own class stays it where a representative is its literal
-  own-stays : (r : ℕ) → r < 2 * v → rep r ≡ r → classOf old (r / 2 + 1) ≡ pos (r / 2 + 1) → classOf new (r / 2 + 1) ≡ pos (r / 2 + 1)
-  own-stays r lt fixed own =
-      let x : ℕ = r / 2 + 1 in
-      let slot : slotOf (pos x) ≡ 2 * (r / 2) = omega arith in
-      class-new (r / 2) (omega arith)
-      ∙ ap (λ (z : ℤ). litAt (rep (slotOf z))) own
-      ∙ ap (λ (k : ℕ). litAt (rep k)) slot
-      ∙ ap litAt (positive-fixed r lt fixed ∙ sym slot)
-      ∙ lit-slot (pos x) (omega arith)
+  module _ (none : clashes adj v ≡ false) (settled : firstUnsettled t n ≡ n) where
+    -- a slot that reaches another had no value
+    moved-unvalued : {r q : ℕ} → Reach adj r q → (r ≡ q → ⊥) → (valueOf old (r / 2 + 1) ≡ pos 0 → ⊥) → ⊥
+    moved-unvalued {r} path d h =
+        let (i, lt, j, lj, is) = edge-variable (formed-listed F) r (first-edge adj path d .1) in
+        no-value t F settled i lt j lj (λ e. h (subst (λ (x : ℕ). valueOf old x ≡ pos 0) is e))
 
-  module _ (u : ℕ) (lt : u < v) where
-    X : Variable old (u + 1)
-    X = F .vars .each u lt
-
-    abbrev class : ℤ
-    class = classOf old (u + 1)
-
-    slot-in : slotOf class < 2 * v
-    slot-in = slot-below class v (X .class .above) (omega (arith, X .class .within, lt))
-
-    abbrev r : ℕ
-    r = rep (slotOf class)
-
-    R : Representative adj (2 * v) (slotOf class) r
-    R = least (slotOf class) slot-in
-
-    new-variable : natAbs (classOf new (u + 1)) ≡ r / 2 + 1
-    new-variable = ap natAbs (class-new u lt) ∙ lit-var r
-
-    r-own : classOf old (r / 2 + 1) ≡ pos (r / 2 + 1)
-    r-own =
+    -- a representative's variable: the representative of its positive literal is that literal
+    positive-fixed : (r : ℕ) → r < 2 * v → rep r ≡ r → rep (2 * (r / 2)) ≡ 2 * (r / 2)
+    positive-fixed r lt fixed =
         ⊎-elim
-        (λ (e : r ≡ slotOf class). subst (λ (x : ℕ). classOf old x ≡ pos x) (slot-variable class (X .class .above) ∙ ap (λ (k : ℕ). k / 2 + 1) (sym e)) (X .own))
-        (λ (d : r ≡ slotOf class → ⊥). moved-own (R .back) d)
-        (same-or r (slotOf class))
+        (λ (e : r % 2 ≡ 0). subst (λ (x : ℕ). rep x ≡ x) (let q : r ≡ 2 * (r / 2) = omega arith in q) fixed)
+        (λ (d : r % 2 ≡ 0 → ⊥).
+        subst (λ (x : ℕ). rep x ≡ x) (twin-odd r d ∙ (let q : r - 1 ≡ 2 * (r / 2) = omega arith in q))
+        (twin-rep adj (2 * v) edges-skew r lt (none-clash adj v edges-skew none r lt) ∙ ap twin fixed))
+        (same-or (r % 2) 0)
 
-    own-slot : slotOf (pos (u + 1)) ≡ 2 * u
-    own-slot = omega arith
+    -- so a variable that was its own class stays it where a representative is its literal
+    own-stays : (r : ℕ) → r < 2 * v → rep r ≡ r → classOf old (r / 2 + 1) ≡ pos (r / 2 + 1) → classOf new (r / 2 + 1) ≡ pos (r / 2 + 1)
+    own-stays r lt fixed own =
+        let x : ℕ = r / 2 + 1 in
+        let slot : slotOf (pos x) ≡ 2 * (r / 2) = omega arith in
+        class-new (r / 2) (omega arith)
+        ∙ ap (λ (z : ℤ). litAt (rep (slotOf z))) own
+        ∙ ap (λ (k : ℕ). litAt (rep k)) slot
+        ∙ ap litAt (positive-fixed r lt fixed ∙ sym slot)
+        ∙ lit-slot (pos x) (omega arith)
 
-    -- a variable with a value is no part of the graph
-    unmoved : (valueOf old (u + 1) ≡ pos 0 → ⊥) → rep (2 * u) ≡ 2 * u
-    unmoved d =
-        ⊎-elim
-        (λ (e : 2 * u ≡ rep (2 * u)). sym e)
-        (λ (m : 2 * u ≡ rep (2 * u) → ⊥). absurd (moved-unvalued (least (2 * u) (omega arith) .there) m (λ e. d (subst (λ (k : ℕ). valueOf old k ≡ pos 0) (let q : 2 * u / 2 + 1 ≡ u + 1 = omega arith in q) e))))
-        (same-or (2 * u) (rep (2 * u)))
+    module _ (u : ℕ) (lt : u < v) where
+      X : Variable old (u + 1)
+      X = F .vars .each u lt
 
-    merged-variable : Variable new (u + 1)
-    merged-variable = record {
-      class = record {
-        above = omega (arith, new-variable);
-        within = omega (arith, new-variable, slot-variable class (X .class .above), X .class .within, R .least (slotOf class) here here);
+      abbrev class : ℤ
+      class = classOf old (u + 1)
+
+      slot-in : slotOf class < 2 * v
+      slot-in = slot-below class v (X .class .above) (omega (arith, X .class .within, lt))
+
+      abbrev r : ℕ
+      r = rep (slotOf class)
+
+      R : Representative adj (2 * v) (slotOf class) r
+      R = edges-least (slotOf class) slot-in
+
+      new-variable : natAbs (classOf new (u + 1)) ≡ r / 2 + 1
+      new-variable = variable-new u lt
+
+      r-own : classOf old (r / 2 + 1) ≡ pos (r / 2 + 1)
+      r-own =
+          ⊎-elim
+          (λ (e : r ≡ slotOf class). subst (λ (x : ℕ). classOf old x ≡ pos x) (slot-variable class (X .class .above) ∙ ap (λ (k : ℕ). k / 2 + 1) (sym e)) (X .own))
+          (λ (d : r ≡ slotOf class → ⊥). moved-own (R .back) d)
+          (same-or r (slotOf class))
+
+      own-slot : slotOf (pos (u + 1)) ≡ 2 * u
+      own-slot = omega arith
+
+      -- a variable with a value is no part of the graph
+      unmoved : (valueOf old (u + 1) ≡ pos 0 → ⊥) → rep (2 * u) ≡ 2 * u
+      unmoved d =
+          ⊎-elim
+          (λ (e : 2 * u ≡ rep (2 * u)). sym e)
+          (λ (m : 2 * u ≡ rep (2 * u) → ⊥). absurd (moved-unvalued (edges-least (2 * u) (omega arith) .there) m (λ e. d (subst (λ (k : ℕ). valueOf old k ≡ pos 0) (let q : 2 * u / 2 + 1 ≡ u + 1 = omega arith in q) e))))
+          (same-or (2 * u) (rep (2 * u)))
+
+      merged-variable : Variable new (u + 1)
+      merged-variable = record {
+        class = record {
+          above = omega (arith, new-variable);
+          within = omega (arith, new-variable, slot-variable class (X .class .above), X .class .within, R .least (slotOf class) here here);
+        };
+        own =
+            subst (λ (x : ℕ). classOf new x ≡ pos x) (sym new-variable)
+            (own-stays r (R .below) (sym (same-rep adj (2 * v) edges-skew (slotOf class) r slot-in (R .below) .1 (R .there) (R .back))) r-own);
+        value = subst (λ (z : ℤ). natAbs z ≤ 1) (sym (regrouped-value (representative adj v) v old u)) (X .value);
+        valued = λ h.
+            let d : valueOf old (u + 1) ≡ pos 0 → ⊥ = λ e. h (regrouped-value (representative adj v) v old u ∙ e) in
+            class-new u lt
+            ∙ ap (λ (z : ℤ). litAt (rep (slotOf z))) (X .valued d)
+            ∙ ap (λ (k : ℕ). litAt (rep k)) own-slot
+            ∙ ap litAt (unmoved d ∙ sym own-slot)
+            ∙ lit-slot (pos (u + 1)) (omega arith);
+      }
+
+    -- THE LAW
+    pub merged-formed : Formed v n 0 false (t .clauses) (t .literals) new
+    merged-formed = record {
+      number = F .number;
+      records = F .records;
+      places = F .places;
+      rule = record {
+        parts = F .rule .parts;
+        each = λ i lt. record {
+          ranged = F .rule .each i lt .ranged;
+          once = F .rule .each i lt .once;
+          own = λ e k h. absurd (let no : i < 0 = ltb-true i 0 e in omega arith);
+        };
+        empty = F .rule .empty;
       };
-      own =
-          subst (λ (x : ℕ). classOf new x ≡ pos x) (sym new-variable)
-          (own-stays r (R .below) (sym (same-rep adj (2 * v) skew (slotOf class) r slot-in (R .below) .1 (R .there) (R .back))) r-own);
-      value = subst (λ (z : ℤ). natAbs z ≤ 1) (sym (regrouped-value (representative adj v) v old u)) (X .value);
-      valued = λ h.
-          let d : valueOf old (u + 1) ≡ pos 0 → ⊥ = λ e. h (regrouped-value (representative adj v) v old u ∙ e) in
-          class-new u lt
-          ∙ ap (λ (z : ℤ). litAt (rep (slotOf z))) (X .valued d)
-          ∙ ap (λ (k : ℕ). litAt (rep k)) own-slot
-          ∙ ap litAt (unmoved d ∙ sym own-slot)
-          ∙ lit-slot (pos (u + 1)) (omega arith);
+      vars = record { few = F .vars .few; room = omega (arith, regrouped-length (representative adj v) v old, F .vars .room); each = merged-variable };
     }
 
-  -- THE LAW
-  pub merged-formed : Formed v n 0 false (t .clauses) (t .literals) new
-  merged-formed = record {
-    number = F .number;
-    records = F .records;
-    places = F .places;
-    rule = record {
-      parts = F .rule .parts;
-      each = λ i lt. record {
-        ranged = F .rule .each i lt .ranged;
-        once = F .rule .each i lt .once;
-        own = λ e k h. absurd (let no : i < 0 = ltb-true i 0 e in omega arith);
-      };
-      empty = F .rule .empty;
-    };
-    vars = record { few = F .vars .few; room = omega (arith, regrouped-length (representative adj v) v old, F .vars .room); each = merged-variable };
-  }
+-- so the tables that Merge opens with are formed, with no clause settled
+pub classes-formed : {v n : ℕ} (t : Tables) → FormedTo v n n t → clashes (edgesOf t n) v ≡ false → firstUnsettled t n ≡ n → FormedTo v n 0 (mergedClasses v n t)
+unfolding mergedClasses
+classes-formed t F none settled = merged-formed t F none settled

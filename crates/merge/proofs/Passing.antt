@@ -8,9 +8,10 @@ use lib.ListN.{length}
 use lib.IntN.{ℤ}
 use Rattle.tables.specs.Tables.{tables}
 use Rattle.tables.specs.Fates.{visit, visits}
+use Rattle.clauses.proofs.Keeping.{FormedTo}
 use Rattle.merge.specs.Merge.{mergeClause}
 use Rattle.merge.specs.Visits.{Visitable}
-use Rattle.merge.proofs.Keeping.{FormedTo, formed-visit}
+use Rattle.merge.proofs.Keeping.{formed-visit}
 
 pub record Passing (k end i : ℕ) (w : List ℤ) (c₀ : List ℕ) (l₀ : List ℤ) (c : List ℕ) (l : List ℤ) : Type 0 where
   pub ready : Visitable i end c l w

@@ -2,37 +2,33 @@
 use Prim.Native.Nat.{ℕ, suc, _+_, _-_, _≤_, _<_}
 use native.Mathlib.Numerals.{add-one}
 use native.Mathlib.Omega.{arith}
-use mathlib.Core.Path.{_≡_, refl, sym, ap, subst, _∙_}
+use mathlib.Core.Path.{_≡_, refl, sym, ap, _∙_}
 use mathlib.Core.Bool.{Bool, true, false, _||_}
-use mathlib.Core.List.{List, [], _∷_, _++_, map, append-nil}
+use mathlib.Core.List.{List, [], _∷_, _++_, map, append-nil, append-assoc}
 use lib.ListN.{length, take, drop, getD, set, replicate, length-set, drop-of-length-le}
-use lib.Seq.{take-suc-set, drop-cons, drop-set-lt, take-all, append-snoc, getD-set-other, length-take-le}
+use lib.Seq.{take-suc-set, drop-cons, drop-set-lt, take-all, append-snoc}
 use lib.IntN.{ℤ, pos, negℤ}
 use Rattle.literal.specs.Clauses.{has, distinct, distinctFrom, tautology}
+use Rattle.literal.proofs.Compact.{Compact, stay, gone, finish}
 use Rattle.tables.specs.Values.{classLiteral}
-use Rattle.clauses.specs.Formed.{Known, EachKnown}
-use Rattle.merge.specs.Visits.{holding}
+use Rattle.clauses.specs.Holding.{holding}
+use Rattle.clauses.proofs.Ahead.{Ahead, ahead-none, ahead-set}
 
 -- ---- substitute: class literals stand in front, and what is still to be read is as it was
 
 pub record Putting (w p₀ p : List ℤ) (i : ℕ) : Type 0 where
   pub within : i ≤ length p
-  pub same : length p ≡ length p₀
-  pub ahead : (k : ℕ) → i ≤ k → getD p k (pos 0) ≡ getD p₀ k (pos 0)
+  pub unread : Ahead p₀ p i
   pub split : map (classLiteral w) p₀ ≡ take i p ++ map (classLiteral w) (drop i p)
 
 pub putting-none : (w p : List ℤ) → Putting w p p 0
-putting-none w p = record { within = omega arith; same = refl; ahead = λ k h. refl; split = refl }
+putting-none w p = record { within = omega arith; unread = ahead-none p; split = refl }
 
 module _ {w p₀ p : List ℤ} {i : ℕ} (P : Putting w p₀ p i) (lt : i < length p) where
-  pub putting-known : EachKnown w p₀ → Known w (getD p i (pos 0))
-  putting-known K = subst (Known w) (sym (P .ahead i (omega arith))) (K .each i (omega (arith, P .same, lt)))
-
   pub putting-next : (y : ℤ) → y ≡ classLiteral w (getD p i (pos 0)) → Putting w p₀ (set p i y) (i + 1)
   putting-next y e = record {
     within = simp length-set (omega arith);
-    same = simp length-set (P .same);
-    ahead = λ k h. getD-set-other p i k y (pos 0) (λ q. omega (arith, q, h)) ∙ P .ahead k (omega arith);
+    unread = ahead-set (P .unread) i (omega arith) y;
     split =
         P .split
         ∙ ap (λ (l : List ℤ). take i p ++ map (classLiteral w) l) (drop-cons p i (pos 0) lt)
@@ -49,57 +45,29 @@ putting-done {w} {p₀} {p} {i} P h =
 
 -- ---- remove_repeats: the first of each literal stands in front
 
-pub record Sifting (p₀ p : List ℤ) (n i : ℕ) : Type 0 where
-  pub behind : n ≤ i
-  pub within : i ≤ length p
-  pub same : length p ≡ length p₀
-  pub split : distinct p₀ ≡ distinctFrom (take n p) (drop i p)
+-- the first of each literal that is not among the kept ones
+abbrev pub unseen : List ℤ → List ℤ → List ℤ
+unseen kept [] = []
+unseen kept (x ∷ xs) = elim (has x kept) [ true ↦ unseen kept xs | false ↦ x ∷ unseen (kept ++ (x ∷ [])) xs ]
 
-pub sifting-none : (p : List ℤ) → Sifting p p 0 0
-sifting-none p = record { behind = omega arith; within = omega arith; same = refl; split = refl }
+from-unseen : (kept xs : List ℤ) → distinctFrom kept xs ≡ kept ++ unseen kept xs
+from-unseen kept [] = sym (append-nil kept)
+from-unseen kept (x ∷ xs) = go (has x kept) (from-unseen kept xs) (from-unseen (kept ++ (x ∷ [])) xs)
+  where
+    go : (b : Bool) → distinctFrom kept xs ≡ kept ++ unseen kept xs → distinctFrom (kept ++ (x ∷ [])) xs ≡ (kept ++ (x ∷ [])) ++ unseen (kept ++ (x ∷ [])) xs
+        → elim b as (λ z. List ℤ) [ true ↦ distinctFrom kept xs | false ↦ distinctFrom (kept ++ (x ∷ [])) xs ] ≡ kept ++ elim b as (λ z. List ℤ) [ true ↦ unseen kept xs | false ↦ x ∷ unseen (kept ++ (x ∷ [])) xs ]
+    go true old new = old
+    go false old new = new ∙ append-assoc kept (x ∷ []) (unseen (kept ++ (x ∷ [])) xs)
 
--- one literal, by whether it is there already
-from-new : (kept : List ℤ) (x : ℤ) (xs : List ℤ) → has x kept ≡ false → distinctFrom kept (x ∷ xs) ≡ distinctFrom (kept ++ (x ∷ [])) xs
-from-new kept x xs e = rw (e, distinctFrom)
+module _ {p₀ p : List ℤ} {n i : ℕ} (S : Compact unseen p₀ p n i) where
+  pub sifting-stays : i < length p → has (getD p i (pos 0)) (take n p) ≡ false → Compact unseen p₀ (set p n (getD p i (pos 0))) (n + 1) (i + 1)
+  sifting-stays lt e = stay S lt (rw (e, unseen))
 
-from-repeat : (kept : List ℤ) (x : ℤ) (xs : List ℤ) → has x kept ≡ true → distinctFrom kept (x ∷ xs) ≡ distinctFrom kept xs
-from-repeat kept x xs e = rw (e, distinctFrom)
+  pub sifting-goes : i < length p → has (getD p i (pos 0)) (take n p) ≡ true → Compact unseen p₀ p n (i + 1)
+  sifting-goes lt e = gone S lt (rw (e, unseen))
 
-module _ {p₀ p : List ℤ} {n i : ℕ} (S : Sifting p₀ p n i) (lt : i < length p) where
-  pub sifting-stays : has (getD p i (pos 0)) (take n p) ≡ false → Sifting p₀ (set p n (getD p i (pos 0))) (n + 1) (i + 1)
-  sifting-stays e = record {
-    behind = omega (arith, S .behind);
-    within = simp length-set (omega arith);
-    same = simp length-set (S .same);
-    split =
-        let x : ℤ = getD p i (pos 0) in
-        S .split
-        ∙ ap (distinctFrom (take n p)) (drop-cons p i (pos 0) lt)
-        ∙ from-new (take n p) x (drop (suc i) p) e
-        ∙ ap (λ (l : List ℤ). distinctFrom l (drop (suc i) p)) (sym (take-suc-set p n x (omega (arith, S .behind))))
-        ∙ ap (distinctFrom (take (suc n) (set p n x))) (sym (drop-set-lt (suc i) p n x (omega (arith, S .behind))))
-        ∙ (λ j. distinctFrom (take (sym (add-one n) j) (set p n x)) (drop (sym (add-one i) j) (set p n x)));
-  }
-
-  pub sifting-goes : has (getD p i (pos 0)) (take n p) ≡ true → Sifting p₀ p n (i + 1)
-  sifting-goes e = record {
-    behind = omega (arith, S .behind);
-    within = omega arith;
-    same = S .same;
-    split =
-        S .split
-        ∙ ap (distinctFrom (take n p)) (drop-cons p i (pos 0) lt)
-        ∙ from-repeat (take n p) (getD p i (pos 0)) (drop (suc i) p) e
-        ∙ ap (λ (k : ℕ). distinctFrom (take n p) (drop k p)) (sym (add-one i));
-  }
-
-pub sifting-done : {p₀ p : List ℤ} {n i : ℕ} → Sifting p₀ p n i → length p ≤ i → (q : List ℤ) → q ≡ take n p ++ replicate (length p - n) (pos 0)
-    → (n ≡ length (distinct p₀)) × (q ≡ holding (distinct p₀) p₀)
-sifting-done {p₀} {p} {n} {i} S h q e =
-    let kept : distinct p₀ ≡ take n p = S .split ∙ ap (distinctFrom (take n p)) (drop-of-length-le p h) in
-    let long : length (take n p) ≡ n = length-take-le n p (omega (arith, S .behind, S .within)) in
-    let count : length (distinct p₀) ≡ n = ap length kept ∙ long in
-    (sym count, e ∙ (λ j. sym kept j ++ replicate (S .same j - sym count j) (pos 0)))
+  pub sifting-done : length p ≤ i → (q : List ℤ) → q ≡ take n p ++ replicate (length p - n) (pos 0) → (n ≡ length (distinct p₀)) × (q ≡ holding (distinct p₀) p₀)
+  sifting-done h q e = rw (from-unseen [] p₀) (finish S h (λ s. refl) e)
 
 -- ---- has_both: the rest says what the whole says
 

@@ -7,9 +7,7 @@ use mathlib.Core.Bool.{Bool, true, false, false≢true}
 use mathlib.Core.Logic.{_⊎_, ⊎-elim, _↔_, Iff·rfl, Iff·trans}
 use mathlib.Core.List.{List, [], map}
 use lib.ListN.{length, getD}
-use lib.Dec.{ltb}
 use lib.IntN.{ℤ, pos, natAbs}
-use borrow.Author.Tests.{ltb-false}
 use Rattle.base.specs.Decide.{same-or}
 use Rattle.literal.specs.Literals.{Literal}
 use Rattle.literal.specs.Clauses.{tautology}
@@ -17,14 +15,12 @@ use Rattle.literal.specs.Assignments.{Assignment, holds, someHolds}
 use Rattle.state.specs.declared.State.{State}
 use Rattle.state.specs.declared.Pass.{Pass}
 use Rattle.state.specs.declared.Pass.the-variants.{Idle, Merge}
-use Rattle.state.specs.declared.Answer.the-variants.{Open, Done}
-use Rattle.state.specs.declared.Refusal.the-variants.{Unsettled}
 use Rattle.tables.specs.Tables.{Tables, tables, lengthOf, standing, classOf, valueOf}
 use Rattle.tables.specs.Values.{classLiteral}
-use Rattle.tables.specs.Clauses.{literalsOf, gone}
+use Rattle.tables.specs.Clauses.{literalsOf}
 use Rattle.tables.specs.Fates.{Fate, left, dropped, store, visit, visits, shortened, droppedAt}
-use Rattle.tables.specs.Passes.{firstUnsettled, reached, advance}
-use Rattle.tables.specs.Calls.{After, answered, refuse, state, marked}
+use Rattle.tables.specs.Passes.{firstUnsettled}
+use Rattle.tables.specs.Calls.{After, state}
 use Rattle.tables.specs.Stands.{Stands}
 use Rattle.shape.specs.Entry.{entryOf}
 use Rattle.shape.specs.declared.Entry.{Entry}
@@ -34,14 +30,17 @@ use Rattle.clauses.specs.Formed.{Formed, Known}
 use Rattle.clauses.proofs.Stores.{recorded, recorded-here, recorded-other, storedAt, stored-view, stored-other}
 use Rattle.clauses.proofs.Forming.{clause-fits, record-inside, recorded-same}
 use Rattle.clauses.proofs.Known.{known-row}
-use Rattle.merge.specs.Merge.{edgesOf, clashes, mergedClasses, mergeClause, mergeFrom, mergeOpen, mergeSettled, mergeCursor, mergeBy, mergeCall}
+use Rattle.clauses.proofs.Visiting.{visit-beside}
+use Rattle.clauses.proofs.Keeping.{FormedTo, formed-cases}
+use Rattle.clauses.proofs.Advancing.{advance-cases}
+use Rattle.merge.specs.Merge.{mergedClasses, mergeClause, mergeFrom, mergeOpen, mergeCursor, mergeBy, mergeCall}
 use Rattle.merge.specs.Visits.{substituted}
-use Rattle.merge.proofs.Merged.{merged-formed}
+use Rattle.merge.proofs.Merged.{classes-formed}
 use Rattle.merge.proofs.Equal.{opening-keeps, opening-adds-none, clash-stands}
 use Rattle.merge.proofs.Repeats.{distinct-short}
-use Rattle.merge.proofs.Visiting.{visit-dropped, visit-standing}
-use Rattle.merge.proofs.Keeping.{FormedTo, formed-visit, visit-beside, mapped}
-use Rattle.merge.proofs.Calling.{opens-formed, resumes-ready, all-settled}
+use Rattle.merge.proofs.Visiting.{merge-shrinks}
+use Rattle.merge.proofs.Keeping.{formed-visit, mapped}
+use Rattle.merge.proofs.Calling.{open-cases, settled-cases, opens-formed, resumes-ready}
 use Rattle.merge.proofs.Truth.{Classed, substituted-true, dropped-true}
 
 -- clause i has a true literal if it stands
@@ -129,12 +128,8 @@ module _ (t : Tables) (v n k : ℕ) (F : FormedTo v n k t) (lt : k < n) (τ : As
   -- THE LAW of a visit: each clause is true after it exactly if it was before
   pub visit-true : (i : ℕ) → i < n → True τ (t .clauses) (t .literals) i ↔ True τ (visit (mergeClause (t .variables)) k t .clauses) (visit (mergeClause (t .variables)) k t .literals) i
   visit-true i li =
-      ⊎-elim
-      (λ (z : standing (t .clauses) k ≡ 0). subst (λ (x : Tables). True τ (t .clauses) (t .literals) i ↔ True τ (x .clauses) (x .literals) i) (sym (visit-dropped (mergeClause (t .variables)) k t z)) Iff·rfl)
-      (λ (d : standing (t .clauses) k ≡ 0 → ⊥).
-      subst (λ (x : Tables). True τ (t .clauses) (t .literals) i ↔ True τ (x .clauses) (x .literals) i) (sym (visit-standing (mergeClause (t .variables)) k t d))
-      (standing-still (omega (arith, F .rule .parts .flag k lt, d)) i li))
-      (same-or (standing (t .clauses) k) 0)
+      formed-cases t F k lt (mergeClause (t .variables)) (λ (f : Fate). True τ (t .clauses) (t .literals) i ↔ True τ (store k f t .clauses) (store k f t .literals) i) (λ e. Iff·rfl)
+      (λ stands. standing-still stands i li)
 
 -- ---- what stands
 
@@ -159,14 +154,14 @@ visit-stands t st k τ F lt = (
 )
   where
     same : visit (mergeClause (t .variables)) k t .variables ≡ t .variables
-    same = visit-beside (t .variables) k t .variables
+    same = visit-beside (mergeClause (t .variables)) (merge-shrinks (t .variables)) k t .variables
 
 pub visits-stand : (m k : ℕ) (w : List ℤ) (t : Tables) (st : State) (τ : Assignment) → t .variables ≡ w → k + m ≤ st .n → FormedTo (st .v) (st .n) k t → Stands (visits (mergeClause w) m k t) st τ ↔ Stands t st τ
 unfolding visits
 visits-stand zero k w t st τ same le F = Iff·rfl
 visits-stand (suc m) k w t st τ same le F =
     Iff·trans
-    (visits-stand m (suc k) w (visit (mergeClause w) k t) st τ (visit-beside w k t .variables ∙ same) (omega arith)
+    (visits-stand m (suc k) w (visit (mergeClause w) k t) st τ (visit-beside (mergeClause w) (merge-shrinks w) k t .variables ∙ same) (omega arith)
     (subst (λ (x : List ℤ). FormedTo (st .v) (st .n) (suc k) (visit (mergeClause x) k t)) same (formed-visit (st .v) (st .n) k t F (omega arith))))
     (subst (λ (x : List ℤ). Stands (visit (mergeClause x) k t) st τ ↔ Stands t st τ) same (visit-stands t st k τ F (omega arith)))
 
@@ -183,47 +178,20 @@ abbrev Kept : Assignment → After → Tables → State → Type 0
 Kept τ a t st = Stands (a .tables) (a .state) τ ↔ Stands t st τ
 
 module _ (st : State) (unmarked : st .mark ≡ false) (τ : Assignment) where
-  reached-keeps : (fresh : Bool) (m k : ℕ) (before : List ℕ) (t : Tables) → Kept τ (reached Merge fresh fresh m k before t st) t st
-  reached-keeps fresh m k before t = go (ltb k (st .n))
-    where
-      go : (b : Bool) → Kept τ (elim b as (λ x. After) [
-        | true ↦ answered (Open (gone m (st .n) before (t .clauses))) (state (st .v) (st .n) (Merge k) fresh false) t
-        | false ↦ answered (Done (gone m (st .n) before (t .clauses))) (state (st .v) (st .n) Idle fresh false) t
-      ]) t st
-      go true = stands-state t st τ (Merge k) fresh unmarked
-      go false = stands-state t st τ Idle fresh unmarked
-
   from-keeps : (fresh : Bool) (steps k : ℕ) (t : Tables) → FormedTo (st .v) (st .n) k t → k ≤ st .n → Kept τ (mergeFrom fresh steps k t st) t st
-  unfolding advance
   from-keeps fresh steps k t F le =
       let m : ℕ = min steps (st .n - k) in
-      Iff·trans
-      (reached-keeps fresh m (k + m) (t .clauses) (visits (mergeClause (t .variables)) m k t))
-      (visits-stand m k (t .variables) t st τ refl (omega (arith, min-le-right steps (st .n - k), le)) F)
+      let u : Tables = visits (mergeClause (t .variables)) m k t in
+      let made = visits-stand m k (t .variables) t st τ refl (omega (arith, min-le-right steps (st .n - k), le)) F in
+      advance-cases Merge fresh fresh (mergeClause (t .variables)) steps k t st (λ (a : After). Kept τ a t st)
+      (λ counts lt. Iff·trans (stands-state u st τ (Merge (k + m)) fresh unmarked) made)
+      (λ counts done. Iff·trans (stands-state u st τ Idle fresh unmarked) made)
 
-  module _ (steps : ℕ) (t : Tables) (F : FormedTo (st .v) (st .n) (st .n) t) where
-    opened : clashes (edgesOf t (st .n)) (st .v) ≡ false → firstUnsettled t (st .n) ≡ st .n → FormedTo (st .v) (st .n) 0 (mergedClasses (st .v) (st .n) t)
-    unfolding mergedClasses
-    opened e settled = merged-formed t F e settled
-
-    open-keeps : firstUnsettled t (st .n) ≡ st .n → Kept τ (mergeOpen steps t st) t st
-    unfolding mergeOpen
-    open-keeps settled = go (clashes (edgesOf t (st .n)) (st .v)) refl
-      where
-        go : (b : Bool) → clashes (edgesOf t (st .n)) (st .v) ≡ b → Kept τ (elim b as (λ x. After) [
-          | true ↦ answered (Done (gone 0 (st .n) (t .clauses) (t .clauses))) (marked st) t
-          | false ↦ mergeFrom false steps 0 (mergedClasses (st .v) (st .n) t) st
-        ]) t st
-        go true e = (λ S. absurd (false≢true (sym (S .unmarked))), λ S. absurd (clash-stands t st F τ e S))
-        go false e = Iff·trans (from-keeps false steps 0 (mergedClasses (st .v) (st .n) t) (opened e settled) (omega arith)) (opening-adds-none t st F τ, opening-keeps t st F τ)
-
-    settled-keeps : Kept τ (mergeSettled steps t st) t st
-    unfolding mergeSettled
-    settled-keeps = go (ltb (firstUnsettled t (st .n)) (st .n)) refl
-      where
-        go : (b : Bool) → ltb (firstUnsettled t (st .n)) (st .n) ≡ b → Kept τ (elim b as (λ x. After) [ true ↦ refuse (Unsettled (firstUnsettled t (st .n) + 1)) st t | false ↦ mergeOpen steps t st ]) t st
-        go true e = Iff·rfl
-        go false e = open-keeps (all-settled steps st t (firstUnsettled t (st .n)) refl (ltb-false (firstUnsettled t (st .n)) (st .n) e))
+  open-keeps : (steps : ℕ) (t : Tables) → FormedTo (st .v) (st .n) (st .n) t → firstUnsettled t (st .n) ≡ st .n → Kept τ (mergeOpen steps t st) t st
+  open-keeps steps t F settled =
+      open-cases steps st t (λ (a : After). Kept τ a t st)
+      (λ e. (λ S. absurd (false≢true (sym (S .unmarked))), λ S. absurd (clash-stands t st F τ e S)))
+      (λ e. Iff·trans (from-keeps false steps 0 (mergedClasses (st .v) (st .n) t) (classes-formed t F e settled) (omega arith)) (opening-adds-none t st F τ, opening-keeps t st F τ))
 
 -- THE THEOREM
 pub merge-keeps : (steps : ℕ) (t : Tables) (st : State) (τ : Assignment) → Stands (mergeCall steps t st .tables) (mergeCall steps t st .state) τ ↔ Stands t st τ
@@ -232,5 +200,5 @@ merge-keeps steps t st τ = go (entryOf 2 t st) refl
   where
     go : (x : Entry) → entryOf 2 t st ≡ x → Kept τ (mergeBy x steps t st) t st
     go (No r) e = Iff·rfl
-    go Opens e = settled-keeps st (opens-entered 2 t st e .unmarked) τ steps t (opens-formed steps t st e)
+    go Opens e = settled-cases steps st t (λ (a : After). Kept τ a t st) Iff·rfl (open-keeps st (opens-entered 2 t st e .unmarked) τ steps t (opens-formed steps t st e))
     go Resumes e = let R = resumes-ready t st e in from-keeps st (resumes-entered 2 t st e .unmarked) τ (st .fresh) steps (mergeCursor (st .pass)) t (R .formed) (R .within)

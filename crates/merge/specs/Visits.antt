@@ -1,13 +1,14 @@
 -- What the functions of a visit say to each other. Assumes nothing: these are definitions.
-use Prim.Native.Nat.{ℕ, _+_, _*_, _-_, _≤_, _<_}
+use Prim.Native.Nat.{ℕ, _+_, _*_, _≤_, _<_}
 use mathlib.Core.Bool.{true, false}
-use mathlib.Core.List.{List, [], _++_, map}
-use lib.ListN.{length, getD, replicate, set}
+use mathlib.Core.List.{List, [], map}
+use lib.ListN.{length, getD, set}
 use lib.IntN.{ℤ, pos}
 use Rattle.literal.specs.Literals.{Small}
 use Rattle.literal.specs.Clauses.{distinct, tautology}
 use Rattle.tables.specs.Values.{classLiteral}
 use Rattle.clauses.specs.Formed.{Formed}
+use Rattle.clauses.specs.Holding.{holding}
 use Rattle.merge.specs.declared.Visited.{Visited}
 use Rattle.merge.specs.declared.Visited.the-variants.{Left, Dropped}
 
@@ -18,10 +19,6 @@ pub record EachSmall (C : List ℤ) : Type 0 where
 -- the clause with class literals in and repeats out
 abbrev pub substituted : List ℤ → List ℤ → List ℤ
 substituted variables C = distinct (map (classLiteral variables) C)
-
--- a clause's part that holds C, with 0 behind
-abbrev pub holding : List ℤ → List ℤ → List ℤ
-holding C part = C ++ replicate (length part - length C) (pos 0)
 
 -- what a visit makes of a part, and the part after it
 pub record Part : Type 0 where

@@ -22,9 +22,10 @@ ghost use Rattle.clauses.specs.Formed.{EachKnown};
 ghost use Rattle.graph.specs.Clauses.{implications};
 ghost use Rattle.tables.specs.Clauses.{slotsFrom};
 ghost use Rattle.clauses.specs.Formed.{Formed};
+ghost use Rattle.clauses.specs.Holding.{holding};
 ghost use Rattle.merge.specs.Merge.{clashes, regrouped, mergeClause, mergeFrom, mergeOpen, mergeSettled, mergeCursor, mergeCall};
 ghost use Rattle.merge.specs.Opening.{openedClasses, through, Regroups};
-ghost use Rattle.merge.specs.Visits.{EachSmall, substituted, holding, partOf, partAfter, recordAfter, Visitable};
+ghost use Rattle.merge.specs.Visits.{EachSmall, substituted, partOf, partAfter, recordAfter, Visitable};
 ghost use Rattle.merge.specs.Steps.{repliedAt, Ready, Openable};
 
 // What a visit makes of a standing clause: so many literals are left, or it is dropped.

@@ -1,36 +1,22 @@
 -- The answer of a call, put together from its visits and its two counts. Assumes nothing.
-use Prim.Native.Nat.{ℕ, zero, suc, _+_, _*_, _-_, _≤_, _<_}
-use native.Mathlib.Omega.{arith}
+use Prim.Native.Nat.{ℕ}
 use mathlib.Core.Path.{_≡_, refl, sym, ap, subst, _∙_}
 use mathlib.Core.Bool.{Bool, true, false}
 use mathlib.Core.List.{List, []}
-use lib.ListN.{take}
 use lib.IntN.{ℤ}
 use Rattle.state.specs.declared.State.{State}
 use Rattle.state.specs.declared.Counts.{Counts}
 use Rattle.tables.specs.Tables.{Tables, tables}
-use Rattle.tables.specs.Clauses.{gone, standingCount, literalCount}
+use Rattle.tables.specs.Clauses.{gone}
 use Rattle.tables.specs.Calls.{After}
 use Rattle.clauses.specs.Formed.{Formed, Counted}
 use Rattle.clauses.proofs.Counting.{formed-counted}
-use Rattle.clauses.specs.declared.Totals.{Totals}
 use Rattle.propagate.specs.Propagate.{Progress, going, settled, contradicted, Reached, reached, propagateVisits, propagateFrom, replied}
 use Rattle.propagate.specs.Steps.{progressOf, reachedAs, repliedWith, Ready}
 use Rattle.propagate.specs.declared.Stand.{Stand}
 use Rattle.propagate.specs.declared.Stand.the-variants.{Going, Settled, Contradicted}
 use Rattle.propagate.specs.declared.Reach.{Reach}
 use Rattle.propagate.proofs.Stepping.{Good, visits-good}
-
--- counts that are those of two tables of records
-pub counts-are : (n visits : ℕ) (before after : List ℕ) (b a : Totals) (c : Counts)
-    → (b .clauses ≡ standingCount (take (3 * n) before)) × (b .literals ≡ literalCount (take (3 * n) before)) → (a .clauses ≡ standingCount (take (3 * n) after)) × (a .literals ≡ literalCount (take (3 * n) after))
-    → (c .visits ≡ visits) × (c .clauses ≡ b .clauses - a .clauses) × (c .literals ≡ b .literals - a .literals) → c ≡ gone visits n before after
-counts-are n visits before after b a c eb ea ec =
-    λ i. record {
-      visits = ec .0 i;
-      clauses = (ec .1 ∙ ap (λ (x : ℕ). x - a .clauses) (eb .0) ∙ ap (λ (x : ℕ). standingCount (take (3 * n) before) - x) (ea .0)) i;
-      literals = (ec .2 ∙ ap (λ (x : ℕ). x - a .literals) (eb .1) ∙ ap (λ (x : ℕ). literalCount (take (3 * n) before) - x) (ea .1)) i;
-    }
 
 -- where the pass stands, with its tables, says what is replied
 replied-stand : (fresh : Bool) (before : List ℕ) (st : State) (m : ℕ) (s : Stand) (t : Tables) → replied fresh before st m (progressOf s t) ≡ repliedWith fresh (gone m (st .n) before (t .clauses)) st s t

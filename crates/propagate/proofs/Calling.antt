@@ -9,23 +9,20 @@ use Rattle.state.specs.declared.State.{State}
 use Rattle.state.specs.declared.Counts.{Counts}
 use Rattle.state.specs.declared.Refusal.{Refusal}
 use Rattle.tables.specs.Tables.{Tables, tables}
-use Rattle.tables.specs.Clauses.{gone, standingCount, literalCount}
+use Rattle.tables.specs.Clauses.{gone}
 use Rattle.tables.specs.Calls.{After, refuse}
 use Rattle.shape.specs.Entry.{entryOf}
 use Rattle.shape.specs.declared.Entry.{Entry}
 use Rattle.shape.specs.declared.Entry.the-variants.{No, Opens, Resumes}
 use Rattle.shape.proofs.Entering.{opens-entered, resumes-entered}
 use Rattle.clauses.specs.Formed.{Formed}
+use Rattle.clauses.proofs.Counting.{none-gone}
 use Rattle.clauses.proofs.Entered.{entered-formed, entered-cursor}
 use Rattle.propagate.specs.Propagate.{Progress, going, settled, begin, resumed, Reached, replied, propagateVisits, propagateFrom, propagateBy, propagateCall}
 use Rattle.propagate.specs.Steps.{repliedWith, Resumable}
 use Rattle.propagate.specs.declared.Stand.the-variants.{Settled}
 
 -- ---- with no clause
-
-none-gone : (n : ℕ) (before : List ℕ) → n ≡ 0 → record { visits = 0; clauses = 0; literals = 0 } ≡ gone 0 n before before
-unfolding standingCount literalCount
-none-gone n before e = subst (λ (k : ℕ). record { visits = 0; clauses = 0; literals = 0 } ≡ gone 0 k before before) (sym e) refl
 
 settled-visits : (n m : ℕ) (t : Tables) → propagateVisits n m 0 (settled t) ≡ record { visits = 0; progress = settled t }
 unfolding propagateVisits
@@ -35,7 +32,7 @@ settled-visits n (suc m) t = refl
 pub none-replied : (steps : ℕ) (st : State) (t : Tables) → st .n ≡ 0 → repliedWith false (record { visits = 0; clauses = 0; literals = 0 }) st Settled t ≡ propagateFrom false steps (begin (st .n) t) t st
 unfolding propagateFrom
 none-replied steps st t e =
-    ap (λ (c : Counts). repliedWith false c st Settled t) (none-gone (st .n) (t .clauses) e)
+    ap (λ (c : Counts). repliedWith false c st Settled t) (none-gone (st .n) (t .clauses))
     ∙ ap (λ (r : Reached). replied false (t .clauses) st (r .visits) (r .progress)) (sym (settled-visits (st .n) steps t))
     ∙ ap (λ (p : Progress). replied false (t .clauses) st (propagateVisits (st .n) steps 0 p .visits) (propagateVisits (st .n) steps 0 p .progress)) (sym (ap (λ (k : ℕ). begin k t) e))
 

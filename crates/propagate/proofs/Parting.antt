@@ -11,9 +11,10 @@ use Rattle.base.specs.Lists.{any, filter}
 use Rattle.tables.specs.Values.{isTrue, isFalse, setTrue}
 use Rattle.tables.specs.Fates.{Fate, kept, left, dropped, unit, conflict}
 use Rattle.clauses.specs.Formed.{Known, EachKnown}
+use Rattle.clauses.specs.Holding.{holding}
 use Rattle.clauses.proofs.Fitting.{filter-shorter}
 use Rattle.propagate.specs.Propagate.{notFalse, remaining, propagateClause}
-use Rattle.propagate.specs.Visits.{holding, Part, partOf, partAfter}
+use Rattle.propagate.specs.Visits.{Part, partOf, partAfter}
 use Rattle.propagate.specs.declared.Visited.the-variants.{Left, Dropped, Unit1, Conflict}
 
 -- a true literal drops the clause; else what is left decides

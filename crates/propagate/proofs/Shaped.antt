@@ -1,43 +1,29 @@
 -- Propagate keeps the shape rule, wherever it stops. Assumes nothing.
 use Prim.Native.Nat.{ℕ, zero, suc, _+_, _*_, _≤_, _<_}
 use native.Mathlib.Omega.{arith}
-use mathlib.Core.Path.{_≡_, refl, sym, ap, subst, subst₂, _∙_}
+use mathlib.Core.Path.{_≡_, refl, sym, subst, _∙_}
 use mathlib.Core.Bool.{Bool, true, false, _||_, false≢true}
 use mathlib.Core.List.{List}
-use lib.ListN.{length}
 use lib.Dec.{ltb}
-use lib.IntN.{ℤ}
 use Rattle.state.specs.declared.State.{State}
 use Rattle.state.specs.declared.Pass.{Pass}
 use Rattle.state.specs.declared.Pass.the-variants.{Idle, Propagate, Merge, Sweep}
-use Rattle.tables.specs.Tables.{Tables, lengthOf}
-use Rattle.tables.specs.Fates.{Fate, kept, left, dropped, unit, conflict, store, fateAt, shortened, droppedAt}
+use Rattle.tables.specs.Tables.{Tables, lengthOf, classOf}
+use Rattle.tables.specs.Fates.{Fate, kept, left, dropped, unit, conflict, store, fateAt}
 use Rattle.stamps.specs.Fresh.{FreshStamps}
 use Rattle.shape.specs.Shape.{Cursor, Shape}
 use Rattle.shape.specs.Entry.{entryOf}
 use Rattle.shape.specs.declared.Entry.{Entry}
 use Rattle.shape.specs.declared.Entry.the-variants.{No, Opens, Resumes}
 use Rattle.shape.proofs.Entering.{Entered, opens-entered, resumes-entered}
-use Rattle.clauses.specs.Formed.{Formed}
-use Rattle.clauses.proofs.Forming.{formed-shape}
+use Rattle.clauses.proofs.Visiting.{SameStamps, stamps-same, stamps-join, store-stamps}
+use Rattle.clauses.proofs.Keeping.{FormedIn, formed-shape-as}
 use Rattle.clauses.proofs.Entered.{entered-formed, entered-cursor}
 use Rattle.propagate.specs.Propagate.{Progress, going, settled, contradicted, onward, changes, visited, propagateClause, propagateVisit, propagateVisits, replied, propagateFrom, begin, resumed, propagateBy, propagateCall}
-use Rattle.propagate.proofs.Keeping.{FormedIn}
-use Rattle.propagate.proofs.Stepping.{Good, visits-good}
+use Rattle.propagate.proofs.Keeping.{visit-classes}
+use Rattle.propagate.proofs.Stepping.{Good, visit-good, visits-good}
 
--- ---- no visit touches the stamp records
-
-pub record Stamped (t u : Tables) : Type 0 where
-  pub times : u .times ≡ t .times
-  pub links : u .links ≡ t .links
-
-store-stamps : (t : Tables) (i : ℕ) (f : Fate) (u : Tables) → Stamped t u → Stamped t (store i f u)
-unfolding shortened droppedAt
-store-stamps t i kept u S = S
-store-stamps t i (left C) u S = record { times = S .times; links = S .links }
-store-stamps t i dropped u S = record { times = S .times; links = S .links }
-store-stamps t i (unit l) u S = record { times = S .times; links = S .links }
-store-stamps t i conflict u S = record { times = S .times; links = S .links }
+-- ---- what every visit keeps
 
 -- the tables where a pass stands
 abbrev pub tablesAt : Progress → Tables
@@ -60,35 +46,56 @@ visited-tables n i changed dropped t = onward-tables n (suc i) true (store i dro
 visited-tables n i changed (unit l) t = onward-tables n (suc i) true (store i (unit l) t)
 visited-tables n i changed conflict t = refl
 
-visit-stamps : (t : Tables) (n i : ℕ) (changed : Bool) (u : Tables) → Stamped t u → Stamped t (tablesAt (propagateVisit n i changed u))
-unfolding propagateVisit
-visit-stamps t n i changed u S = subst (Stamped t) (sym (visited-tables n i changed (fateAt (propagateClause (u .variables)) i u) u)) (store-stamps t i (fateAt (propagateClause (u .variables)) i u) u S)
+-- what storing a clause's fate keeps, visits keep
+pub visits-keep : (P : Tables → Type 0) (v n : ℕ) → ((k : ℕ) (t : Tables) → FormedIn v n t → k < n → P t → P (store k (fateAt (propagateClause (t .variables)) k t) t))
+    → (m made : ℕ) (p : Progress) → Good v n p → P (tablesAt p) → P (tablesAt (propagateVisits n m made p .progress))
+unfolding propagateVisits propagateVisit
+visits-keep P v n one zero made p G h = h
+visits-keep P v n one (suc m) made (going k changed t) G h =
+    visits-keep P v n one m (suc made) (propagateVisit n k changed t) (visit-good v n k changed t (G .0) (G .1))
+    (subst P (sym (visited-tables n k changed (fateAt (propagateClause (t .variables)) k t) t)) (one k t (G .0) (G .1) h))
+visits-keep P v n one (suc m) made (settled t) G h = h
+visits-keep P v n one (suc m) made (contradicted t) G h = h
 
-visits-stamps : (t : Tables) (n m made : ℕ) (p : Progress) → Stamped t (tablesAt p) → Stamped t (tablesAt (propagateVisits n m made p .progress))
-unfolding propagateVisits
-visits-stamps t n zero made p S = S
-visits-stamps t n (suc m) made (going i changed u) S = visits-stamps t n m (suc made) (propagateVisit n i changed u) (visit-stamps t n i changed u S)
-visits-stamps t n (suc m) made (settled u) S = S
-visits-stamps t n (suc m) made (contradicted u) S = S
+-- so no visit touches the stamp records
+pub visits-stamps : (v n m made : ℕ) (p : Progress) → Good v n p → SameStamps (tablesAt p) (tablesAt (propagateVisits n m made p .progress))
+visits-stamps v n m made p G =
+    visits-keep (SameStamps (tablesAt p)) v n (λ k t F lt S. stamps-join S (store-stamps k (fateAt (propagateClause (t .variables)) k t) t)) m made p G (stamps-same (tablesAt p))
+
+-- nor the classes
+pub visits-classes : (v n m made : ℕ) (p : Progress) → Good v n p → (u : ℕ) → classOf (tablesAt (propagateVisits n m made p .progress) .variables) u ≡ classOf (tablesAt p .variables) u
+visits-classes v n m made p G =
+    visits-keep (λ (t : Tables). (u : ℕ) → classOf (t .variables) u ≡ classOf (tablesAt p .variables) u) v n (λ k t F lt h u. visit-classes v n t F k lt u ∙ h u) m made p G (λ u. refl)
+
+-- the tables where a call begins, and where it stops
+pub begin-tables : (n : ℕ) (t : Tables) → tablesAt (begin n t) ≡ t
+begin-tables zero t = refl
+begin-tables (suc n) t = refl
+
+pub resumed-tables : (p : Pass) (t : Tables) → tablesAt (resumed p t) ≡ t
+resumed-tables Idle t = refl
+resumed-tables (Propagate j c) t = refl
+resumed-tables (Merge j) t = refl
+resumed-tables (Sweep j) t = refl
+
+pub replied-tables : (fresh : Bool) (before : List ℕ) (st : State) (m : ℕ) (p : Progress) → replied fresh before st m p .tables ≡ tablesAt p
+replied-tables fresh before st m (going k changed t) = refl
+replied-tables fresh before st m (settled t) = refl
+replied-tables fresh before st m (contradicted t) = refl
 
 -- ---- the shape rule after the visits
 
 module _ (t : Tables) (st : State) (S : Shape t st) (fresh : Bool) (fresher : fresh ≡ true → FreshStamps (st .v) (t .times) (t .links)) where
-  replied-shaped : (m : ℕ) (before : List ℕ) (q : Progress) → Good (st .v) (st .n) q → Stamped t (tablesAt q) → Shape (replied fresh before st m q .tables) (replied fresh before st m q .state)
-  replied-shaped m before (going i changed u) G Q =
-      formed-shape u (replied fresh before st m (going i changed u) .state) (G .0) (subst (λ (l : List ℕ). 4096 ≤ length l) (sym (Q .times)) (S .long .times)) (subst (λ (l : List ℤ). 4096 ≤ length l) (sym (Q .links)) (S .long .links))
-      (G .1, refl) (λ e. subst₂ (FreshStamps (st .v)) (sym (Q .times)) (sym (Q .links)) (fresher e))
-  replied-shaped m before (settled u) G Q =
-      formed-shape u (replied fresh before st m (settled u) .state) G (subst (λ (l : List ℕ). 4096 ≤ length l) (sym (Q .times)) (S .long .times)) (subst (λ (l : List ℤ). 4096 ≤ length l) (sym (Q .links)) (S .long .links))
-      tt (λ e. subst₂ (FreshStamps (st .v)) (sym (Q .times)) (sym (Q .links)) (fresher e))
-  replied-shaped m before (contradicted u) G Q =
-      formed-shape u (replied fresh before st m (contradicted u) .state) G (subst (λ (l : List ℕ). 4096 ≤ length l) (sym (Q .times)) (S .long .times)) (subst (λ (l : List ℤ). 4096 ≤ length l) (sym (Q .links)) (S .long .links))
-      tt (λ e. absurd (false≢true e))
+  replied-shaped : (m : ℕ) (before : List ℕ) (q : Progress) → Good (st .v) (st .n) q → SameStamps t (tablesAt q) → Shape (replied fresh before st m q .tables) (replied fresh before st m q .state)
+  replied-shaped m before (going i changed u) G Q = formed-shape-as t u (replied fresh before st m (going i changed u) .state) Q (S .long .times) (S .long .links) fresher (G .0) (G .1, refl)
+  replied-shaped m before (settled u) G Q = formed-shape-as t u (replied fresh before st m (settled u) .state) Q (S .long .times) (S .long .links) fresher G tt
+  replied-shaped m before (contradicted u) G Q = formed-shape-as t u (replied fresh before st m (contradicted u) .state) Q (S .long .times) (S .long .links) (λ e. absurd (false≢true e)) G tt
 
-  from-shaped : (steps : ℕ) (p : Progress) → Good (st .v) (st .n) p → Stamped t (tablesAt p) → Shape (propagateFrom fresh steps p t st .tables) (propagateFrom fresh steps p t st .state)
+  from-shaped : (steps : ℕ) (p : Progress) → Good (st .v) (st .n) p → tablesAt p ≡ t → Shape (propagateFrom fresh steps p t st .tables) (propagateFrom fresh steps p t st .state)
   unfolding propagateFrom
-  from-shaped steps p G Q =
-      replied-shaped (propagateVisits (st .n) steps 0 p .visits) (t .clauses) (propagateVisits (st .n) steps 0 p .progress) (visits-good (st .v) (st .n) steps 0 p G) (visits-stamps t (st .n) steps 0 p Q)
+  from-shaped steps p G e =
+      replied-shaped (propagateVisits (st .n) steps 0 p .visits) (t .clauses) (propagateVisits (st .n) steps 0 p .progress) (visits-good (st .v) (st .n) steps 0 p G)
+      (subst (λ (x : Tables). SameStamps x (tablesAt (propagateVisits (st .n) steps 0 p .progress))) e (visits-stamps (st .v) (st .n) steps 0 p G))
 
 -- ---- where a call begins
 
@@ -96,21 +103,11 @@ pub begin-good : (v n : ℕ) (t : Tables) → FormedIn v n t → Good v n (begin
 begin-good v zero t F = F
 begin-good v (suc n) t F = (F, omega arith)
 
-begin-stamps : (n : ℕ) (t : Tables) → Stamped t (tablesAt (begin n t))
-begin-stamps zero t = record { times = refl; links = refl }
-begin-stamps (suc n) t = record { times = refl; links = refl }
-
 pub resumed-good : (v n : ℕ) (p : Pass) (t : Tables) → FormedIn v n t → Cursor p n false → Good v n (resumed p t)
 resumed-good v n Idle t F C = F
 resumed-good v n (Propagate j c) t F C = (F, C .0)
 resumed-good v n (Merge j) t F C = F
 resumed-good v n (Sweep j) t F C = F
-
-resumed-stamps : (p : Pass) (t : Tables) → Stamped t (tablesAt (resumed p t))
-resumed-stamps Idle t = record { times = refl; links = refl }
-resumed-stamps (Propagate j c) t = record { times = refl; links = refl }
-resumed-stamps (Merge j) t = record { times = refl; links = refl }
-resumed-stamps (Sweep j) t = record { times = refl; links = refl }
 
 -- THE THEOREM: a call of Propagate keeps the shape rule
 pub propagate-shaped : (steps : ℕ) (t : Tables) (st : State) → Shape t st → Shape (propagateCall steps t st .tables) (propagateCall steps t st .state)
@@ -121,7 +118,7 @@ propagate-shaped steps t st S = by (entryOf 1 t st) refl
     by (No r) q = S
     by Opens q =
         let F = entered-formed (opens-entered 1 t st q) (λ z. omega arith) in
-        from-shaped t st S false (λ e. absurd (false≢true e)) steps (begin (st .n) t) (begin-good (st .v) (st .n) t F) (begin-stamps (st .n) t)
+        from-shaped t st S false (λ e. absurd (false≢true e)) steps (begin (st .n) t) (begin-good (st .v) (st .n) t F) (begin-tables (st .n) t)
     by Resumes q =
         let E = resumes-entered 1 t st q in
-        from-shaped t st S (st .fresh) (S .stamps) steps (resumed (st .pass) t) (resumed-good (st .v) (st .n) (st .pass) t (entered-formed E (λ z. omega arith)) (entered-cursor E)) (resumed-stamps (st .pass) t)
+        from-shaped t st S (st .fresh) (S .stamps) steps (resumed (st .pass) t) (resumed-good (st .v) (st .n) (st .pass) t (entered-formed E (λ z. omega arith)) (entered-cursor E)) (resumed-tables (st .pass) t)

@@ -19,7 +19,8 @@ use Rattle.propagate.specs.declared.Visited.{Visited}
 use Rattle.propagate.specs.declared.Visited.the-variants.{Kept, Left, Dropped, Unit1, Conflict}
 use Rattle.propagate.specs.declared.Stand.{Stand}
 use Rattle.propagate.specs.declared.Stand.the-variants.{Going, Settled, Contradicted}
-use Rattle.propagate.proofs.Keeping.{FormedIn, formed-visit, formed-conflict, conflict-stands}
+use Rattle.clauses.proofs.Keeping.{FormedIn}
+use Rattle.propagate.proofs.Keeping.{formed-visit, formed-conflict, conflict-stands}
 
 -- ---- where the pass goes on
 

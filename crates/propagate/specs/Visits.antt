@@ -1,13 +1,14 @@
 -- What the functions of a visit say to each other. Assumes nothing: these are definitions.
-use Prim.Native.Nat.{ℕ, _+_, _*_, _-_, _<_}
+use Prim.Native.Nat.{ℕ, _+_, _*_, _<_}
 use mathlib.Core.Bool.{false}
-use mathlib.Core.List.{List, [], _++_}
-use lib.ListN.{length, replicate, set}
-use lib.IntN.{ℤ, pos}
+use mathlib.Core.List.{List, []}
+use lib.ListN.{length, set}
+use lib.IntN.{ℤ}
 use Rattle.tables.specs.Tables.{Tables}
 use Rattle.tables.specs.Values.{setTrue}
 use Rattle.tables.specs.Fates.{Fate, kept, left, dropped, unit, conflict, store, fateAt}
 use Rattle.clauses.specs.Formed.{Formed}
+use Rattle.clauses.specs.Holding.{holding}
 use Rattle.propagate.specs.Propagate.{propagateClause}
 use Rattle.propagate.specs.declared.Visited.{Visited}
 use Rattle.propagate.specs.declared.Visited.the-variants.{Kept, Left, Dropped, Unit1, Conflict}
@@ -19,10 +20,6 @@ visitedAs (left C) = Left (length C)
 visitedAs dropped = Dropped
 visitedAs (unit l) = Unit1
 visitedAs conflict = Conflict
-
--- a clause's part that holds C, with 0 behind
-abbrev pub holding : List ℤ → List ℤ → List ℤ
-holding C part = C ++ replicate (length part - length C) (pos 0)
 
 -- the part of a clause and the variable table after its fate
 pub record Part : Type 0 where

@@ -12,27 +12,24 @@ use Rattle.base.specs.Decide.{same-or}
 use Rattle.literal.specs.Literals.{Literal, slotOf, litAt, twin}
 use Rattle.literal.proofs.Laws.{lit-slot, slot-below}
 use Rattle.literal.proofs.Twins.{twin-even, twin-odd}
-use Rattle.graph.specs.Skew.{Skew}
 use Rattle.groups.specs.Groups.{cyclic, leastMutual}
-use Rattle.groups.proofs.Least.{least-mutual}
 use Rattle.cycles.specs.Forward.{Acyclic}
 use Rattle.cycles.proofs.Forward.{cyclic-none}
 use Rattle.state.specs.declared.State.{State}
-use Rattle.tables.specs.Tables.{Tables, standing}
+use Rattle.tables.specs.Tables.{Tables}
 use Rattle.tables.specs.Clauses.{literalsOf, slotsFrom}
 use Rattle.tables.specs.Fates.{Fate, store, visit, visits}
 use Rattle.clauses.specs.Formed.{FitClause}
+use Rattle.clauses.proofs.Placing.{shortened-same}
 use Rattle.clauses.proofs.Forming.{part-inside, clause-fits}
+use Rattle.clauses.proofs.Keeping.{FormedTo, formed-cases}
 use Rattle.pairs.proofs.Listing.{formed-listed, slots-in}
-use Rattle.components.proofs.Chain.{listed-skew}
 use Rattle.merge.specs.Merge.{edgesOf, clashes, representative, regrouped, mergedClasses, mergeClause}
 use Rattle.merge.proofs.Regrouped.{class-at, regrouped-as}
 use Rattle.merge.proofs.Opening.{clashes-some}
-use Rattle.merge.proofs.Visiting.{visit-dropped, visit-standing}
-use Rattle.merge.proofs.Keeping.{FormedTo}
+use Rattle.merge.proofs.Merged.{edges-skew, edges-least}
 use Rattle.settle.specs.Settle.{merged, grouped}
 use Rattle.settle.specs.Steps.{standingIn}
-use Rattle.settle.proofs.Visit.{shortened-same}
 use Rattle.settle.proofs.Plain.{plain-stays}
 use Rattle.settle.proofs.Merging.{ended, merged-visits}
 
@@ -56,9 +53,6 @@ module _ {v n : ℕ} (t : Tables) (F : FormedTo v n n t) (alone : cyclic (edgesO
   abbrev adj : ℕ → List ℕ
   adj = edgesOf t n
 
-  skew : Skew adj twin (2 * v)
-  skew = listed-skew (formed-listed F)
-
   none : Acyclic adj
   none = cyclic-none (slotsFrom (t .clauses) (t .literals) n 0) v (slots-in (formed-listed F)) alone
 
@@ -66,13 +60,13 @@ module _ {v n : ℕ} (t : Tables) (F : FormedTo v n n t) (alone : cyclic (edgesO
   no-clash = go (clashes adj v) refl
     where
       go : (b : Bool) → clashes adj v ≡ b → b ≡ false
-      go true e = let (s, lt, there, back) = clashes-some adj v skew e in absurd (none s (twin s) (twin-other s) there back)
+      go true e = let (s, lt, there, back) = clashes-some adj v (edges-skew t F) e in absurd (none s (twin s) (twin-other s) there back)
       go false e = refl
 
   -- each slot is its own representative
   fixed : (s : ℕ) → s < 2 * v → leastMutual adj (2 * v) s ≡ s
   fixed s lt =
-      let R = least-mutual adj (2 * v) (skew .inside) s lt in
+      let R = edges-least t F s lt in
       ⊎-elim (λ (e : s ≡ leastMutual adj (2 * v) s). sym e) (λ (d : s ≡ leastMutual adj (2 * v) s → ⊥). absurd (none s (leastMutual adj (2 * v) s) d (R .there) (R .back))) (same-or s (leastMutual adj (2 * v) s))
 
   same-classes : regrouped (representative adj v) v (t .variables) ≡ t .variables
@@ -93,11 +87,7 @@ module _ {v n : ℕ} (t : Tables) (F : FormedTo v n n t) where
   visit-same k lt =
       let C : List ℤ = literalsOf (t .clauses) (t .literals) k in
       let fits : FitClause v (t .variables) true C = subst (λ (b : Bool). FitClause v (t .variables) b C) (lt-ltb k n lt) (clause-fits F k lt) in
-      ⊎-elim
-      (λ (z : standing (t .clauses) k ≡ 0). visit-dropped (mergeClause (t .variables)) k t z)
-      (λ (d : standing (t .clauses) k ≡ 0 → ⊥).
-      visit-standing (mergeClause (t .variables)) k t d ∙ ap (λ (f : Fate). store k f t) (plain-stays C fits) ∙ shortened-same t k (part-inside F k lt))
-      (same-or (standing (t .clauses) k) 0)
+      formed-cases t F k lt (mergeClause (t .variables)) (λ (f : Fate). store k f t ≡ t) (λ e. refl) (λ stands. ap (λ (f : Fate). store k f t) (plain-stays C fits) ∙ shortened-same t k (part-inside F k lt))
 
   visits-same : (m k : ℕ) → k + m ≤ n → visits (mergeClause (t .variables)) m k t ≡ t
   unfolding visits

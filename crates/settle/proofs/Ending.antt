@@ -14,12 +14,12 @@ use Rattle.tables.specs.Tables.{Tables}
 use Rattle.tables.specs.Clauses.{literalCount}
 use Rattle.tables.specs.Passes.{unsettled, firstUnsettled}
 use Rattle.clauses.specs.Formed.{Formed}
+use Rattle.clauses.proofs.Keeping.{FormedIn}
 use Rattle.settled.proofs.Looking.{FoundFrom, found-none, found-next, found-end}
 use Rattle.propagate.specs.Propagate.{Progress, going, settled, contradicted, onward, propagateVisits, begin}
-use Rattle.propagate.proofs.Keeping.{FormedIn}
 use Rattle.settle.specs.Settle.{enough}
 use Rattle.settle.proofs.Measure.{total, literals-total}
-use Rattle.settle.proofs.Visit.{bit, Spared, spared-none, Went, visit-cases}
+use Rattle.settle.proofs.Visit.{bit, Went, visit-cases}
 
 -- ---- no clause is unsettled
 
@@ -36,31 +36,28 @@ none-unsettled t n all = sym (found-end t n n (omega arith) (omega arith) (found
 abbrev Seen : ℕ → Bool → Tables → Type 0
 Seen k changed t = changed ≡ false → (j : ℕ) → j < k → unsettled t j ≡ false
 
--- the pass has ended; the tables are formed, under the mark if it has met the empty clause; if it has not, no clause is unsettled; and what no visit touches is as in t₀
-abbrev pub Final : ℕ → ℕ → Tables → Progress → Type 0
-Final v n t₀ (going k changed t) = ⊥
-Final v n t₀ (settled t) = FormedIn v n t × ((firstUnsettled t n ≡ n) × Spared t₀ t)
-Final v n t₀ (contradicted t) = Formed v n n true (t .clauses) (t .literals) (t .variables) × Spared t₀ t
+-- the pass has ended; the tables are formed, under the mark if it has met the empty clause; if it has not, no clause is unsettled
+abbrev pub Final : ℕ → ℕ → Progress → Type 0
+Final v n (going k changed t) = ⊥
+Final v n (settled t) = FormedIn v n t × (firstUnsettled t n ≡ n)
+Final v n (contradicted t) = Formed v n n true (t .clauses) (t .literals) (t .variables)
 
-spared-on : {a b c : Tables} → Spared a b → Spared b c → Spared a c
-spared-on S T = record { stamps = record { times = T .stamps .times ∙ S .stamps .times; links = T .stamps .links ∙ S .stamps .links }; classes = λ j. T .classes j ∙ S .classes j }
-
-ended-stays : (v n : ℕ) (t₀ : Tables) (m made : ℕ) (p : Progress) → Final v n t₀ p → Final v n t₀ (propagateVisits n m made p .progress)
+ended-stays : (v n : ℕ) (m made : ℕ) (p : Progress) → Final v n p → Final v n (propagateVisits n m made p .progress)
 unfolding propagateVisits
-ended-stays v n t₀ zero made p G = G
-ended-stays v n t₀ (suc m) made (going k changed t) G = absurd G
-ended-stays v n t₀ (suc m) made (settled t) G = G
-ended-stays v n t₀ (suc m) made (contradicted t) G = G
+ended-stays v n zero made p G = G
+ended-stays v n (suc m) made (going k changed t) G = absurd G
+ended-stays v n (suc m) made (settled t) G = G
+ended-stays v n (suc m) made (contradicted t) G = G
 
 -- m visits are enough from clause k on: a time through for each literal, one if the flag is set, and the last
 abbrev Allowed : ℕ → ℕ → ℕ → Bool → Tables → Type 0
 Allowed n m k changed t = (total (t .clauses) n + bit changed) * n + n ≤ m + k
 
-abbrev Ends : ℕ → ℕ → Tables → ℕ → Type 0
-Ends v n t₀ m = (made k : ℕ) (changed : Bool) (t : Tables) → FormedIn v n t → k < n → Seen k changed t → Spared t₀ t → Allowed n m k changed t → Final v n t₀ (propagateVisits n m made (going k changed t) .progress)
+abbrev Ends : ℕ → ℕ → ℕ → Type 0
+Ends v n m = (made k : ℕ) (changed : Bool) (t : Tables) → FormedIn v n t → k < n → Seen k changed t → Allowed n m k changed t → Final v n (propagateVisits n m made (going k changed t) .progress)
 
 -- after a visit to clause k that has not met the empty clause
-module _ (v n : ℕ) (t₀ : Tables) (m made k : ℕ) (changed : Bool) (t : Tables) (lt : k < n) (S : Seen k changed t) (Q : Spared t₀ t) (A : Allowed n (suc m) k changed t) (rest : Ends v n t₀ m)
+module _ (v n : ℕ) (m made k : ℕ) (changed : Bool) (t : Tables) (lt : k < n) (S : Seen k changed t) (A : Allowed n (suc m) k changed t) (rest : Ends v n m)
     (after : Bool) (u : Tables) (W : Went v n k changed t after u) where
   -- there are no more literals and flags than before, so as many visits are enough
   scaled : (total (u .clauses) n + bit after) * n + n ≤ suc m + k
@@ -72,9 +69,6 @@ module _ (v n : ℕ) (t₀ : Tables) (m made k : ℕ) (changed : Bool) (t : Tabl
       let s = W .still e in
       subst (λ (x : Tables). (j : ℕ) → j < suc k → unsettled x j ≡ false) (sym (s .1 .0)) (below-cons {P = λ j. unsettled t j ≡ false} k (s .1 .1) (S (s .0)))
 
-  spared : Spared t₀ u
-  spared = spared-on Q (W .spares)
-
   -- again from the first clause, without the flag
   again : n ≤ suc k → after ≡ true → Allowed n m 0 false u
   again h e =
@@ -84,30 +78,30 @@ module _ (v n : ℕ) (t₀ : Tables) (m made k : ℕ) (changed : Bool) (t : Tabl
       once : (total (u .clauses) n + 1) * n ≡ (total (u .clauses) n + 0) * n + n
       once = omega (arith, add-mul (total (u .clauses) n) 1 n, add-mul (total (u .clauses) n) 0 n)
 
-  goes-on : Final v n t₀ (propagateVisits n m made (onward n (suc k) after u) .progress)
+  goes-on : Final v n (propagateVisits n m made (onward n (suc k) after u) .progress)
   goes-on = by (ltb (suc k) n) refl after refl
     where
       by : (x : Bool) → ltb (suc k) n ≡ x → (y : Bool) → after ≡ y
-          → Final v n t₀ (propagateVisits n m made (elim x as (λ z. Progress) [ true ↦ going (suc k) y u | false ↦ elim y as (λ z. Progress) [ true ↦ going 0 false u | false ↦ settled u ] ]) .progress)
+          → Final v n (propagateVisits n m made (elim x as (λ z. Progress) [ true ↦ going (suc k) y u | false ↦ elim y as (λ z. Progress) [ true ↦ going 0 false u | false ↦ settled u ] ]) .progress)
       by true e y q =
-          subst (λ (b : Bool). Final v n t₀ (propagateVisits n m made (going (suc k) b u) .progress)) q (rest made (suc k) after u (W .formed) (ltb-true (suc k) n e) seen spared (omega (arith, scaled)))
-      by false e true q = rest made 0 false u (W .formed) (omega arith) (λ z j h. absurd (omega arith)) spared (again (ltb-false (suc k) n e) q)
-      by false e false q = ended-stays v n t₀ m made (settled u) (W .formed, (none-unsettled u n (λ j h. seen q j (omega (arith, h, ltb-false (suc k) n e))), spared))
+          subst (λ (b : Bool). Final v n (propagateVisits n m made (going (suc k) b u) .progress)) q (rest made (suc k) after u (W .formed) (ltb-true (suc k) n e) seen (omega (arith, scaled)))
+      by false e true q = rest made 0 false u (W .formed) (omega arith) (λ z j h. absurd (omega arith)) (again (ltb-false (suc k) n e) q)
+      by false e false q = ended-stays v n m made (settled u) (W .formed, none-unsettled u n (λ j h. seen q j (omega (arith, h, ltb-false (suc k) n e))))
 
-ends : (v n : ℕ) (t₀ : Tables) (m : ℕ) → Ends v n t₀ m
+ends : (v n m : ℕ) → Ends v n m
 unfolding propagateVisits
-ends v n t₀ zero made k changed t F lt S Q A = absurd (omega (arith, A, lt))
-ends v n t₀ (suc m) made k changed t F lt S Q A =
-    visit-cases t F k lt changed (λ p. Final v n t₀ (propagateVisits n m (suc made) p .progress)) (λ u G R. ended-stays v n t₀ m (suc made) (contradicted u) (G, spared-on Q R))
-    (λ after u W. goes-on v n t₀ m (suc made) k changed t lt S Q A (ends v n t₀ m) after u W)
+ends v n zero made k changed t F lt S A = absurd (omega (arith, A, lt))
+ends v n (suc m) made k changed t F lt S A =
+    visit-cases t F k lt changed (λ p. Final v n (propagateVisits n m (suc made) p .progress)) (λ u G. ended-stays v n m (suc made) (contradicted u) G)
+    (λ after u W. goes-on v n m (suc made) k changed t lt S A (ends v n m) after u W)
 
 -- THE THEOREM: from the beginning, `enough` visits are enough
-pub begin-ends : (t : Tables) (st : State) → FormedIn (st .v) (st .n) t → Final (st .v) (st .n) t (propagateVisits (st .n) (enough t st) 0 (begin (st .n) t) .progress)
+pub begin-ends : (t : Tables) (st : State) → FormedIn (st .v) (st .n) t → Final (st .v) (st .n) (propagateVisits (st .n) (enough t st) 0 (begin (st .n) t) .progress)
 begin-ends t st F = by (st .n) F refl
   where
-    by : (n : ℕ) → FormedIn (st .v) n t → st .n ≡ n → Final (st .v) n t (propagateVisits n (enough t st) 0 (begin n t) .progress)
-    by zero G e = ended-stays (st .v) 0 t (enough t st) 0 (settled t) (G, (none-unsettled t 0 (λ j h. absurd (omega arith)), spared-none t))
-    by (suc n) G e = ends (st .v) (suc n) t (enough t st) 0 0 false t G (omega arith) (λ z j h. absurd (omega arith)) (spared-none t) room
+    by : (n : ℕ) → FormedIn (st .v) n t → st .n ≡ n → Final (st .v) n (propagateVisits n (enough t st) 0 (begin n t) .progress)
+    by zero G e = ended-stays (st .v) 0 (enough t st) 0 (settled t) (G, none-unsettled t 0 (λ j h. absurd (omega arith)))
+    by (suc n) G e = ends (st .v) (suc n) (enough t st) 0 0 false t G (omega arith) (λ z j h. absurd (omega arith)) room
       where
         room : Allowed (suc n) (enough t st) 0 false t
         room =

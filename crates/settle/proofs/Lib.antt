@@ -10,7 +10,6 @@ pub mod Merging
 pub mod Plain
 pub mod Alone
 pub mod Fewer
-pub mod Classes
 pub mod Passing
 pub mod Fuel
 pub mod Once

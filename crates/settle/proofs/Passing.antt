@@ -12,15 +12,14 @@ use Rattle.tables.specs.Passes.{firstUnsettled}
 use Rattle.tables.specs.Calls.{marked}
 use Rattle.clauses.specs.Formed.{Formed}
 use Rattle.merge.specs.Merge.{edgesOf, clashes}
-use Rattle.merge.proofs.Keeping.{FormedTo}
+use Rattle.clauses.proofs.Keeping.{FormedTo}
 use Rattle.settle.specs.Settle.{Standing, propagated, merged, grouped}
 use Rattle.settle.specs.Steps.{standingIn, Passed, passed, afterMerge, afterPropagate, bothPasses}
 use Rattle.settle.specs.Own.{owns}
-use Rattle.settle.proofs.Whole.{whole}
+use Rattle.settle.proofs.Whole.{whole, propagated-owns}
 use Rattle.settle.proofs.Merging.{ended, merged-clash, merged-visits, merged-keeps}
 use Rattle.settle.proofs.Alone.{merged-alone}
 use Rattle.settle.proofs.Fewer.{merged-fewer}
-use Rattle.settle.proofs.Classes.{propagated-owns}
 
 -- ---- the marks
 

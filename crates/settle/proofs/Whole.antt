@@ -1,6 +1,6 @@
 -- What a whole Propagate leaves, as Settle uses it: it has ended, with the mark or with no clause unsettled; the tables are formed; and the stamp records and the classes are as they were. Assumes nothing.
 use Prim.Native.Nat.{ℕ}
-use mathlib.Core.Path.{_≡_, refl}
+use mathlib.Core.Path.{_≡_, refl, subst}
 use mathlib.Core.Bool.{false}
 use mathlib.Core.Logic.{_⊎_, inl, inr}
 use mathlib.Core.List.{List}
@@ -10,10 +10,15 @@ use Rattle.tables.specs.Tables.{Tables, classOf}
 use Rattle.tables.specs.Calls.{state, marked}
 use Rattle.tables.specs.Passes.{firstUnsettled}
 use Rattle.clauses.specs.Formed.{Formed}
-use Rattle.propagate.specs.Propagate.{Progress, going, settled, contradicted, begin, propagateVisits, replied, propagateFrom}
-use Rattle.propagate.proofs.Keeping.{FormedIn}
-use Rattle.propagate.proofs.Shaped.{Stamped}
+use Rattle.clauses.proofs.Visiting.{SameStamps}
+use Rattle.clauses.proofs.Keeping.{FormedIn}
+use Rattle.propagate.specs.Propagate.{Progress, going, settled, contradicted, begin, Reached, propagateVisits, replied, propagateFrom}
+use Rattle.propagate.proofs.Stepping.{Good}
+use Rattle.propagate.proofs.Shaped.{tablesAt, visits-stamps, visits-classes, begin-tables, begin-good}
 use Rattle.settle.specs.Settle.{Standing, between, enough, propagated}
+use Rattle.settle.specs.Own.{owns}
+use Rattle.settle.specs.Steps.{standingIn}
+use Rattle.settle.proofs.Owning.{owns-same}
 use Rattle.settle.proofs.Ending.{Final, begin-ends}
 
 -- p is what a whole Propagate leaves of w
@@ -22,16 +27,34 @@ pub record Ended (w p : Standing) : Type 0 where
   pub formed : Formed (w .state .v) (w .state .n) (w .state .n) (p .state .mark) (p .tables .clauses) (p .tables .literals) (p .tables .variables)
   -- the mark, or no pass open and no clause unsettled
   pub ending : (p .state ≡ marked (w .state)) ⊎ ((p .state ≡ state (w .state .v) (w .state .n) Idle false false) × (firstUnsettled (p .tables) (w .state .n) ≡ w .state .n))
-  pub stamps : Stamped (w .tables) (p .tables)
+  pub stamps : SameStamps (w .tables) (p .tables)
   pub classes : (j : ℕ) → classOf (p .tables .variables) j ≡ classOf (w .tables .variables) j
 
-replied-ended : (t : Tables) (st : State) (before : List ℕ) (m : ℕ) (q : Progress) → Final (st .v) (st .n) t q → Ended (record { tables = t; state = st }) (between (replied false before st m q))
-replied-ended t st before m (going k changed u) G = absurd G
-replied-ended t st before m (settled u) G = record { formed = G .0; ending = inr (refl, G .1 .0); stamps = G .1 .1 .stamps; classes = G .1 .1 .classes }
-replied-ended t st before m (contradicted u) G = record { formed = G .0; ending = inl refl; stamps = G .1 .stamps; classes = G .1 .classes }
+replied-ended : (t : Tables) (st : State) (before : List ℕ) (m : ℕ) (q : Progress) → Final (st .v) (st .n) q → SameStamps t (tablesAt q) → ((j : ℕ) → classOf (tablesAt q .variables) j ≡ classOf (t .variables) j)
+    → Ended (record { tables = t; state = st }) (between (replied false before st m q))
+replied-ended t st before m (going k changed u) G S C = absurd G
+replied-ended t st before m (settled u) G S C = record { formed = G .0; ending = inr (refl, G .1); stamps = S; classes = C }
+replied-ended t st before m (contradicted u) G S C = record { formed = G; ending = inl refl; stamps = S; classes = C }
 
 -- THE THEOREM
 pub whole : (t : Tables) (st : State) → FormedIn (st .v) (st .n) t → Ended (record { tables = t; state = st }) (propagated (record { tables = t; state = st }))
 unfolding propagateFrom
 whole t st F =
-    replied-ended t st (t .clauses) (propagateVisits (st .n) (enough t st) 0 (begin (st .n) t) .visits) (propagateVisits (st .n) (enough t st) 0 (begin (st .n) t) .progress) (begin-ends t st F)
+    replied-ended t st (t .clauses) (r .visits) (r .progress) (begin-ends t st F) (subst (λ (u : Tables). SameStamps u (tablesAt (r .progress))) begins (visits-stamps (st .v) (st .n) (enough t st) 0 p G))
+    (subst (λ (u : Tables). (j : ℕ) → classOf (tablesAt (r .progress) .variables) j ≡ classOf (u .variables) j) begins (visits-classes (st .v) (st .n) (enough t st) 0 p G))
+  where
+    p : Progress
+    p = begin (st .n) t
+
+    r : Reached
+    r = propagateVisits (st .n) (enough t st) 0 p
+
+    begins : tablesAt p ≡ t
+    begins = begin-tables (st .n) t
+
+    G : Good (st .v) (st .n) p
+    G = begin-good (st .v) (st .n) t F
+
+-- as many variables are their own class after it
+pub propagated-owns : (t : Tables) (st : State) → FormedIn (st .v) (st .n) t → owns (st .v) (propagated (standingIn t st) .tables .variables) ≡ owns (st .v) (t .variables)
+propagated-owns t st F = owns-same (st .v) (t .variables) (propagated (standingIn t st) .tables .variables) (whole t st F .classes)

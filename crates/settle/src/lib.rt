@@ -99,7 +99,6 @@ fn settle_once(clauses: &mut [u32], literals: &mut [i32], variables: &mut [i32],
 // The whole of Settle, on tables without the mark in which no pass is open.
 pub fn settle(clauses: &mut [u32], literals: &mut [i32], variables: &mut [i32], st: State) -> State
     requires { ⌜ Formed (st .v) (st .n) (st .n) false (now clauses) (now literals) (now variables) ⌝ }
-    requires { ⌜ st .mark ≡ false ⌝ }
     ensures { λ r. ⌜ ((times : List ℕ) (links : List ℤ) → standingIn (tables (now (clauses .exit)) (now (literals .exit)) (now (variables .exit)) times links) r
         ≡ settle (standingIn (tables (now (clauses .entry)) (now (literals .entry)) (now (variables .entry)) times links) st)) ⌝ }
 {

@@ -6,6 +6,8 @@ use mathlib.Core.Bool.{Bool, true, false}
 use lib.Dec.{eqb}
 use borrow.Author.Tests.{eq-eqb, ne-eqb, eqb-true}
 use Rattle.state.specs.declared.State.{State}
+use Rattle.state.specs.declared.Pass.{Pass}
+use Rattle.state.specs.declared.Pass.the-variants.{Idle, Propagate, Merge, Sweep}
 use Rattle.state.specs.declared.Refusal.{Refusal}
 use Rattle.state.specs.declared.Refusal.the-variants.{Shape, OtherPass}
 use Rattle.tables.specs.Tables.{Tables}
@@ -46,6 +48,12 @@ module _ (own : ℕ) (t : Tables) (st : State) (right : shapeOk t st ≡ true) (
   entry-own b m z e = entry-by ∙ by-own own k (st .mark) z e ∙ ap (λ (x : Bool). unlessMarked x Resumes) m
 
 -- ---- what a call that is not refused knows
+
+pub no-pass : (p : Pass) → passNumber p ≡ 0 → p ≡ Idle
+no-pass Idle e = refl
+no-pass (Propagate k b) e = absurd (omega arith)
+no-pass (Merge k) e = absurd (omega arith)
+no-pass (Sweep k) e = absurd (omega arith)
 
 by-opens : (own k : ℕ) (mark : Bool) → entryBy own k mark ≡ Opens → (k ≡ 0) × (mark ≡ false)
 by-opens own zero true e = absurd (let z : _≡_ {A = ℕ} 0 1 = cc in omega arith)

@@ -11,9 +11,11 @@ use Rattle.walk.specs.Walk.{Stamps}
 use Rattle.stamps.specs.Columns.{columns}
 use Rattle.tables.specs.Fates.{Fate, kept, left, dropped}
 use Rattle.hidden.specs.Hidden.{holds, hiddenTautology, unhidden, shorten}
-use Rattle.clauses.proofs.Fitting.{filter-shorter}
+use Rattle.clauses.specs.Formed.{FitClause}
+use Rattle.clauses.specs.Holding.{holding}
+use Rattle.clauses.proofs.Fitting.{fit-filter, filter-shorter}
 use Rattle.sweep.specs.Sweep.{sweepClause}
-use Rattle.sweep.specs.Visits.{holding, partOf, partAfter}
+use Rattle.sweep.specs.Visits.{partOf, partAfter}
 use Rattle.sweep.specs.declared.Visited.the-variants.{Kept, Left, Dropped}
 
 -- clauses of 0 or 1 literals are left; else the scan decides
@@ -47,6 +49,10 @@ unhidden-shorter implies C = filter-shorter _ C
 pub shorten-shorter : (σ : Stamps) (C : List ℤ) → length (shorten slotOf σ C) ≤ length C
 unfolding shorten
 shorten-shorter σ C = omega (arith, unhidden-shorter (λ l m. holds σ (twin m) (twin l)) (unhidden slotOf (holds σ) C), unhidden-shorter (holds σ) C)
+
+pub shorten-fits : (v : ℕ) (w : List ℤ) (b : Bool) (σ : Stamps) (C : List ℤ) → FitClause v w b C → FitClause v w b (shorten slotOf σ C)
+unfolding shorten unhidden
+shorten-fits v w b σ C F = fit-filter v w b _ _ (fit-filter v w b _ C F)
 
 -- ---- the three returns
 

@@ -1,25 +1,22 @@
 -- What the functions of a visit say to each other. Assumes nothing: these are definitions.
-use Prim.Native.Nat.{ℕ, _+_, _*_, _-_, _≤_, _<_}
+use Prim.Native.Nat.{ℕ, _+_, _*_, _≤_, _<_}
 use mathlib.Core.Bool.{true, false}
+use mathlib.Core.List.{List, []}
+use lib.ListN.{length, set}
 use lib.Dec.{ltb}
+use lib.IntN.{ℤ}
 use Rattle.state.specs.declared.State.{State}
 use Rattle.state.specs.declared.Counts.{Counts}
 use Rattle.state.specs.declared.Pass.the-variants.{Idle, Sweep}
 use Rattle.state.specs.declared.Answer.the-variants.{Open, Done}
 use Rattle.tables.specs.Tables.{Tables}
-use Rattle.tables.specs.Calls.{After, answered, state}
-use mathlib.Core.List.{List, [], _++_}
-use lib.ListN.{length, replicate, set}
-use lib.IntN.{ℤ, pos}
 use Rattle.tables.specs.Fates.{Fate, kept, left, dropped, unit, conflict}
+use Rattle.tables.specs.Calls.{After, answered, state}
 use Rattle.clauses.specs.Formed.{Formed}
+use Rattle.clauses.specs.Holding.{holding}
 use Rattle.figures.specs.Stamped.{Stamped}
 use Rattle.sweep.specs.declared.Visited.{Visited}
 use Rattle.sweep.specs.declared.Visited.the-variants.{Kept, Left, Dropped}
-
--- a clause's part that holds C, with 0 behind
-abbrev pub holding : List ℤ → List ℤ → List ℤ
-holding C part = C ++ replicate (length part - length C) (pos 0)
 
 -- what a visit makes of a clause, and its part after it; Sweep makes no literal true and empties no clause
 pub record Part : Type 0 where

@@ -1,8 +1,8 @@
 -- `merge::merge_from` meets its contract. Assumes nothing.
 use Rattle.tables.specs.Tables.{tables}
 use Rattle.tables.specs.Calls.{after}
-use Rattle.clauses.proofs.Counting.{formed-counted}
-use Rattle.merge.proofs.Answering.{counts-are, ready-visitable, made-counted, advanced}
+use Rattle.clauses.proofs.Counting.{formed-counted, counts-are}
+use Rattle.merge.proofs.Answering.{ready-visitable, made-counted, advanced-by}
 use borrow.Author.Needs.{needs}
 use Rattle.merge.proofs.merge_from.Statement.{statement}
 use Rattle.merge.proofs.merge_from.Tie as tie
@@ -56,7 +56,7 @@ returns c = λ times links. let a = c .before .before .before .before .before .b
     let m = c .before .before .before .before .before .before .before .before .before .before .before .before .smaller in
     let v = c .before .before .before .before .before .before .before .visit-some in
     let t′ = tables (v .last .0) (v .last .1 .0) (a .variables .now) times links in
-    advanced (c .before .before .before .before .before .before .before .before .before .before .before .before .before .before .pre) (m .result) (m .ensures .1) (v .last .0) (v .last .1 .0) (v .ensures) (a .steps) (m .ensures .0) (a .fresh) times links (c .before .counts-of .result)
+    advanced-by (c .before .before .before .before .before .before .before .before .before .before .before .before .before .before .pre) (m .result) (m .ensures .1) (v .last .0) (v .last .1 .0) (v .ensures) (a .steps) (m .ensures .0) (a .fresh) times links (c .before .counts-of .result)
     (counts-are (a .st .n) (m .result) (a .clauses .now) (v .last .0) (c .before .before .before .before .before .before .before .before .before .before .count-standing .result) (c .before .before .count-standing2 .result) (c .before .counts-of .result) (c .before .before .before .before .before .before .before .before .before .before .count-standing .ensures) (c .before .before .count-standing2 .ensures) (c .before .counts-of .ensures))
     (after (c .answer .result) t′) (c .answer .ensures t′)
 

@@ -6,7 +6,8 @@ use lib.ListN.{length, length-set}
 use lib.Seq.{length-take-le}
 use borrow.Author.Tests.{not-true, not-false}
 use Rattle.literal.proofs.Signed.{read}
-use Rattle.merge.proofs.Scanning.{Sifting, sifting-none, sifting-stays, sifting-goes, sifting-done}
+use Rattle.literal.proofs.Compact.{Compact, start}
+use Rattle.merge.proofs.Scanning.{unseen, sifting-stays, sifting-goes, sifting-done}
 use borrow.Author.Needs.{needs}
 use Rattle.merge.proofs.remove_repeats.Statement.{statement}
 use Rattle.merge.proofs.remove_repeats.Tie as tie
@@ -16,13 +17,13 @@ use Rattle.literal.proofs.contains.Reads as contains-reads
 use Rattle.literal.proofs.zero_from.Reads as zero-from-reads
 
 abbrev Inv-loop : tie.InvT-loop
-Inv-loop part₀ n₀ i₀ part n i = Sifting part₀ part n i
+Inv-loop part₀ n₀ i₀ part n i = Compact unseen part₀ part n i
 
 abbrev μ-loop : tie.MeasureT-loop
 μ-loop part₀ n₀ i₀ part n i = length part - i
 
 loop-holds : tie.Need-loop-holds Inv-loop μ-loop
-loop-holds c = sifting-none _
+loop-holds c = start
 
 mul-l : tie.Need-mul-l Inv-loop μ-loop
 mul-l c = search needs

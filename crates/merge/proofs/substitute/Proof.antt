@@ -6,7 +6,8 @@ use lib.ListN.{length, length-set}
 use mir.Facts.{toZ-ofZ}
 use borrow.Author.Needs.{sfits-of}
 use Rattle.literal.proofs.Signed.{read}
-use Rattle.merge.proofs.Scanning.{Putting, putting-none, putting-known, putting-next, putting-done}
+use Rattle.clauses.proofs.Ahead.{ahead-known}
+use Rattle.merge.proofs.Scanning.{Putting, putting-none, putting-next, putting-done}
 use borrow.Author.Needs.{needs}
 use Rattle.merge.proofs.substitute.Statement.{statement}
 use Rattle.merge.proofs.substitute.Tie as tie
@@ -30,7 +31,7 @@ slice-copy-out-l : tie.Need-slice-copy-out-l Inv-loop μ-loop
 slice-copy-out-l c = search needs
 
 class-literal-requires : tie.Need-class-literal-requires Inv-loop μ-loop
-class-literal-requires c κs = rw (toZ-ofZ (sfits-of (c .l .given))) (putting-known (c .before .before .loop .inv) (c .before .loop-test .taken) (c .before .before .before .pre))
+class-literal-requires c κs = rw (toZ-ofZ (sfits-of (c .l .given))) (ahead-known (c .before .before .loop .inv .unread) (c .before .loop-test .taken) (c .before .before .before .pre))
 
 mul-t5 : tie.Need-mul-t5 Inv-loop μ-loop
 mul-t5 c = search needs
@@ -50,7 +51,7 @@ loop-again c = let at = c .before .before .before .loop in
     putting-next (at .inv) (c .before .before .loop-test .taken) _ (toZ-ofZ (sfits-of (c .class-literal .ok)) ∙ e)
 
 same-length : tie.Need-same-length Inv-loop μ-loop
-same-length c = c .before .loop .inv .same
+same-length c = c .before .loop .inv .unread .same
 
 returns : tie.Need-returns Inv-loop μ-loop
 returns c = putting-done (c .before .loop .inv) (c .loop-test .left)

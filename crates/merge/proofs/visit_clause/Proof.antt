@@ -1,5 +1,5 @@
 -- `merge::visit_clause` meets its contract. Assumes nothing.
-use Prim.Native.Nat.{_+_, _≤_}
+use Prim.Native.Nat.{_+_, _≤_, _<_}
 use native.Mathlib.Omega.{arith}
 use mathlib.Core.Path.{refl, sym, ap, _∙_}
 use mathlib.Core.List.{List}
@@ -8,7 +8,9 @@ use lib.IntN.{ℤ}
 use Rattle.literal.proofs.Zeros.{mid, put-part}
 use Rattle.tables.specs.Tables.{tables, startOf, lengthOf}
 use Rattle.merge.specs.Merge.{mergeClause}
-use Rattle.merge.proofs.Visiting.{visit-dropped, visit-is, visit-record, visit-inside, visit-known, visit-small}
+use Rattle.clauses.proofs.Forming.{record-place, part-places, part-short, clause-known}
+use Rattle.clauses.proofs.Visiting.{visit-dropped}
+use Rattle.merge.proofs.Visiting.{visit-is}
 use borrow.Author.Needs.{needs}
 use Rattle.merge.proofs.visit_clause.Statement.{statement}
 use Rattle.merge.proofs.visit_clause.Tie as tie
@@ -17,12 +19,16 @@ use Rattle.merge.proofs.visit_clause.Lts as lts
 use Rattle.merge.proofs.put_record.Reads as put-record-reads
 use Rattle.merge.proofs.visit_part.Reads as visit-part-reads
 
--- the clause's part lies in the table
+-- the clause is one of those that can be visited
+below : (s : tie.Start) → s .args .k < s .pre .number
+below s = omega (arith, s .pre .within)
+
+-- its part lies in the table
 inside : (s : tie.Start) → (startOf (s .args .clauses .now) (s .args .k) + lengthOf (s .args .clauses .now) (s .args .k) ≤ length (s .args .literals .now)) × (startOf (s .args .clauses .now) (s .args .k) + lengthOf (s .args .clauses .now) (s .args .k) ≤ 16384)
-inside s = visit-inside (s .pre)
+inside s = part-places (s .pre .formed) (s .args .k) (below s)
 
 mul-flag : tie.Need-mul-flag
-mul-flag c = let h = visit-record (c .before .pre) in omega arith
+mul-flag c = let s = c .before in let h = record-place (s .pre .formed) (s .args .k) (below s) in omega arith
 
 add-flag : tie.Need-add-flag
 add-flag c = search needs
@@ -81,10 +87,10 @@ part-visit-part-end c = let h = inside (c .before .before .before .before .befor
 
 visit-part-requires : tie.Need-visit-part-requires
 visit-part-requires c κs = let s = c .before .before .before .before .before .before in
-    rw (mid (startOf (s .args .clauses .now) (s .args .k)) (lengthOf (s .args .clauses .now) (s .args .k))) (visit-known (s .pre), visit-small (s .pre))
+    rw (mid (startOf (s .args .clauses .now) (s .args .k)) (lengthOf (s .args .clauses .now) (s .args .k))) (clause-known (s .pre .formed) (s .args .k) (below s), part-short (s .pre .formed) (s .args .k) (below s))
 
 put-record-requires : tie.Need-put-record-requires
-put-record-requires c κs = visit-record (c .before .before .before .before .before .before .before .before .before .pre)
+put-record-requires c κs = let s = c .before .before .before .before .before .before .before .before .before in record-place (s .pre .formed) (s .args .k) (below s)
 
 same-length : tie.Need-same-length
 same-length c = search needs

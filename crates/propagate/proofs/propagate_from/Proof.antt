@@ -6,8 +6,8 @@ use lib.IntN.{ℤ}
 use Rattle.tables.specs.Tables.{tables}
 use Rattle.tables.specs.Calls.{after}
 use Rattle.propagate.specs.Propagate.{going}
-use Rattle.clauses.proofs.Counting.{formed-counted}
-use Rattle.propagate.proofs.Answering.{counts-are, replied-is, reach-counted}
+use Rattle.clauses.proofs.Counting.{formed-counted, counts-are}
+use Rattle.propagate.proofs.Answering.{replied-is, reach-counted}
 use borrow.Author.Needs.{needs}
 use Rattle.propagate.proofs.propagate_from.Statement.{statement}
 use Rattle.propagate.proofs.propagate_from.Tie as tie

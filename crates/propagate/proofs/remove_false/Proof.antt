@@ -1,19 +1,19 @@
 -- `propagate::remove_false` meets its contract. Assumes nothing.
-use mathlib.Core.List.{List, []}
-use lib.IntN.{ℤ}
-use Rattle.base.specs.Lists.{filter}
-use Rattle.propagate.specs.Propagate.{notFalse}
--- `propagate::remove_false` meets its contract. Assumes nothing.
 use Prim.Native.Nat.{ℕ, _≤_, _-_}
 use native.Mathlib.Omega.{arith}
 use mathlib.Core.Path.{_≡_, refl, sym, _∙_}
+use mathlib.Core.List.{List, []}
 use lib.ListN.{length, length-set}
+use lib.IntN.{ℤ}
 use mir.Facts.{toZ-ofZ}
 use borrow.Author.Needs.{sfits-of}
 use borrow.Author.Tests.{not-true, not-false}
+use Rattle.base.specs.Lists.{filter}
 use Rattle.literal.proofs.Signed.{read}
 use Rattle.literal.proofs.Compact.{finish}
-use Rattle.propagate.proofs.Scanning.{Moving, moving-none, moving-known, moving-stays, moving-goes}
+use Rattle.clauses.proofs.Ahead.{ahead-known}
+use Rattle.propagate.specs.Propagate.{notFalse}
+use Rattle.propagate.proofs.Scanning.{Moving, moving-none, moving-stays, moving-goes}
 use borrow.Author.Needs.{needs}
 use Rattle.propagate.proofs.remove_false.Statement.{statement}
 use Rattle.propagate.proofs.remove_false.Tie as tie
@@ -45,7 +45,7 @@ add-i : tie.Need-add-i Inv-loop μ-loop
 add-i c = search needs
 
 is-false-requires : tie.Need-is-false-requires Inv-loop μ-loop
-is-false-requires c κs = rw (toZ-ofZ (sfits-of (c .l .given))) (moving-known (c .before .before .loop .inv) (c .before .loop-test .taken) (c .before .before .before .pre))
+is-false-requires c κs = rw (toZ-ofZ (sfits-of (c .l .given))) (ahead-known (c .before .before .loop .inv .unread) (c .before .loop-test .taken) (c .before .before .before .pre))
 
 mul-l-2 : tie.Need-mul-l-2 Inv-loop μ-loop
 mul-l-2 c = search needs

@@ -8,7 +8,8 @@ use lib.IntN.{ℤ}
 use Rattle.literal.proofs.Zeros.{mid, put-part}
 use Rattle.tables.specs.Tables.{tables, startOf, lengthOf}
 use Rattle.propagate.specs.Visits.{visitOf}
-use Rattle.propagate.proofs.Visiting.{visit-dropped, visit-is, visit-record, visit-inside, visit-known, visit-small}
+use Rattle.clauses.proofs.Forming.{part-places, part-short, clause-known}
+use Rattle.propagate.proofs.Visiting.{visit-dropped, visit-is}
 use borrow.Author.Needs.{needs}
 use Rattle.propagate.proofs.visit_clause.Statement.{statement}
 use Rattle.propagate.proofs.visit_clause.Tie as tie
@@ -19,7 +20,7 @@ use Rattle.propagate.proofs.visit_part.Reads as visit-part-reads
 
 -- the clause's part lies in the table
 inside : (s : tie.Start) → (startOf (s .args .clauses .now) (s .args .k) + lengthOf (s .args .clauses .now) (s .args .k) ≤ length (s .args .literals .now)) × (startOf (s .args .clauses .now) (s .args .k) + lengthOf (s .args .clauses .now) (s .args .k) ≤ 16384)
-inside s = visit-inside (s .pre)
+inside s = part-places (s .pre .formed) (s .args .k) (s .pre .below)
 
 mul-flag : tie.Need-mul-flag
 mul-flag c = search needs
@@ -79,7 +80,8 @@ part-visit-part-end : tie.Need-part-visit-part-end
 part-visit-part-end c = let h = inside (c .before .before .before .before .before) .0 in search needs
 
 visit-part-requires : tie.Need-visit-part-requires
-visit-part-requires c κs = rw (mid (startOf (c .before .before .before .before .before .before .before .args .clauses .now) (c .before .before .before .before .before .before .before .args .k)) (lengthOf (c .before .before .before .before .before .before .before .args .clauses .now) (c .before .before .before .before .before .before .before .args .k))) (visit-known (c .before .before .before .before .before .before .before .pre), visit-small (c .before .before .before .before .before .before .before .pre))
+visit-part-requires c κs = let s = c .before .before .before .before .before .before .before in
+    rw (mid (startOf (s .args .clauses .now) (s .args .k)) (lengthOf (s .args .clauses .now) (s .args .k))) (clause-known (s .pre .formed) (s .args .k) (s .pre .below), part-short (s .pre .formed) (s .args .k) (s .pre .below))
 
 put-record-requires : tie.Need-put-record-requires
 put-record-requires c κs = search needs

@@ -13,7 +13,7 @@ abbrev lent : tie.Start → Standing
 lent s = standingIn (tables (s .args .clauses .now) (s .args .literals .now) (s .args .variables .now) (s .args .times .now) (s .args .links .now)) (s .args .st)
 
 settle-requires : tie.Need-settle-requires
-settle-requires c κs = (runs-formed (c .before .before .before .before .before .before .pre), c .before .before .before .before .before .before .pre .unmarked)
+settle-requires c κs = runs-formed (c .before .before .before .before .before .before .pre)
 
 same-length : tie.Need-same-length
 same-length c = search needs

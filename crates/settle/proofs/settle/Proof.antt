@@ -13,7 +13,7 @@ abbrev μ-loop : tie.MeasureT-loop
 μ-loop clauses₀ literals₀ variables₀ state₀ clauses literals variables state = owns (state .v) variables
 
 loop-holds : tie.Need-loop-holds Inv-loop μ-loop
-loop-holds c = settling-none (c .before .pre .0)
+loop-holds c = settling-none (c .before .pre)
 
 settle-once-requires : tie.Need-settle-once-requires Inv-loop μ-loop
 settle-once-requires c κs = c .before .before .before .loop .inv .formed

@@ -1,7 +1,9 @@
 -- `sweep::sweep` meets its contract. Assumes nothing.
-use Rattle.sweep.proofs.Entering.{Enters, opens, resumes, entered-ready, call-refused, call-opens, call-resumes}
+use Rattle.shape.proofs.Entering.{opens-entered, resumes-entered}
+use Rattle.sweep.proofs.Entering.{entered-ready, call-refused, call-opens, call-resumes}
 use Rattle.tables.specs.Tables.{Tables, tables}
-use mathlib.Core.Path.{sym, subst, _∙_}
+use mathlib.Core.Path.{sym, _∙_}
+use native.Mathlib.Omega.{arith}
 use borrow.Author.Needs.{needs}
 use Rattle.sweep.proofs.sweep.Statement.{statement}
 use Rattle.sweep.proofs.sweep.Tie as tie
@@ -24,13 +26,15 @@ enum-told : tie.Need-enum-told
 enum-told c = search needs
 
 sweep-entered-requires : tie.Need-sweep-entered-requires
-sweep-entered-requires c κs = entered-ready (lent (c .before .before .before .before .before .before .before .before .before)) (c .before .before .before .before .before .before .before .before .before .args .st) (subst Enters (sym (c .before .before .enum-told .given .1) ∙ c .before .before .before .before .entry-of .ensures) opens)
+sweep-entered-requires c κs = let s = c .before .before .before .before .before .before .before .before .before in
+    entered-ready (opens-entered 3 (lent s) (s .args .st) (sym (c .before .before .before .before .entry-of .ensures) ∙ c .before .before .enum-told .given .1)) (λ z. omega arith)
 
 enum-told-2 : tie.Need-enum-told-2
 enum-told-2 c = search needs
 
 sweep-entered-requires-2 : tie.Need-sweep-entered-requires-2
-sweep-entered-requires-2 c κs = entered-ready (lent (c .before .before .before .before .before .before .before .before .before)) (c .before .before .before .before .before .before .before .before .before .args .st) (subst Enters (sym (c .before .before .enum-told2 .given .1) ∙ c .before .before .before .before .entry-of .ensures) resumes)
+sweep-entered-requires-2 c κs = let s = c .before .before .before .before .before .before .before .before .before in
+    entered-ready (resumes-entered 3 (lent s) (s .args .st) (sym (c .before .before .before .before .entry-of .ensures) ∙ c .before .before .enum-told2 .given .1)) (λ z. omega arith)
 
 same-length : tie.Need-same-length
 same-length c = search needs

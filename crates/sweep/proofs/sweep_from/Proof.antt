@@ -1,10 +1,16 @@
 -- `sweep::sweep_from` meets its contract. Assumes nothing.
-use Rattle.sweep.proofs.Calling.{counts-are, from-is, slots-room, ready-counted}
+use Rattle.state.specs.declared.Pass.the-variants.{Sweep}
+use Rattle.stamps.specs.Columns.{columns}
 use Rattle.tables.specs.Tables.{tables}
+use Rattle.clauses.proofs.Counting.{formed-counted, counts-are}
+use Rattle.clauses.proofs.Advancing.{advanced}
+use Rattle.sweep.specs.Sweep.{sweepClause}
+use lib.ListN.{length, replicate, length-replicate}
+use mathlib.Core.Bool.{true, false}
 use mathlib.Core.Path.{_∙_}
 use native.Mathlib.Nat.{min-le-right}
 use native.Mathlib.Omega.{arith}
-use Prim.Native.Nat.{_+_, _-_, _≤_}
+use Prim.Native.Nat.{ℕ, _+_, _-_, _≤_}
 use borrow.Author.Needs.{needs}
 use Rattle.sweep.proofs.sweep_from.Statement.{statement}
 use Rattle.sweep.proofs.sweep_from.Tie as tie
@@ -16,6 +22,10 @@ use Rattle.sweep.proofs.answer_at.Reads as answer-at-reads
 use Rattle.sweep.proofs.fewer.Reads as fewer-reads
 use Rattle.sweep.proofs.sweep_visits.Reads as sweep-visits-reads
 
+-- the room for a clause's slots
+slots-room : 16384 ≤ length {A = ℕ} (replicate 16384 0)
+slots-room = omega (arith, length-replicate {A = ℕ} 16384 0)
+
 -- the visits that are made are left
 room : (c : tie.After-fewer) → c .before .before .before .before .before .args .cursor + c .fewer .result ≤ c .before .before .before .before .before .args .st .n
 room c = omega (arith, c .fewer .ensures, min-le-right (c .before .before .before .before .before .args .steps) (c .before .before .before .before .before .args .st .n - c .before .before .before .before .before .args .cursor), c .before .before .before .before .before .pre .1)
@@ -24,7 +34,7 @@ cast-count-standing : tie.Need-cast-count-standing
 cast-count-standing c = search needs
 
 count-standing-requires : tie.Need-count-standing-requires
-count-standing-requires c κs = ready-counted (c .before .before .before .pre .0)
+count-standing-requires c κs = formed-counted (c .before .before .before .pre .0 .formed)
 
 sub-fewer : tie.Need-sub-fewer
 sub-fewer c = search needs
@@ -48,7 +58,7 @@ cast-count-standing-2 : tie.Need-cast-count-standing-2
 cast-count-standing-2 c = search needs
 
 count-standing-requires-2 : tie.Need-count-standing-requires-2
-count-standing-requires-2 c κs = ready-counted (c .before .before .before .before .before .before .sweep-visits .ensures .0 (c .before .before .before .before .before .before .before .before .before .before .before .before .before .before .before .before .args .st .n) (room (c .before .before .before .before .before .before .before .before .before .before .before)) (c .before .before .before .before .before .before .before .before .before .before .before .before .before .before .before .before .pre .0))
+count-standing-requires-2 c κs = formed-counted (c .before .before .before .before .before .before .sweep-visits .ensures .0 (c .before .before .before .before .before .before .before .before .before .before .before .before .before .before .before .before .args .st .n) (room (c .before .before .before .before .before .before .before .before .before .before .before)) (c .before .before .before .before .before .before .before .before .before .before .before .before .before .before .before .before .pre .0) .formed)
 
 add-answer-at : tie.Need-add-answer-at
 add-answer-at c = search needs
@@ -67,10 +77,12 @@ same-length-2 c = search needs
 
 returns : tie.Need-returns
 returns c = λ w. let a = c .before .before .before .before .before .before .before .before .before .before .before .before .before .before .before .before .before .before .before .args in let v = c .before .before .before .before .before .before .before .before .before .sweep-visits in
+    let m = c .before .before .before .before .before .before .before .before .before .before .before .before .before .before .fewer in
+    let s = c .before .before .before .before .before .before .before .before .before .before .before .before .before .before .before .count-standing in
     c .answer-at .ensures (tables (v .last .0) (v .last .1 .0) w (a .times .now) (a .links .now))
-    ∙ from-is (a .steps) (a .cursor) (c .before .before .before .before .before .before .before .before .before .before .before .before .before .before .fewer .result) (tables (a .clauses .now) (a .literals .now) w (a .times .now) (a .links .now)) (tables (v .last .0) (v .last .1 .0) w (a .times .now) (a .links .now)) (a .st) (c .before .counts-of .result)
-    (c .before .before .before .before .before .before .before .before .before .before .before .before .before .before .fewer .ensures) (v .ensures .1 w)
-    (counts-are (c .before .counts-of .result) (c .before .before .before .before .before .before .before .before .before .before .before .before .before .before .fewer .result) (c .before .before .before .before .before .before .before .before .before .before .before .before .before .before .before .count-standing .result .clauses) (c .before .before .count-standing2 .result .clauses) (c .before .before .before .before .before .before .before .before .before .before .before .before .before .before .before .count-standing .result .literals) (c .before .before .count-standing2 .result .literals) _ _ _ _ (c .before .counts-of .ensures) (c .before .before .before .before .before .before .before .before .before .before .before .before .before .before .before .count-standing .ensures) (c .before .before .count-standing2 .ensures))
+    ∙ advanced Sweep true false (sweepClause (columns (a .times .now) (a .links .now))) (a .steps) (a .cursor) (tables (a .clauses .now) (a .literals .now) w (a .times .now) (a .links .now)) (a .st) (m .result) (m .ensures)
+    (tables (v .last .0) (v .last .1 .0) w (a .times .now) (a .links .now)) (v .ensures .1 w) (c .before .counts-of .result)
+    (counts-are (a .st .n) (m .result) (a .clauses .now) (v .last .0) (s .result) (c .before .before .count-standing2 .result) (c .before .counts-of .result) (s .ensures) (c .before .before .count-standing2 .ensures) (c .before .counts-of .ensures))
 
 pub sweep-from-spec : {M : Type 1} → statement M
 sweep-from-spec =

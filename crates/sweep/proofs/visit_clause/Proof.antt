@@ -1,5 +1,8 @@
 -- `sweep::visit_clause` meets its contract. Assumes nothing.
-use Rattle.sweep.proofs.Visiting.{visit-dropped, visit-is, ready-inside, ready-judged, ready-size, ready-short}
+use Rattle.clauses.proofs.Forming.{part-places, part-length, part-short}
+use Rattle.clauses.proofs.Visiting.{visit-dropped}
+use Rattle.sweep.specs.Sweep.{sweepClause}
+use Rattle.sweep.proofs.Visiting.{visit-is, ready-judged}
 use Rattle.tables.specs.Tables.{tables, startOf, lengthOf}
 use Rattle.stamps.specs.Columns.{columns}
 use Rattle.literal.proofs.Zeros.{mid, put-part}
@@ -24,7 +27,7 @@ below s = omega (arith, s .pre .0 .room)
 
 -- its part lies in the table
 inside : (s : tie.Start) → (startOf (s .args .clauses .now) (s .args .k) + lengthOf (s .args .clauses .now) (s .args .k) ≤ length (s .args .literals .now)) × (startOf (s .args .clauses .now) (s .args .k) + lengthOf (s .args .clauses .now) (s .args .k) ≤ 16384)
-inside s = ready-inside (s .pre .0 .ready) (below s)
+inside s = part-places (s .pre .0 .ready .formed) (s .args .k) (below s)
 
 -- and has as many slots and complements
 room : (s : tie.Start) → (lengthOf (s .args .clauses .now) (s .args .k) ≤ length (s .args .slots .now)) × (lengthOf (s .args .clauses .now) (s .args .k) ≤ length (s .args .twins .now))
@@ -43,7 +46,8 @@ slice-read-flag : tie.Need-slice-read-flag
 slice-read-flag c = search needs
 
 returns : tie.Need-returns
-returns c = λ w. visit-dropped (columns (c .before .before .before .before .before .before .args .times .now) (c .before .before .before .before .before .before .args .links .now)) (c .before .before .before .before .before .before .args .k) (tables (c .before .before .before .before .before .before .args .clauses .now) (c .before .before .before .before .before .before .args .literals .now) w (c .before .before .before .before .before .before .args .times .now) (c .before .before .before .before .before .before .args .links .now)) (c .if1 .taken)
+returns c = λ w. let a = c .before .before .before .before .before .before .args in
+    sym (visit-dropped (sweepClause (columns (a .times .now) (a .links .now))) (a .k) (tables (a .clauses .now) (a .literals .now) w (a .times .now) (a .links .now)) (c .if1 .taken))
 
 mul-start : tie.Need-mul-start
 mul-start c = search needs
@@ -103,9 +107,9 @@ visit-part-requires : tie.Need-visit-part-requires
 visit-part-requires c κs = let s : tie.Start = c .before .before .before .before .before .before .before .before .before .before .before in let a = s .args in
     rw (mid (startOf (a .clauses .now) (a .k)) (lengthOf (a .clauses .now) (a .k))) (
       ready-judged (s .pre .0 .ready) (below s),
-      ready-short (s .pre .0 .ready) (below s),
-      length-take-le (lengthOf (a .clauses .now) (a .k)) (a .slots .now) (room s .0) ∙ sym (ready-size (s .pre .0 .ready) (below s)),
-      length-take-le (lengthOf (a .clauses .now) (a .k)) (a .twins .now) (room s .1) ∙ sym (ready-size (s .pre .0 .ready) (below s)),
+      part-short (s .pre .0 .ready .formed) (a .k) (below s),
+      length-take-le (lengthOf (a .clauses .now) (a .k)) (a .slots .now) (room s .0) ∙ sym (part-length (s .pre .0 .ready .formed) (a .k) (below s)),
+      length-take-le (lengthOf (a .clauses .now) (a .k)) (a .twins .now) (room s .1) ∙ sym (part-length (s .pre .0 .ready .formed) (a .k) (below s)),
     )
 
 put-record-requires : tie.Need-put-record-requires
