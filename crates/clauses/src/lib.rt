@@ -1,7 +1,7 @@
 // Classes and values of literals, and the clauses in the tables.
 use state::Counts;
 ghost use mathlib.Core.Path.{_≡_};
-ghost use Prim.Native.Nat.{_*_, _-_};
+ghost use Prim.Native.Nat.{_*_, _-_, _≤_, min};
 ghost use lib.ListN.{take};
 ghost use lib.IntN.{pos};
 ghost use lib.Signed.{nonNeg};
@@ -108,6 +108,13 @@ fn less(a: u32, b: u32) -> u32
         return 0;
     }
     a - b
+}
+
+// The smaller of two numbers: the visits that a call makes. That they are at most those left keeps them inside the table.
+pub fn fewer(a: u32, b: u32) -> u32
+    ensures { λ r. ⌜ (r ≡ min a b) × (r ≤ b) ⌝ }
+{
+    if a < b { a } else { b }
 }
 
 // What a call answers: the visits made, and what stood before minus what stands after.

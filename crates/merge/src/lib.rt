@@ -207,13 +207,6 @@ pub fn visit_some(clauses: &mut [u32], literals: &mut [i32], variables: &[i32], 
 
 // ---- the call
 
-// The smaller of two numbers. That it is at most the second is all that keeps the visits inside the table.
-fn smaller(a: u32, b: u32) -> u32
-    ensures { λ r. ⌜ (r ≡ min a b) × (r ≤ b) ⌝ }
-{
-    if a < b { a } else { b }
-}
-
 // The answer of a call that stands before clause k: Open exactly if visits are left.
 fn answer(st: State, fresh: bool, counts: Counts, k: u32) -> Outcome
     ensures { λ r. ⌜ ((t : Tables) → after r t ≡ repliedAt fresh counts k st t) ⌝ }
@@ -261,7 +254,7 @@ pub fn merge_from(
         ≡ mergeFrom fresh steps cursor (tables (now (clauses .entry)) (now (literals .entry)) (now (variables .entry)) times links) st) ⌝ }
 {
     let n = st.n;
-    let visits = smaller(steps, n - cursor);
+    let visits = clauses::fewer(steps, n - cursor);
     let end = cursor + visits;
     let before = clauses::count_standing(clauses, n as usize);
     visit_some(clauses, literals, variables, cursor, end);

@@ -122,12 +122,6 @@ fn sweep_visits(
 
 // ---- the call
 
-fn fewer(a: u32, b: u32) -> u32
-    ensures { λ r. ⌜ r ≡ min a b ⌝ }
-{
-    if a < b { a } else { b }
-}
-
 // The answer of a call that stands before clause k: Open exactly if visits are left.
 fn answer_at(st: State, k: u32, counts: Counts) -> Outcome
     ensures { λ r. ⌜ ((t : Tables) → after r t ≡ standsBefore k counts t st) ⌝ }
@@ -174,7 +168,7 @@ pub fn sweep_from(
     let mut twins = [0u32; 16384];
     let n = st.n;
     let before = clauses::count_standing(clauses, n as usize);
-    let m = fewer(steps, n - cursor);
+    let m = clauses::fewer(steps, n - cursor);
     sweep_visits(
         clauses,
         literals,

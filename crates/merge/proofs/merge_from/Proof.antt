@@ -11,14 +11,14 @@ use Rattle.merge.proofs.merge_from.Lts as lts
 use Rattle.clauses.proofs.count_standing.Reads as count-standing-reads
 use Rattle.clauses.proofs.counts_of.Reads as counts-of-reads
 use Rattle.merge.proofs.answer.Reads as answer-reads
-use Rattle.merge.proofs.smaller.Reads as smaller-reads
+use Rattle.clauses.proofs.fewer.Reads as fewer-reads
 use Rattle.merge.proofs.visit_some.Reads as visit-some-reads
 
-sub-smaller : tie.Need-sub-smaller
-sub-smaller c = search needs
+sub-fewer : tie.Need-sub-fewer
+sub-fewer c = search needs
 
-smaller-requires : tie.Need-smaller-requires
-smaller-requires c κs = search needs
+fewer-requires : tie.Need-fewer-requires
+fewer-requires c κs = search needs
 
 add-end : tie.Need-add-end
 add-end c = search needs
@@ -30,14 +30,14 @@ count-standing-requires : tie.Need-count-standing-requires
 count-standing-requires c κs = formed-counted (c .before .before .before .pre .formed)
 
 visit-some-requires : tie.Need-visit-some-requires
-visit-some-requires c κs = ready-visitable (c .before .before .before .before .before .before .pre) (c .before .before .before .before .smaller .result) (c .before .before .before .before .smaller .ensures .1)
+visit-some-requires c κs = ready-visitable (c .before .before .before .before .before .before .pre) (c .before .before .before .before .fewer .result) (c .before .before .before .before .fewer .ensures .1)
 
 cast-count-standing-2 : tie.Need-cast-count-standing-2
 cast-count-standing-2 c = search needs
 
 count-standing-requires-2 : tie.Need-count-standing-requires-2
 count-standing-requires-2 c κs = let v = c .before .before .before .before .visit-some in
-    made-counted (c .before .before .before .before .before .before .before .before .before .before .before .pre) (c .before .before .before .before .before .before .before .before .before .smaller .result) (c .before .before .before .before .before .before .before .before .before .smaller .ensures .1) (v .last .0) (v .last .1 .0) (v .ensures)
+    made-counted (c .before .before .before .before .before .before .before .before .before .before .before .pre) (c .before .before .before .before .before .before .before .before .before .fewer .result) (c .before .before .before .before .before .before .before .before .before .fewer .ensures .1) (v .last .0) (v .last .1 .0) (v .ensures)
 
 counts-of-requires : tie.Need-counts-of-requires
 counts-of-requires c κs = search needs
@@ -53,7 +53,7 @@ same-length-2 c = search needs
 
 returns : tie.Need-returns
 returns c = λ times links. let a = c .before .before .before .before .before .before .before .before .before .before .before .before .before .before .args in
-    let m = c .before .before .before .before .before .before .before .before .before .before .before .before .smaller in
+    let m = c .before .before .before .before .before .before .before .before .before .before .before .before .fewer in
     let v = c .before .before .before .before .before .before .before .visit-some in
     let t′ = tables (v .last .0) (v .last .1 .0) (a .variables .now) times links in
     advanced-by (c .before .before .before .before .before .before .before .before .before .before .before .before .before .before .pre) (m .result) (m .ensures .1) (v .last .0) (v .last .1 .0) (v .ensures) (a .steps) (m .ensures .0) (a .fresh) times links (c .before .counts-of .result)
@@ -64,8 +64,8 @@ pub merge-from-spec : {M : Type 1} → statement M
 merge-from-spec =
     tie.close
     (tie.spec
-    sub-smaller
-    smaller-requires
+    sub-fewer
+    fewer-requires
     add-end
     cast-count-standing
     count-standing-requires

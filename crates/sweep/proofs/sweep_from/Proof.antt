@@ -8,7 +8,6 @@ use Rattle.sweep.specs.Sweep.{sweepClause}
 use lib.ListN.{length, replicate, length-replicate}
 use mathlib.Core.Bool.{true, false}
 use mathlib.Core.Path.{_∙_}
-use native.Mathlib.Nat.{min-le-right}
 use native.Mathlib.Omega.{arith}
 use Prim.Native.Nat.{ℕ, _+_, _-_, _≤_}
 use borrow.Author.Needs.{needs}
@@ -19,7 +18,7 @@ use Rattle.sweep.proofs.sweep_from.Lts as lts
 use Rattle.clauses.proofs.count_standing.Reads as count-standing-reads
 use Rattle.clauses.proofs.counts_of.Reads as counts-of-reads
 use Rattle.sweep.proofs.answer_at.Reads as answer-at-reads
-use Rattle.sweep.proofs.fewer.Reads as fewer-reads
+use Rattle.clauses.proofs.fewer.Reads as fewer-reads
 use Rattle.sweep.proofs.sweep_visits.Reads as sweep-visits-reads
 
 -- the room for a clause's slots
@@ -28,7 +27,7 @@ slots-room = omega (arith, length-replicate {A = ℕ} 16384 0)
 
 -- the visits that are made are left
 room : (c : tie.After-fewer) → c .before .before .before .before .before .args .cursor + c .fewer .result ≤ c .before .before .before .before .before .args .st .n
-room c = omega (arith, c .fewer .ensures, min-le-right (c .before .before .before .before .before .args .steps) (c .before .before .before .before .before .args .st .n - c .before .before .before .before .before .args .cursor), c .before .before .before .before .before .pre .1)
+room c = omega (arith, c .fewer .ensures .1, c .before .before .before .before .before .pre .1)
 
 cast-count-standing : tie.Need-cast-count-standing
 cast-count-standing c = search needs
@@ -80,7 +79,7 @@ returns c = λ w. let a = c .before .before .before .before .before .before .bef
     let m = c .before .before .before .before .before .before .before .before .before .before .before .before .before .before .fewer in
     let s = c .before .before .before .before .before .before .before .before .before .before .before .before .before .before .before .count-standing in
     c .answer-at .ensures (tables (v .last .0) (v .last .1 .0) w (a .times .now) (a .links .now))
-    ∙ advanced Sweep true false (sweepClause (columns (a .times .now) (a .links .now))) (a .steps) (a .cursor) (tables (a .clauses .now) (a .literals .now) w (a .times .now) (a .links .now)) (a .st) (m .result) (m .ensures)
+    ∙ advanced Sweep true false (sweepClause (columns (a .times .now) (a .links .now))) (a .steps) (a .cursor) (tables (a .clauses .now) (a .literals .now) w (a .times .now) (a .links .now)) (a .st) (m .result) (m .ensures .0)
     (tables (v .last .0) (v .last .1 .0) w (a .times .now) (a .links .now)) (v .ensures .1 w) (c .before .counts-of .result)
     (counts-are (a .st .n) (m .result) (a .clauses .now) (v .last .0) (s .result) (c .before .before .count-standing2 .result) (c .before .counts-of .result) (s .ensures) (c .before .before .count-standing2 .ensures) (c .before .counts-of .ensures))
 
