@@ -147,12 +147,6 @@ fn visit_clause(
     seen
 }
 
-fn either(a: bool, b: bool) -> bool
-    ensures { λ r. ⌜ r ≡ (a || b) ⌝ }
-{
-    if a { true } else { b }
-}
-
 // Where the pass goes on after the visit before clause k: through the clauses again if this time changed something.
 fn onward(n: u32, k: u32, changed: bool) -> Stand
     ensures { λ r. ⌜ ((t : Tables) → progressOf r t ≡ onward n k changed t) ⌝ }
@@ -184,7 +178,7 @@ fn step(
     let seen = visit_clause(clauses, literals, variables, at);
     match seen {
         Visited::Kept => onward(n, k + 1, changed),
-        Visited::Left(m) => onward(n, k + 1, either(changed, m < size)),
+        Visited::Left(m) => onward(n, k + 1, base::either(changed, m < size)),
         Visited::Dropped => onward(n, k + 1, true),
         Visited::Unit1 => onward(n, k + 1, true),
         Visited::Conflict => Stand::Contradicted,

@@ -196,13 +196,6 @@ fn same_tables(
     same_literals(&rows[..places], &variables[..places])
 }
 
-// One of two, or both.
-fn either(a: bool, b: bool) -> bool
-    ensures { λ r. ⌜ r ≡ (a || b) ⌝ }
-{
-    if a { true } else { b }
-}
-
 // ---- the codes
 
 // Stamp in a given order. Where Stamp would refuse, nothing changes.
@@ -391,7 +384,7 @@ fn make_round(
     let n = st.n;
     let after = round(k, clauses, literals, variables, times, links, st);
     let same = same_tables(v, n, kept, parts, rows, clauses, literals, variables);
-    let stop = either(after.mark, same);
+    let stop = base::either(after.mark, same);
     Turn { state: after, stop }
 }
 

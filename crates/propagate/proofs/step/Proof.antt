@@ -16,7 +16,7 @@ use Rattle.propagate.proofs.step.Statement.{statement}
 use Rattle.propagate.proofs.step.Tie as tie
 use Rattle.propagate.proofs.step.Reads as reads
 use Rattle.propagate.proofs.step.Lts as lts
-use Rattle.propagate.proofs.either.Reads as either-reads
+use Rattle.base.proofs.either.Reads as either-reads
 use Rattle.propagate.proofs.onward.Reads as onward-reads
 use Rattle.propagate.proofs.visit_clause.Reads as visit-clause-reads
 
