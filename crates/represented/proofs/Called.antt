@@ -5,30 +5,24 @@ use native.Mathlib.Omega.{arith}
 use mathlib.Core.Path.{_≡_, refl, sym, ap, subst, _∙_}
 use mathlib.Core.Bool.{Bool, true, false}
 use mathlib.Core.List.{List}
-use lib.Dec.{ltb}
-use borrow.Author.Tests.{ltb-false}
 use Rattle.state.specs.declared.State.{State}
-use Rattle.state.specs.declared.Pass.the-variants.{Idle, Merge}
-use Rattle.state.specs.declared.Answer.the-variants.{Open, Done}
-use Rattle.state.specs.declared.Refusal.the-variants.{Unsettled}
+use Rattle.state.specs.declared.Pass.the-variants.{Merge}
 use Rattle.tables.specs.Tables.{Tables}
-use Rattle.tables.specs.Clauses.{gone}
-use Rattle.tables.specs.Fates.{visits}
-use Rattle.tables.specs.Passes.{advance, firstUnsettled}
-use Rattle.tables.specs.Calls.{After, answered, refuse, marked, state}
+use Rattle.tables.specs.Passes.{firstUnsettled}
+use Rattle.tables.specs.Calls.{After}
 use Rattle.shape.specs.Entry.{entryOf}
 use Rattle.shape.specs.declared.Entry.{Entry}
 use Rattle.shape.specs.declared.Entry.the-variants.{No, Opens, Resumes}
 use Rattle.shape.proofs.Entering.{opens-entered, resumes-entered}
-use Rattle.clauses.specs.Formed.{Formed}
 use Rattle.clauses.proofs.Entered.{entered-formed, entered-cursor}
+use Rattle.clauses.proofs.Keeping.{FormedTo}
+use Rattle.clauses.proofs.Advancing.{advance-cases}
 use Rattle.propagate.specs.Propagate.{Progress, going, settled, contradicted, begin, resumed, propagateVisits, propagateFrom, replied, propagateBy, propagateCall}
 use Rattle.propagate.proofs.Stepping.{Good, visits-good}
 use Rattle.propagate.proofs.Shaped.{begin-good, resumed-good}
-use Rattle.merge.specs.Merge.{edgesOf, clashes, mergedClasses, mergeClause, mergeFrom, mergeOpen, mergeSettled, mergeCursor, mergeBy, mergeCall}
-use Rattle.merge.proofs.Keeping.{FormedTo}
-use Rattle.merge.proofs.Merged.{merged-formed}
-use Rattle.merge.proofs.Calling.{opens-formed, resumes-ready, all-settled}
+use Rattle.merge.specs.Merge.{mergedClasses, mergeClause, mergeFrom, mergeOpen, mergeCursor, mergeBy, mergeCall}
+use Rattle.merge.proofs.Merged.{classes-formed}
+use Rattle.merge.proofs.Calling.{open-cases, settled-cases, opens-formed, resumes-ready}
 use Rattle.demand.specs.Core as core
 use Rattle.demand.specs.Moves as moves
 use Rattle.represented.specs.Represented.{Represented}
@@ -76,43 +70,17 @@ propagate-reached steps t st k R = by (entryOf 1 t st) refl
 
 module _ (st : State) where
   merge-from : (fresh : Bool) (steps c : ℕ) (t : Tables) (k : core.Core) → FormedTo (st .v) (st .n) c t → c ≤ st .n → Represented (st .v) (st .n) false t k → Reached st k (mergeFrom fresh steps c t st)
-  unfolding advance
   merge-from fresh steps c t k F le R =
-      go (ltb (c + min steps (st .n - c)) (st .n)) (visits-simulated (st .v) (st .n) (min steps (st .n - c)) c (t .variables) t k refl (omega (arith, min-le-right steps (st .n - c), le)) F R)
-    where
-      go : (b : Bool) → Simulated (st .v) (st .n) false (visits (mergeClause (t .variables)) (min steps (st .n - c)) c t) k → Reached st k (elim b as (λ x. After) [
-        | true ↦ answered (Open (gone (min steps (st .n - c)) (st .n) (t .clauses) (visits (mergeClause (t .variables)) (min steps (st .n - c)) c t .clauses))) (state (st .v) (st .n) (Merge (c + min steps (st .n - c))) fresh false) (visits (mergeClause (t .variables)) (min steps (st .n - c)) c t)
-        | false ↦ answered (Done (gone (min steps (st .n - c)) (st .n) (t .clauses) (visits (mergeClause (t .variables)) (min steps (st .n - c)) c t .clauses))) (state (st .v) (st .n) Idle fresh false) (visits (mergeClause (t .variables)) (min steps (st .n - c)) c t)
-      ])
-      go true S = S
-      go false S = S
+      let S = visits-simulated (st .v) (st .n) (min steps (st .n - c)) c (t .variables) t k refl (omega (arith, min-le-right steps (st .n - c), le)) F R in
+      advance-cases Merge fresh fresh (mergeClause (t .variables)) steps c t st (Reached st k) (λ counts lt. S) (λ counts done. S)
 
-  module _ (steps : ℕ) (t : Tables) (k : core.Core) (F : FormedTo (st .v) (st .n) (st .n) t) (R : Represented (st .v) (st .n) false t k) where
-    opened : clashes (edgesOf t (st .n)) (st .v) ≡ false → firstUnsettled t (st .n) ≡ st .n → FormedTo (st .v) (st .n) 0 (mergedClasses (st .v) (st .n) t)
-    unfolding mergedClasses
-    opened e s = merged-formed t F e s
-
-    merge-open : firstUnsettled t (st .n) ≡ st .n → Reached st k (mergeOpen steps t st)
-    unfolding mergeOpen
-    merge-open s = go (clashes (edgesOf t (st .n)) (st .v)) refl
-      where
-        go : (b : Bool) → clashes (edgesOf t (st .n)) (st .v) ≡ b → Reached st k (elim b as (λ x. After) [
-          | true ↦ answered (Done (gone 0 (st .n) (t .clauses) (t .clauses))) (marked st) t
-          | false ↦ mergeFrom false steps 0 (mergedClasses (st .v) (st .n) t) st
-        ])
-        go true e = clash-simulated F R e
-        go false e =
-            let o = opening-simulated F R e in
-            let r = merge-from false steps 0 (mergedClasses (st .v) (st .n) t) (o .to) (opened e s) (omega arith) (o .tied) in
-            record { to = r .to; moves = moves-join (o .moves) (r .moves); tied = r .tied }
-
-    merge-settled : Represented (st .v) (st .n) (st .mark) t k → Reached st k (mergeSettled steps t st)
-    unfolding mergeSettled
-    merge-settled Q = go (ltb (firstUnsettled t (st .n)) (st .n)) refl
-      where
-        go : (b : Bool) → ltb (firstUnsettled t (st .n)) (st .n) ≡ b → Reached st k (elim b as (λ x. After) [ true ↦ refuse (Unsettled (firstUnsettled t (st .n) + 1)) st t | false ↦ mergeOpen steps t st ])
-        go true e = refused st Q
-        go false e = merge-open (all-settled steps st t (firstUnsettled t (st .n)) refl (ltb-false (firstUnsettled t (st .n)) (st .n) e))
+  merge-open : (steps : ℕ) (t : Tables) (k : core.Core) → FormedTo (st .v) (st .n) (st .n) t → Represented (st .v) (st .n) false t k → firstUnsettled t (st .n) ≡ st .n → Reached st k (mergeOpen steps t st)
+  merge-open steps t k F R s =
+      open-cases steps st t (Reached st k) (clash-simulated F R)
+      (λ e.
+      let o = opening-simulated F R e in
+      let r = merge-from false steps 0 (mergedClasses (st .v) (st .n) t) (o .to) (classes-formed t F e s) (omega arith) (o .tied) in
+      record { to = r .to; moves = moves-join (o .moves) (r .moves); tied = r .tied })
 
 pub merge-reached : (steps : ℕ) (t : Tables) (st : State) (k : core.Core) → Represented (st .v) (st .n) (st .mark) t k → Reached st k (mergeCall steps t st)
 unfolding mergeCall
@@ -120,5 +88,5 @@ merge-reached steps t st k R = by (entryOf 2 t st) refl
   where
     by : (e : Entry) → entryOf 2 t st ≡ e → Reached st k (mergeBy e steps t st)
     by (No r) q = refused st R
-    by Opens q = merge-settled st steps t k (opens-formed steps t st q) (unmarked st (opens-entered 2 t st q .unmarked) R) R
+    by Opens q = settled-cases steps st t (Reached st k) (refused st R) (merge-open st steps t k (opens-formed steps t st q) (unmarked st (opens-entered 2 t st q .unmarked) R))
     by Resumes q = let P = resumes-ready t st q in merge-from st (st .fresh) steps (mergeCursor (st .pass)) t k (P .formed) (P .within) (unmarked st (resumes-entered 2 t st q .unmarked) R)

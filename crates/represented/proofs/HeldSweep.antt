@@ -1,43 +1,36 @@
 -- Sweep keeps the invariant of a list of calls, at every stopping point; by its end the stamps are spent. Assumes nothing.
-use Prim.Native.Nat.{ℕ, zero, suc, _+_, _-_, _*_, _≤_, _<_, min}
+use Prim.Native.Nat.{ℕ, _+_, _-_, _*_, _≤_, _<_, min}
 use native.Mathlib.Nat.{min-le-right}
 use native.Mathlib.Omega.{arith}
-use mathlib.Core.Path.{_≡_, refl, sym, ap, subst, _∙_}
+use mathlib.Core.Path.{_≡_, refl, sym, subst, _∙_}
 use mathlib.Core.Bool.{Bool, true, false, false≢true}
-use mathlib.Core.Logic.{_⊎_, inl, inr, ⊎-elim}
-use mathlib.Core.List.{List, [], _∷_, map}
-use lib.ListN.{length}
-use lib.Dec.{ltb}
+use mathlib.Core.List.{List}
 use lib.IntN.{ℤ}
-use borrow.Author.Tests.{ltb-true}
-use Rattle.literal.specs.Literals.{slotOf}
 use Rattle.walk.specs.Walk.{Stamps}
 use Rattle.stamps.specs.Columns.{columns}
 use Rattle.stamps.specs.Fresh.{FreshStamps}
-use Rattle.hidden.specs.Hidden.{hiddenTautology, shorten}
+use Rattle.hidden.proofs.Intervals.{Nested}
 use Rattle.hidden.proofs.Agree.{Agree}
 use Rattle.hidden.proofs.Columns.{fresh-nested}
 use Rattle.state.specs.declared.State.{State}
 use Rattle.state.specs.declared.Pass.{Pass}
-use Rattle.state.specs.declared.Pass.the-variants.{Idle, Propagate, Merge, Sweep}
-use Rattle.state.specs.declared.Answer.the-variants.{Open, Done}
+use Rattle.state.specs.declared.Pass.the-variants.{Idle, Sweep}
 use Rattle.tables.specs.Tables.{Tables}
-use Rattle.tables.specs.Tables as T
-use Rattle.tables.specs.Clauses.{literalsOf, gone}
-use Rattle.tables.specs.Fates.{Fate, store, fateAt, shortened, droppedAt, visit, visits}
-use Rattle.tables.specs.Fates as fates
-use Rattle.tables.specs.Passes.{advance}
-use Rattle.tables.specs.Calls.{After, answered, state}
-use Rattle.shape.specs.Shape.{Shape, Cursor}
-use Rattle.shape.specs.Entry.{entryOf, passNumber}
+use Rattle.tables.specs.Fates.{visits}
+use Rattle.tables.specs.Calls.{After, state}
+use Rattle.shape.specs.Entry.{entryOf}
 use Rattle.shape.specs.declared.Entry.{Entry}
 use Rattle.shape.specs.declared.Entry.the-variants.{No, Opens, Resumes}
 use Rattle.shape.proofs.Entering.{Entered, opens-entered, resumes-entered}
 use Rattle.clauses.specs.Formed.{Formed}
-use Rattle.clauses.proofs.Forming.{formed-shape}
 use Rattle.clauses.proofs.Entered.{entered-formed, entered-cursor}
-use Rattle.merge.proofs.Keeping.{Beside}
+use Rattle.clauses.proofs.Visiting.{SameStamps, visits-beside}
+use Rattle.clauses.proofs.Keeping.{formed-shape-as}
+use Rattle.clauses.proofs.Advancing.{advance-cases}
 use Rattle.sweep.specs.Sweep.{sweepClause, sweepFrom, sweepCursor, unlessStale, sweepBy, sweepCall}
+use Rattle.sweep.proofs.Visiting.{sweep-shrinks}
+use Rattle.sweep.proofs.Keeping.{formed-visits}
+use Rattle.sweep.proofs.Entering.{sweep-within}
 use Rattle.sound.specs.Formula.{Clause}
 use Rattle.sound.specs.Sweep as sound
 use Rattle.demand.specs.Core.{Core, load, withClauses}
@@ -45,33 +38,6 @@ use Rattle.demand.specs.Moves.{Freshness, spent, fresh, Moves, spend, sweep, go
 use Rattle.represented.specs.Represented.{Represented}
 use Rattle.represented.proofs.Swept.{sweeps-tied}
 use Rattle.represented.proofs.Held.{At, StampsOf, stale, from, Held}
-
--- ---- a visit leaves the variables and the stamps
-
-visit-beside : (σ : Stamps) (k : ℕ) (t : Tables) → Beside t (visit (sweepClause σ) k t)
-unfolding fateAt sweepClause shortened droppedAt
-visit-beside σ k t = by-flag (T.standing (t .clauses) k) (literalsOf (t .clauses) (t .literals) k)
-  where
-    same : Beside t t
-    same = record { variables = refl; times = refl; links = refl }
-
-    by-fate : (b : Bool) (C : List ℤ) → Beside t (store k (elim b as (λ x. Fate) [ true ↦ fates.dropped | false ↦ fates.left C ]) t)
-    by-fate true C = record { variables = refl; times = refl; links = refl }
-    by-fate false C = record { variables = refl; times = refl; links = refl }
-
-    by-flag : (flag : ℕ) (C : List ℤ) → Beside t (store k (elim flag as (λ x. Fate) [ zero ↦ fates.kept | suc _ ↦ sweepClause σ C ]) t)
-    by-flag zero C = same
-    by-flag (suc x) [] = same
-    by-flag (suc x) (a ∷ []) = same
-    by-flag (suc x) (a ∷ b ∷ ls) = by-fate (hiddenTautology σ (map slotOf (a ∷ b ∷ ls))) (shorten slotOf σ (a ∷ b ∷ ls))
-
-visits-beside : (σ : Stamps) (m k : ℕ) (t : Tables) → Beside t (visits (sweepClause σ) m k t)
-unfolding visits
-visits-beside σ zero k t = record { variables = refl; times = refl; links = refl }
-visits-beside σ (suc m) k t =
-    let one = visit-beside σ k t in
-    let rest = visits-beside σ m (suc k) (visit (sweepClause σ) k t) in
-    record { variables = rest .variables ∙ one .variables; times = rest .times ∙ one .times; links = rest .links ∙ one .links }
 
 -- ---- visits from the cursor on
 
@@ -93,23 +59,20 @@ module _ {f : List Clause} {t : Tables} {st : State} (H : Held f t st) (F : Form
     ends : c + m ≤ st .n
     ends = omega (arith, min-le-right steps (st .n - c), le)
 
-    B : Beside t t′
-    B = visits-beside ρ m c t
+    B : SameStamps t t′
+    B = visits-beside (sweepClause ρ) (sweep-shrinks ρ) m c t .stamps
 
-    after : Formed (st .v) (st .n) (st .n) false (t′ .clauses) (t′ .literals) (t′ .variables) × Represented (st .v) (st .n) false t′ k′
-    after = sweeps-tied (st .v) (st .n) ρ σ (fresh-nested (t .times) (t .links) (st .v) stamps) A m c ends t (H .core) F R
+    N : Nested (2 * st .v) ρ
+    N = fresh-nested (t .times) (t .links) (st .v) stamps
 
-    fresh-still : FreshStamps (st .v) (t′ .times) (t′ .links)
-    fresh-still = subst (λ (x : List ℕ). FreshStamps (st .v) x (t′ .links)) (sym (B .times)) (subst (FreshStamps (st .v) (t .times)) (sym (B .links)) stamps)
+    formed : Formed (st .v) (st .n) (st .n) false (t′ .clauses) (t′ .literals) (t′ .variables)
+    formed = formed-visits t F ρ N m c ends
+
+    tied : Represented (st .v) (st .n) false t′ k′
+    tied = sweeps-tied (st .v) (st .n) ρ σ N A m c ends t (H .core) F R
 
     agree-still : Agree (2 * st .v) (columns (t′ .times) (t′ .links)) σ
     agree-still = subst (λ (x : List ℕ). Agree (2 * st .v) (columns x (t′ .links)) σ) (sym (B .times)) (subst (λ (x : List ℤ). Agree (2 * st .v) (columns (t .times) x) σ) (sym (B .links)) A)
-
-    long-times : 4096 ≤ length (t′ .times)
-    long-times = subst (λ (x : List ℕ). 4096 ≤ length x) (sym (B .times)) (H .shape .long .times)
-
-    long-links : 4096 ≤ length (t′ .links)
-    long-links = subst (λ (x : List ℤ). 4096 ≤ length x) (sym (B .links)) (H .shape .long .links)
 
     open-held : c + m < st .n → Held f t′ (state (st .v) (st .n) (Sweep (c + m)) true false)
     open-held lt = record {
@@ -117,8 +80,8 @@ module _ {f : List Clause} {t : Tables} {st : State} (H : Held f t st) (F : Form
       stamped = fresh σ (c + m);
       moves = go since (sweep m);
       within = H .within;
-      shape = formed-shape t′ (state (st .v) (st .n) (Sweep (c + m)) true false) (after .0) long-times long-links (lt, refl) (λ e. fresh-still);
-      tied = after .1;
+      shape = formed-shape-as t t′ (state (st .v) (st .n) (Sweep (c + m)) true false) B (H .shape .long .times) (H .shape .long .links) (λ e. stamps) formed (lt, refl);
+      tied = tied;
       stamps = from σ (c + m) agree-still refl;
     }
 
@@ -128,24 +91,13 @@ module _ {f : List Clause} {t : Tables} {st : State} (H : Held f t st) (F : Form
       stamped = spent;
       moves = go (go since (sweep m)) spend;
       within = H .within;
-      shape = formed-shape t′ (state (st .v) (st .n) Idle false false) (after .0) long-times long-links tt (λ e. absurd (false≢true e));
-      tied = after .1;
+      shape = formed-shape-as t t′ (state (st .v) (st .n) Idle false false) B (H .shape .long .times) (H .shape .long .links) (λ e. absurd (false≢true e)) formed tt;
+      tied = tied;
       stamps = stale refl;
     }
 
-    pub from-held : Held f (sweepFrom steps c t st .tables) (sweepFrom steps c t st .state)
-    unfolding advance
-    from-held = by (ltb (c + m) (st .n)) refl
-      where
-        So : After → Type 0
-        So a = Held f (a .tables) (a .state)
-
-        by : (b : Bool) → ltb (c + m) (st .n) ≡ b → So (elim b as (λ x. After) [
-          | true ↦ answered (Open (gone m (st .n) (t .clauses) (t′ .clauses))) (state (st .v) (st .n) (Sweep (c + m)) true false) t′
-          | false ↦ answered (Done (gone m (st .n) (t .clauses) (t′ .clauses))) (state (st .v) (st .n) Idle false false) t′
-        ])
-        by true e = open-held (ltb-true (c + m) (st .n) e)
-        by false e = done-held
+    from-held : Held f (sweepFrom steps c t st .tables) (sweepFrom steps c t st .state)
+    from-held = advance-cases Sweep true false (sweepClause ρ) steps c t st (λ (a : After). Held f (a .tables) (a .state)) (λ counts lt. open-held lt) (λ counts done. done-held)
 
 -- ---- the call
 
@@ -153,12 +105,6 @@ module _ {f : List Clause} {t : Tables} {st : State} (H : Held f t st) (F : Form
 at-cursor : (p : Pass) (c : ℕ) → At p c → c ≡ sweepCursor p
 at-cursor Idle c a = a
 at-cursor (Sweep i) c a = a
-
-within : (p : Pass) (n : ℕ) → Cursor p n false → sweepCursor p ≤ n
-within Idle n C = omega arith
-within (Propagate i b) n C = omega arith
-within (Merge i) n C = omega arith
-within (Sweep i) n C = omega (arith, C .0)
 
 pub sweep-held : {f : List Clause} (steps : ℕ) (t : Tables) (st : State) → Held f t st → Held f (sweepCall steps t st .tables) (sweepCall steps t st .state)
 unfolding sweepCall
@@ -170,7 +116,7 @@ sweep-held {f} steps t st H = by (entryOf 3 t st) refl
         by-stamps : {w : Freshness} → StampsOf t st w → Moves (st .v) (load f) spent (H .core) w → Held f (sweepFrom steps (sweepCursor (st .pass)) t st .tables) (sweepFrom steps (sweepCursor (st .pass)) t st .state)
         by-stamps (stale h) ms = absurd (false≢true (sym h ∙ e))
         by-stamps (from σ c A at) ms =
-            from-held H (entered-formed E d) (subst (λ (b : Bool). Represented (st .v) (st .n) b t (H .core)) (E .unmarked) (H .tied)) (H .shape .stamps e) (sweepCursor (st .pass)) (within (st .pass) (st .n) (entered-cursor E)) σ A
+            from-held H (entered-formed E d) (subst (λ (b : Bool). Represented (st .v) (st .n) b t (H .core)) (E .unmarked) (H .tied)) (H .shape .stamps e) (sweepCursor (st .pass)) (sweep-within (st .pass) (st .n) (entered-cursor E)) σ A
             (subst (λ (x : ℕ). Moves (st .v) (load f) spent (H .core) (fresh σ x)) (at-cursor (st .pass) c at) ms) steps
 
     unless : {n : ℕ} → Entered n t st → ((n ≡ 2) → ⊥) → (b : Bool) → st .fresh ≡ b → Held f (unlessStale b steps t st .tables) (unlessStale b steps t st .state)

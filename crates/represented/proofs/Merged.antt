@@ -21,7 +21,8 @@ use Rattle.tables.specs.Fates.{Fate, store, fateAt, shortened, droppedAt}
 use Rattle.tables.specs.Fates as fates
 use Rattle.clauses.specs.Formed.{Formed, Variables}
 use Rattle.clauses.proofs.Stores.{recorded, storedAt}
-use Rattle.clauses.proofs.Forming.{recorded-same}
+use Rattle.clauses.proofs.Forming.{clause-fits, part-length, recorded-same}
+use Rattle.clauses.proofs.Fitting.{fit-member}
 use Rattle.sound.specs.Formula.{Clause, dropped, standing}
 use Rattle.demand.specs.Core as core
 use Rattle.demand.specs.Moves as moves
@@ -30,7 +31,7 @@ use Rattle.merge.proofs.Repeats.{distinct-short}
 use Rattle.load.proofs.Distinct.{has-distinct}
 use Rattle.represented.specs.Represented.{clauseOf, Represented}
 use Rattle.represented.proofs.Literals.{class-is, class-lit}
-use Rattle.represented.proofs.Propagated.{Simulated, literalsAt, stands-as, member-lit, put-represented, view-length, mem-map, map-mem, map-sub}
+use Rattle.represented.proofs.Propagated.{Simulated, literalsAt, stands-as, put-represented, mem-map, map-mem, map-sub}
 
 -- ---- lists without repeats
 
@@ -78,7 +79,7 @@ module _ {v n sl : ℕ} {t : Tables} {k : core.Core} (F : Formed v n sl false (t
   -- on slots they are the classes of the slots
   classed-slots : map slotOf classed ≡ map (k .class) (map slotOf (literalsAt t i))
   unfolding classed
-  classed-slots = by (literalsAt t i) (λ l m. class-is R (F .vars) l (member-lit F R i lt m))
+  classed-slots = by (literalsAt t i) (λ l m. class-is R (F .vars) l (fit-member (clause-fits F i lt) m))
     where
       by : (C : List ℤ) → ((l : ℤ) → List·Memᴰ l C → k .class (slotOf l) ≡ slotOf (classLiteral (t .variables) l)) → map slotOf (map (classLiteral (t .variables)) C) ≡ map (k .class) (map slotOf C)
       by [] h = refl
@@ -91,7 +92,7 @@ module _ {v n sl : ℕ} {t : Tables} {k : core.Core} (F : Formed v n sl false (t
 
   short : length (distinct classed) ≤ lengthOf (t .clauses) i
   unfolding classed
-  short = omega (arith, distinct-short classed, length-map (literalsAt t i) (classLiteral (t .variables)), view-length F i lt)
+  short = omega (arith, distinct-short classed, length-map (literalsAt t i) (classLiteral (t .variables)), part-length F i lt)
 
   pub merged-left : Simulated v n false (shortened i (distinct classed) t) k
   unfolding shortened
@@ -120,7 +121,7 @@ module _ {v n sl : ℕ} {t : Tables} {k : core.Core} (F : Formed v n sl false (t
       above : (l : ℤ) → List·Memᴰ l (distinct classed) → 0 < natAbs l
       above l m =
           let r = of-map (literalsAt t i) (sub-mem (kept-sub [] classed) m) in
-          subst (λ (x : ℤ). 0 < natAbs x) (sym (r .2)) (class-lit R (F .vars) (r .0) (member-lit F R i lt (r .1)) .above)
+          subst (λ (x : ℤ). 0 < natAbs x) (sym (r .2)) (class-lit R (F .vars) (r .0) (fit-member (clause-fits F i lt) (r .1)) .above)
         where
           of-map : (C : List ℤ) {x : ℤ} → List·Memᴰ x (map (classLiteral (t .variables)) C) → (l : ℤ) × List·Memᴰ l C × (x ≡ classLiteral (t .variables) l)
           of-map [] m = absurd (List·Memᴰ·not-nil m)

@@ -22,9 +22,12 @@ use Rattle.clauses.specs.Formed.{Formed}
 use Rattle.demand.specs.Core as core
 use Rattle.demand.specs.Moves as moves
 use Rattle.demand.proofs.Groups.{least, least-in, least-out, least-grouped, least-twin, clash-found}
+use Rattle.clauses.proofs.Visiting.{visit-beside}
+use Rattle.clauses.proofs.Keeping.{FormedTo, formed-cases}
 use Rattle.merge.specs.Merge.{edgesOf, clashes, representative, regrouped, mergedClasses, mergeClause, unlessTautology}
 use Rattle.merge.proofs.Regrouped.{regrouped-class, regrouped-value}
-use Rattle.merge.proofs.Keeping.{FormedTo, formed-visit, visit-beside}
+use Rattle.merge.proofs.Visiting.{merge-shrinks}
+use Rattle.merge.proofs.Keeping.{formed-visit}
 use Rattle.sound.specs.Formula.{graph}
 use Rattle.represented.specs.Represented.{Represented}
 use Rattle.represented.proofs.Literals.{class-is, class-lit}
@@ -37,17 +40,15 @@ use Rattle.represented.proofs.Shaping.{shaped-of, graph-of, owned-of}
 -- ---- visits
 
 pub visit-simulated : {v n c : ℕ} {t : Tables} {k : core.Core} → FormedTo v n c t → Represented v n false t k → c < n → Simulated v n false (fates.visit (mergeClause (t .variables)) c t) k
-unfolding fateAt mergeClause classed
-visit-simulated {v} {n} {c} {t} {k} F R lt = by-flag (T.standing (t .clauses) c) refl
+unfolding mergeClause classed
+visit-simulated {v} {n} {c} {t} {k} F R lt =
+    formed-cases t F c lt (mergeClause (t .variables)) (λ (f : Fate). Simulated v n false (store c f t) k) (λ e. record { to = k; moves = moves.stay; tied = R })
+    (λ stands. by-fate stands (tautology (distinct (map (classLiteral (t .variables)) (literalsAt t c)))) refl)
   where
     by-fate : T.standing (t .clauses) c ≡ 1 → (b : Bool) → tautology (distinct (map (classLiteral (t .variables)) (literalsAt t c))) ≡ b
         → Simulated v n false (store c (elim b as (λ x. Fate) [ true ↦ fates.dropped | false ↦ fates.left (distinct (map (classLiteral (t .variables)) (literalsAt t c))) ]) t) k
     by-fate e true h = merged-dropped F R c lt e h
     by-fate e false h = merged-left F R c lt e
-
-    by-flag : (x : ℕ) → T.standing (t .clauses) c ≡ x → Simulated v n false (store c (elim x as (λ y. Fate) [ zero ↦ fates.kept | suc _ ↦ mergeClause (t .variables) (literalsAt t c) ]) t) k
-    by-flag zero e = record { to = k; moves = moves.stay; tied = R }
-    by-flag (suc x) e = by-fate (let f = F .rule .parts .flag c lt in omega (arith, f, e)) (tautology (distinct (map (classLiteral (t .variables)) (literalsAt t c)))) refl
 
 pub visits-simulated : (v n m c : ℕ) (w : List ℤ) (t : Tables) (k : core.Core) → t .variables ≡ w → c + m ≤ n → FormedTo v n c t → Represented v n false t k → Simulated v n false (visits (mergeClause w) m c t) k
 unfolding visits
@@ -55,7 +56,7 @@ visits-simulated v n zero c w t k same le F R = record { to = k; moves = moves.s
 visits-simulated v n (suc m) c w t k same le F R =
     let one : Simulated v n false (fates.visit (mergeClause w) c t) k = subst (λ (x : List ℤ). Simulated v n false (fates.visit (mergeClause x) c t) k) same (visit-simulated F R (omega (arith, le))) in
     let formed : FormedTo v n (suc c) (fates.visit (mergeClause w) c t) = subst (λ (x : List ℤ). FormedTo v n (suc c) (fates.visit (mergeClause x) c t)) same (formed-visit v n c t F (omega (arith, le))) in
-    let rest = visits-simulated v n m (suc c) w (fates.visit (mergeClause w) c t) (one .to) (visit-beside w c t .variables ∙ same) (omega (arith, le)) formed (one .tied) in
+    let rest = visits-simulated v n m (suc c) w (fates.visit (mergeClause w) c t) (one .to) (visit-beside (mergeClause w) (merge-shrinks w) c t .variables ∙ same) (omega (arith, le)) formed (one .tied) in
     record { to = rest .to; moves = moves-join (one .moves) (rest .moves); tied = rest .tied }
 
 -- ---- the opening

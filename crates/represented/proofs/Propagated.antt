@@ -5,8 +5,8 @@ use mathlib.Core.Path.{_≡_, refl, sym, ap, subst, _∙_}
 use mathlib.Core.Bool.{Bool, true, false, not, _||_}
 use mathlib.Core.Logic.{_⊎_, inl, inr, ⊎-elim}
 use mathlib.Core.List.{List, [], _∷_, map, List·Memᴰ, List·Memᴰ·head, List·Memᴰ·tail, List·Memᴰ·not-nil, List·Memᴰ·cases-cons, Sublistᴰ, Sublistᴰ·slnil, Sublistᴰ·cons, Sublistᴰ·cons-cons}
-use lib.ListN.{length, getD, set, drop, length-set, length-drop}
-use lib.Seq.{getD-set-same, getD-set-other, set-set, length-take-le}
+use lib.ListN.{length, getD, set, length-set}
+use lib.Seq.{getD-set-same, getD-set-other, set-set}
 use lib.Dec.{eqb}
 use borrow.Author.Tests.{ne-eqb}
 use lib.IntN.{ℤ, pos, negℤ, natAbs}
@@ -17,7 +17,7 @@ use Rattle.literal.specs.Literals.{Literal, slotOf, litAt, twin, eqZ, signBy}
 use Rattle.literal.proofs.Laws.{slot-below}
 use Rattle.base.proofs.Lists.{mem-filter}
 use Rattle.hidden.proofs.Basics.{any-out, in-filter, filter-sub}
-use Rattle.tables.specs.Tables.{Tables, tables, startOf, lengthOf}
+use Rattle.tables.specs.Tables.{Tables, tables, lengthOf}
 use Rattle.tables.specs.Tables as T
 use Rattle.tables.specs.Values as values
 use Rattle.tables.specs.Clauses.{literalsOf}
@@ -25,9 +25,10 @@ use Rattle.tables.specs.Fates.{Fate, store, fateAt, shortened, droppedAt}
 use Rattle.tables.specs.Fates as fates
 use Rattle.clauses.specs.Formed.{Formed, Variables, Known}
 use Rattle.clauses.proofs.Stores.{recorded, storedAt, stored-view, stored-other, recorded-other, recorded-here}
-use Rattle.clauses.proofs.Forming.{clause-fits, record-inside, recorded-same, part-inside, set-classes}
-use Rattle.clauses.proofs.Known.{abs-signed, class-ranged, known-class, class-own, known-place}
-use Rattle.clauses.proofs.Fitting.{filter-shorter}
+use Rattle.clauses.proofs.Forming.{clause-fits, record-inside, recorded-same, part-length}
+use Rattle.clauses.proofs.MadeTrue.{true-classes}
+use Rattle.clauses.proofs.Known.{class-ranged, known-class, known-place}
+use Rattle.clauses.proofs.Fitting.{fit-member, filter-shorter}
 use Rattle.propagate.specs.Propagate.{notFalse}
 use Rattle.sound.specs.Formula.{Clause, dropped, standing}
 use Rattle.demand.specs.Core as core
@@ -68,18 +69,15 @@ filter-test {A} p (y ∷ xs) {x} m = by (λ r. filter-test p xs r) (p y) refl m
 
 -- ---- a clause stored anew
 
-pub view-length : {v n sl : ℕ} {c : List ℕ} {l w : List ℤ} → Formed v n sl false c l w → (i : ℕ) → i < n → length (literalsOf c l i) ≡ lengthOf c i
-view-length {c = c} {l = l} F i lt = length-take-le (lengthOf c i) (drop (startOf c i) l) (omega (arith, part-inside F i lt, length-drop (startOf c i) l))
-
 module _ {v n sl : ℕ} {t : Tables} {k : core.Core} (F : Formed v n sl false (t .clauses) (t .literals) (t .variables)) (R : Represented v n false t k) (i : ℕ) (lt : i < n) where
   -- what stands of clause i
   pub stands-as : T.standing (t .clauses) i ≡ 1 → core.clauseAt k i ≡ standing (map slotOf (literalsOf (t .clauses) (t .literals) i))
   unfolding clauseOf
   stands-as e = R .clauses i lt ∙ ap (λ (x : ℕ). elim x as (λ y. Clause) [ zero ↦ dropped | suc _ ↦ standing (map slotOf (literalsOf (t .clauses) (t .literals) i)) ]) e
 
-  -- its literals are of the variables
-  pub member-lit : {l : ℤ} → List·Memᴰ l (literalsOf (t .clauses) (t .literals) i) → Literal v l
-  member-lit m = let k = mem-at (literalsOf (t .clauses) (t .literals) i) m in subst (Literal v) (sym (k .2)) (clause-fits F i lt .ranged (k .0) (k .1))
+  pub drops-as : T.standing (t .clauses) i ≡ 0 → core.clauseAt k i ≡ dropped
+  unfolding clauseOf
+  drops-as e = R .clauses i lt ∙ ap (λ (x : ℕ). elim x as (λ y. Clause) [ zero ↦ dropped | suc _ ↦ standing (map slotOf (literalsOf (t .clauses) (t .literals) i)) ]) e
 
   -- the tables with clause i holding D, flagged f, are what stands with clause i put anew
   pub put-represented : (D : List ℤ) (f : ℕ) (x : Clause) → length D ≤ lengthOf (t .clauses) i → x ≡ (elim f as (λ y. Clause) [ zero ↦ dropped | suc _ ↦ standing (map slotOf D) ])
@@ -122,7 +120,7 @@ module _ {v n : ℕ} {t : Tables} {k : core.Core} (R : Represented v n false t k
   learn-represented = record {
     number = R .number;
     clauses = R .clauses;
-    classes = λ s h. R .classes s h ∙ ap (λ (y : ℤ). slotOf (signBy (nonNeg (litAt s)) y)) (sym (set-classes rows (natAbs c) (class-ranged K .above) (class-ranged K .within) (class-own K) (signBy (nonNeg c) (pos 1)) tri (natAbs (litAt s))));
+    classes = λ s h. R .classes s h ∙ ap (λ (y : ℤ). slotOf (signBy (nonNeg (litAt s)) y)) (sym (true-classes rows x X (natAbs (litAt s))));
     facts = λ s h.
         ap (λ (y : ℕ). eqb s y || k .facts s) (class-is R rows x X)
         ∙ facts-set (t .variables) c (class-ranged K .above) (known-place (known-class K)) s (k .facts s) (sym (R .facts s h)) (complement-true (t .variables) c (class-ranged K .above) ∙ kept);
@@ -135,9 +133,6 @@ module _ {v n : ℕ} {t : Tables} {k : core.Core} (R : Represented v n false t k
 
       c : ℤ
       c = values.classLiteral (t .variables) x
-
-      tri : natAbs (signBy (nonNeg c) (pos 1)) ≤ 1
-      tri = omega (arith, abs-signed (nonNeg c) (pos 1))
 
 -- what a simulated step leaves: moves from k to some k′ that the tables represent
 pub record Simulated (v n : ℕ) (mark : Bool) (t : Tables) (k : core.Core) : Type 0 where
@@ -153,7 +148,7 @@ module _ {v n : ℕ} {t : Tables} {k : core.Core} (F : Formed v n n false (t .cl
       let m = any-out (values.isTrue (t .variables)) (literalsAt t i) h in
       record {
         to = core.put i dropped k;
-        moves = go stay (change (satisfied i (stands-as F R i lt stands) (map-mem (literalsAt t i) (m .1)) (true-is R (F .vars) (m .0) (member-lit F R i lt (m .1)) ∙ m .2)));
+        moves = go stay (change (satisfied i (stands-as F R i lt stands) (map-mem (literalsAt t i) (m .1)) (true-is R (F .vars) (m .0) (fit-member (clause-fits F i lt) (m .1)) ∙ m .2)));
         tied = put-represented F R i lt [] 0 dropped (omega arith) refl;
       }
 
@@ -167,14 +162,14 @@ module _ {v n : ℕ} {t : Tables} {k : core.Core} (F : Formed v n n false (t .cl
       by-test (r .0) (r .1) (r .2) (values.isFalse (t .variables) (r .0)) refl
     where
       by-test : (l : ℤ) → List·Memᴰ l (literalsAt t i) → s ≡ slotOf l → (b : Bool) → values.isFalse (t .variables) l ≡ b → List·Memᴰ s (map slotOf (notFalse (t .variables) (literalsAt t i))) ⊎ (core.isFalse k s ≡ true)
-      by-test l m q true e = inr (ap (core.isFalse k) q ∙ false-is R (F .vars) l (member-lit F R i lt m) ∙ e)
+      by-test l m q true e = inr (ap (core.isFalse k) q ∙ false-is R (F .vars) l (fit-member (clause-fits F i lt) m) ∙ e)
       by-test l m q false e = inl (subst (λ (x : ℕ). List·Memᴰ x (map slotOf (notFalse (t .variables) (literalsAt t i)))) (sym q) (map-mem (notFalse (t .variables) (literalsAt t i)) (in-filter (λ y. not (values.isFalse (t .variables) y)) (literalsAt t i) m (ap not e))))
 
   shorter : Change k (core.put i (standing (map slotOf (notFalse (t .variables) (literalsAt t i)))) k)
   shorter = falsified i (stands-as F R i lt stands) remain gone-false
 
   size : length (notFalse (t .variables) (literalsAt t i)) ≤ lengthOf (t .clauses) i
-  size = omega (arith, filter-shorter (λ l. not (values.isFalse (t .variables) l)) (literalsAt t i), view-length F i lt)
+  size = omega (arith, filter-shorter (λ l. not (values.isFalse (t .variables) l)) (literalsAt t i), part-length F i lt)
 
   pub simulate-left : Simulated v n false (shortened i (notFalse (t .variables) (literalsAt t i)) t) k
   unfolding shortened
@@ -199,7 +194,7 @@ module _ {v n : ℕ} {t : Tables} {k : core.Core} (F : Formed v n n false (t .cl
       member = subst (List·Memᴰ x) (sym e) (List·Memᴰ·head refl)
 
       X : Literal v x
-      X = member-lit F R i lt (mem-filter (λ l. not (values.isFalse (t .variables) l)) (literalsAt t i) member)
+      X = fit-member (clause-fits F i lt) (mem-filter (λ l. not (values.isFalse (t .variables) l)) (literalsAt t i) member)
 
       put-twice : Represented v n false (tables (recorded (t .clauses) i 0 0) (storedAt (t .clauses) (t .literals) i []) (t .variables) (t .times) (t .links)) (core.put i dropped (core.put i (standing (slotOf x ∷ [])) k))
       put-twice =

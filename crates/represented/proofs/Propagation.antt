@@ -14,7 +14,7 @@ use Rattle.tables.specs.Fates.{Fate, store, fateAt}
 use Rattle.tables.specs.Fates as fates
 use Rattle.propagate.specs.Propagate.{Progress, going, settled, contradicted, onward, changes, visited, notFalse, remaining, propagateClause, propagateVisit, propagateVisits}
 use Rattle.propagate.proofs.Parting.{fate-true, fate-left}
-use Rattle.propagate.proofs.Keeping.{FormedIn}
+use Rattle.clauses.proofs.Keeping.{FormedIn, formed-cases}
 use Rattle.propagate.proofs.Stepping.{Good, visit-good}
 use Rattle.demand.specs.Core as core
 use Rattle.demand.specs.Moves.{Freshness, spent, Moves, stay, go}
@@ -63,8 +63,8 @@ module _ {v n : ℕ} {t : Tables} {k : core.Core} (F : FormedIn v n t) (R : Repr
   by-remaining e (x ∷ y ∷ D) q = subst (λ (C : List ℤ). Simulated v n false (store i (fates.left C) t) k) q (simulate-left F R i lt e)
 
   fate-simulated : Simulated v n (sets (fateAt (propagateClause (t .variables)) i t)) (store i (fateAt (propagateClause (t .variables)) i t) t) k
-  unfolding fateAt
-  fate-simulated = by-flag (T.standing (t .clauses) i) refl
+  fate-simulated =
+      formed-cases t F i lt (propagateClause (t .variables)) As (λ e. record { to = k; moves = stay; tied = R }) (by-test (any (values.isTrue (t .variables)) (literalsAt t i)) refl)
     where
       As : Fate → Type 0
       As f = Simulated v n (sets f) (store i f t) k
@@ -72,10 +72,6 @@ module _ {v n : ℕ} {t : Tables} {k : core.Core} (F : FormedIn v n t) (R : Repr
       by-test : (b : Bool) → any (values.isTrue (t .variables)) (literalsAt t i) ≡ b → T.standing (t .clauses) i ≡ 1 → As (propagateClause (t .variables) (literalsAt t i))
       by-test true h e = subst As (sym (fate-true (t .variables) (literalsAt t i) h)) (simulate-dropped F R i lt e h)
       by-test false h e = subst As (sym (fate-left (t .variables) (literalsAt t i) h)) (by-remaining e (notFalse (t .variables) (literalsAt t i)) refl)
-
-      by-flag : (x : ℕ) → T.standing (t .clauses) i ≡ x → As (elim x as (λ y. Fate) [ zero ↦ fates.kept | suc _ ↦ propagateClause (t .variables) (literalsAt t i) ])
-      by-flag zero e = record { to = k; moves = stay; tied = R }
-      by-flag (suc x) e = by-test (any (values.isTrue (t .variables)) (literalsAt t i)) refl (let o = F .rule .parts .flag i lt in omega (arith, o, e))
 
   pub visit-follows : (changed : Bool) → Follows v n (propagateVisit n i changed t) k
   unfolding propagateVisit

@@ -17,7 +17,8 @@ use Rattle.tables.specs.Tables as T
 use Rattle.tables.specs.Values.{classLiteral}
 use Rattle.tables.specs.Clauses.{literalsOf, slotsAt, slotsFrom}
 use Rattle.clauses.specs.Formed.{Formed, FitClause}
-use Rattle.clauses.proofs.Forming.{clause-fits}
+use Rattle.clauses.proofs.Forming.{clause-fits, part-length}
+use Rattle.clauses.proofs.Fitting.{fit-member}
 use Rattle.merge.proofs.Merged.{slot-variable}
 use Rattle.sound.specs.Formula.{Clause, dropped, standing, literalsIn, graph}
 use Rattle.sound.specs.Kept.{Shaped}
@@ -25,7 +26,7 @@ use Rattle.demand.specs.Core as core
 use Rattle.demand.specs.Moves.{Owned}
 use Rattle.represented.specs.Represented.{clauseOf, Represented}
 use Rattle.represented.proofs.Literals.{class-is}
-use Rattle.represented.proofs.Propagated.{literalsAt, mem-map, mem-at, member-lit, view-length}
+use Rattle.represented.proofs.Propagated.{literalsAt, mem-map, mem-at}
 use Rattle.represented.proofs.Standing.{mem-number, clause-stands}
 
 -- a class literal of a literal whose variable is its own class is that literal
@@ -70,7 +71,7 @@ module _ {v n sl : ℕ} {t : Tables} {k : core.Core} (F : Formed v n sl false (t
     below = λ C m l q.
         let r = clause-number m in
         let s = mem-map (literalsAt t (r .0)) (subst (List·Memᴰ l) (sym (r .2)) q) in
-        let L = member-lit F R (r .0) (r .1) (s .1) in
+        let L = fit-member (clause-fits F (r .0) (r .1)) (s .1) in
         subst (λ (x : ℕ). x < 2 * v) (sym (s .2)) (slot-below (s .0) v (L .above) (L .within));
     once = λ C m.
         let r = clause-number m in
@@ -88,7 +89,7 @@ module _ {v n sl : ℕ} {t : Tables} {k : core.Core} (F : Formed v n sl false (t
       none (x ∷ C) e = absurd (omega (arith, e))
 
       by : (j : ℕ) → j < n → (x : ℕ) → T.standing (t .clauses) j ≡ x → literalsIn (elim x as (λ y. Clause) [ zero ↦ dropped | suc _ ↦ standing (map slotOf (literalsAt t j)) ]) ≡ map slotOf (literalsAt t j)
-      by j lt zero e = none (literalsAt t j) (view-length F j lt ∙ F .rule .parts .dropped j lt e)
+      by j lt zero e = none (literalsAt t j) (part-length F j lt ∙ F .rule .parts .dropped j lt e)
       by j lt (suc x) e = refl
 
   pub graph-of : graph (k .clauses) ≡ implications (slotsFrom (t .clauses) (t .literals) n 0)
@@ -101,6 +102,6 @@ owned-of {v} {n} {t} {k} F R C m l q =
     let r = clause-number F R m in
     let s = mem-map (literalsAt t (r .0)) (subst (List·Memᴰ l) (sym (r .2)) q) in
     let j = mem-at (literalsAt t (r .0)) (s .1) in
-    let L = member-lit F R (r .0) (r .1) (s .1) in
+    let L = fit-member (clause-fits F (r .0) (r .1)) (s .1) in
     let own = clause-fits F (r .0) (r .1) .own (lt-ltb (r .0) n (r .1)) (j .0) (j .1) in
     ap (k .class) (s .2) ∙ class-is R (F .vars) (s .0) L ∙ ap slotOf (own-literal (t .variables) (s .0) (L .above) (subst (λ (x : ℤ). classOf (t .variables) (natAbs x) ≡ pos (natAbs x)) (sym (j .2)) own)) ∙ sym (s .2)

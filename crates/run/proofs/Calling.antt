@@ -1,26 +1,17 @@
 -- The call: a call that is not refused finds what a run needs, and each way of its entry is a way of `runCall`. Assumes nothing.
 use Prim.Native.Nat.{ℕ}
-use native.Mathlib.Omega.{arith}
-use mathlib.Core.Path.{_≡_, refl, sym, ap}
+use mathlib.Core.Path.{_≡_, sym, ap}
 use Rattle.state.specs.declared.State.{State}
-use Rattle.state.specs.declared.Pass.{Pass}
-use Rattle.state.specs.declared.Pass.the-variants.{Idle, Propagate, Merge, Sweep}
 use Rattle.state.specs.declared.Refusal.{Refusal}
 use Rattle.tables.specs.Tables.{Tables}
 use Rattle.tables.specs.Calls.{refuse}
-use Rattle.shape.specs.Entry.{passNumber, entryOf}
+use Rattle.shape.specs.Entry.{entryOf}
 use Rattle.shape.specs.declared.Entry.{Entry}
 use Rattle.shape.specs.declared.Entry.the-variants.{No, Opens, Resumes}
-use Rattle.shape.proofs.Entering.{Entered, opens-entered, resumes-entered}
-use Rattle.run.specs.Run.{programme, runFrom, runReply, runBy, runCall}
+use Rattle.shape.proofs.Entering.{no-pass, Entered, opens-entered, resumes-entered}
 use Rattle.settle.specs.Steps.{standingIn}
+use Rattle.run.specs.Run.{programme, runFrom, runReply, runBy, runCall}
 use Rattle.run.specs.Steps.{Runs}
-
-no-pass : (p : Pass) → passNumber p ≡ 0 → p ≡ Idle
-no-pass Idle e = refl
-no-pass (Propagate k b) e = absurd (omega arith)
-no-pass (Merge k) e = absurd (omega arith)
-no-pass (Sweep k) e = absurd (omega arith)
 
 module _ (t : Tables) (st : State) where
   entered-runs : Entered 0 t st → Runs (standingIn t st)

@@ -15,8 +15,6 @@ use Rattle.literal.specs.Clauses.{has}
 use Rattle.literal.proofs.Laws.{slot-lit, lit-var, literal-tested}
 use Rattle.literal.proofs.Signed.{ne-eqZ}
 use Rattle.stamp.specs.Stamp.{badEntry, firstBad}
-use Rattle.stamp.specs.Asking.{Full}
-use Rattle.stamp.proofs.Ordering.{good-full}
 use Rattle.run.specs.Run.{turnBy, orderOf}
 use Rattle.run.proofs.Orders.{listed, listed-length, turn-le, order-is, order-length}
 
@@ -107,6 +105,3 @@ module _ (v k : ℕ) where
     pub order-passes : firstBad v (orderOf v k) ≡ 2 * v
     unfolding firstBad
     order-passes = first-none (badEntry v (orderOf v k)) (length (orderOf v k)) 0 (λ j a b. right j (omega (arith, b, order-length v k))) ∙ (let q : 0 + length (orderOf v k) ≡ 2 * v = omega (arith, order-length v k) in q)
-
-    pub order-full : Full v (orderOf v k)
-    order-full = good-full v (orderOf v k) (order-length v k) (omega (arith, order-passes))

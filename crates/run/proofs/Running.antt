@@ -1,7 +1,7 @@
 -- What stands between two passes of a run: every call would open its pass, so that the parts of the calls that Run uses have what they ask for. Assumes nothing.
 use Prim.Native.Nat.{ℕ, _≤_}
 use native.Mathlib.Omega.{arith}
-use mathlib.Core.Path.{_≡_, refl, sym, ap, subst, _∙_}
+use mathlib.Core.Path.{_≡_, refl, sym, ap, _∙_}
 use mathlib.Core.Bool.{Bool, true, false}
 use mathlib.Core.List.{List}
 use lib.IntN.{ℤ}
@@ -24,7 +24,7 @@ use Rattle.failed.specs.Steps.{Callable}
 use Rattle.failed.proofs.Calling.{opens-callable}
 use Rattle.sweep.specs.Sweep as sweeping
 use Rattle.sweep.specs.Visits.{Ready}
-use Rattle.sweep.proofs.Entering.{Enters, opens, entered-ready}
+use Rattle.sweep.proofs.Entering.{entered-ready}
 use Rattle.settle.specs.Settle.{Standing, between, settle}
 use Rattle.run.specs.Run.{orderOf, follow}
 use Rattle.run.specs.Steps.{Runs}
@@ -53,7 +53,7 @@ module _ {w : Standing} (R : Runs w) where
   runs-callable = opens-callable (w .tables) (w .state) (runs-opens 0)
 
   pub runs-ready : (w .state .fresh ≡ true → Ready (w .state .n) (w .tables .clauses) (w .tables .literals) (w .tables .times) (w .tables .links)) × (sweeping.sweepCursor (w .state .pass) ≤ w .state .n)
-  runs-ready = entered-ready (w .tables) (w .state) (subst Enters (sym (runs-opens 3)) opens)
+  runs-ready = entered-ready runs-entered (λ z. omega arith)
 
   -- ---- Stamp in a given order
 

@@ -9,8 +9,7 @@ use lib.Dec.{ltb, eqb}
 use lib.IntN.{ℤ}
 use borrow.Author.Tests.{eq-eqb, ne-eqb, eqb-true, lt-ltb, le-ltb, ltb-false}
 use Rattle.state.specs.declared.State.{State}
-use Rattle.state.specs.declared.Pass.{Pass}
-use Rattle.state.specs.declared.Pass.the-variants.{Idle, Propagate, Merge, Sweep}
+use Rattle.state.specs.declared.Pass.the-variants.{Idle}
 use Rattle.state.specs.declared.Refusal.{Refusal}
 use Rattle.state.specs.declared.Refusal.the-variants.{Unsettled, Cyclic, Order, OtherPass, Shape as Misshapen}
 use Rattle.state.specs.declared.Answer.the-variants.{Stamped}
@@ -23,11 +22,12 @@ use Rattle.tables.specs.Passes.{firstUnsettled}
 use Rattle.tables.specs.Calls.{After, answered, after, refuse, state}
 use Rattle.shape.specs.Entry.{passNumber, unlessMarked, entryBy, entryOf}
 use Rattle.shape.specs.Decision.{shapeOk}
-use Rattle.shape.specs.Shape.{Shape, settledTo}
+use Rattle.shape.specs.Shape.{Shape}
 use Rattle.shape.specs.declared.Entry.{Entry}
-use Rattle.shape.proofs.Entering.{Entered, opens-entered, resumes-entered}
+use Rattle.shape.proofs.Entering.{no-pass, Entered, opens-entered, resumes-entered}
 use Rattle.clauses.specs.Formed.{Formed}
 use Rattle.clauses.proofs.Forming.{shape-formed}
+use Rattle.clauses.proofs.Entered.{entered-formed}
 use Rattle.stamping.specs.Stamping.{Proper}
 use Rattle.stamping.proofs.Graphing.{formed-proper}
 use Rattle.stamp.specs.Stamp.{firstBad, stampsOf, stampFresh, stampAcyclic, stampSettled, stampOrdered, stampBy, stampCall}
@@ -82,12 +82,6 @@ module _ (order : List ℤ) (t : Tables) (st : State) where
 
 -- ---- what a call that is not refused knows
 
-no-pass : (p : Pass) → passNumber p ≡ 0 → p ≡ Idle
-no-pass Idle e = refl
-no-pass (Propagate k b) e = absurd (omega arith)
-no-pass (Merge k) e = absurd (omega arith)
-no-pass (Sweep k) e = absurd (omega arith)
-
 pub record Known (order : List ℤ) (t : Tables) (st : State) : Type 0 where
   pub shape : Shape t st
   pub idle : st .pass ≡ Idle
@@ -97,11 +91,7 @@ pub record Known (order : List ℤ) (t : Tables) (st : State) : Type 0 where
 module _ (t : Tables) (st : State) where
   -- the tables of an open call
   pub opens-formed : entryOf 0 t st ≡ entry.Opens → Formed (st .v) (st .n) (st .n) false (t .clauses) (t .literals) (t .variables)
-  opens-formed e =
-      let E = opens-entered 0 t st e in
-      let F = shape-formed (E .shape) in
-      subst (λ (b : Bool). Formed (st .v) (st .n) (st .n) b (t .clauses) (t .literals) (t .variables)) (E .unmarked)
-      (subst (λ (p : Pass). Formed (st .v) (st .n) (settledTo p (st .n)) (st .mark) (t .clauses) (t .literals) (t .variables)) (no-pass (st .pass) (E .pass)) F)
+  opens-formed e = entered-formed (opens-entered 0 t st e) (λ z. omega arith)
 
   fit-ordered : (order : List ℤ) → askOrdered order t st ≡ Fit → (length order ≡ 2 * st .v) × (2 * st .v ≤ firstBad (st .v) order)
   unfolding askOrdered
