@@ -1,2 +1,4 @@
 pub mod Cases
+pub mod Booleans
 pub mod Lists
+pub mod Searches

@@ -6,6 +6,7 @@ use mathlib.Core.List.{List, [], _∷_}
 use lib.IntN.{ℤ}
 use lib.ListN.{length}
 use lib.Dec.{ltb, eqb}
+use Rattle.base.proofs.Booleans.{or-left}
 use Rattle.state.specs.declared.State.{State}
 use Rattle.state.specs.declared.Pass.{Pass}
 use Rattle.tables.specs.Tables.{Tables, lengthOf}
@@ -157,10 +158,6 @@ round-many k (code ∷ codes) {w} R = go (follow k code w .state .mark) refl (ro
 
 -- ---- the call
 
-first-false : (a b : Bool) → (a || b) ≡ false → a ≡ false
-first-false true b e = e
-first-false false b e = refl
-
 rounds-many : (codes : List ℕ) (m k : ℕ) {w : Standing} → Runs w → AsMany (w .tables) (runFrom codes m k w .standing .tables)
 unfolding runFrom
 rounds-many codes zero k {w} R = same (w .tables)
@@ -169,7 +166,7 @@ rounds-many codes (suc m) k {w} R = go (round k codes w .state .mark || unchange
     go : (b : Bool) → (round k codes w .state .mark || unchanged w (round k codes w)) ≡ b → (Runs (round k codes w) → AsMany (round k codes w .tables) (runFrom codes m (suc k) (round k codes w) .standing .tables))
         → AsMany (w .tables) ((elim b as (λ x. Rounds) [ true ↦ rounds (suc k) (round k codes w) | false ↦ runFrom codes m (suc k) (round k codes w) ]) .standing .tables)
     go true e rest = round-many k codes R
-    go false e rest = on (round-many k codes R) (rest (round-runs k codes w R (first-false (round k codes w .state .mark) (unchanged w (round k codes w)) e)))
+    go false e rest = on (round-many k codes R) (rest (round-runs k codes w R (or-left (round k codes w .state .mark) (unchanged w (round k codes w)) e)))
 
 -- THE LAW
 pub run-many : (n : ℕ) (t : Tables) (st : State) → AsMany t (runCall n t st .tables)

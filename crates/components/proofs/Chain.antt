@@ -5,8 +5,8 @@ use native.Mathlib.Omega.{arith}
 use mathlib.Core.Path.{_≡_, sym, ap, subst, _∙_}
 use mathlib.Core.List.{List, List·Memᴰ}
 use lib.ListN.{length, take, replicate, length-replicate}
-use lib.Seq.{length-take-le}
 use lib.IntN.{ℤ}
+use Rattle.base.proofs.Lists.{front-zeros}
 use Rattle.walk.specs.Ready.{adjOf, Graph}
 use Rattle.walk.specs.Forest.{Reach, here, on}
 use Rattle.literal.specs.Literals.{twin}
@@ -78,9 +78,6 @@ module _ {v n : ℕ} {cs : List ℕ} {ls : List ℤ} (L : Listed v n cs ls) {d f
       (λ k kl. built-adj (froms clauses) (tos clauses) offsets targets (2 * v) r B k kl) q lt
 
 -- ---- the scratch that `representatives` owns
-
-pub front-zeros : (k m : ℕ) → k ≤ m → length (take k (replicate {A = ℕ} m 0)) ≡ k
-front-zeros k m le = length-take-le k (replicate m 0) (omega (arith, le, length-replicate {A = ℕ} m 0))
 
 pub own-room : {v n : ℕ} {cs : List ℕ} {ls : List ℤ} → Listed v n cs ls → Room v n cs ls (replicate 8192 0) (replicate 8192 0) (take (2 * v + 1) (replicate 2049 0)) (replicate 8192 0)
 own-room {v} L = record {

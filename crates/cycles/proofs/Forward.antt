@@ -11,8 +11,9 @@ use mathlib.Core.List.{List, [], _∷_, List·Memᴰ}
 use lib.Dec.{ltb, eqb}
 use borrow.Author.Tests.{ltb-true, ltb-false}
 use Rattle.base.specs.Lists.{anyBelow}
+use Rattle.base.proofs.Booleans.{and-left, and-right, bool-or, clash, and-both, differ, differs}
+use Rattle.base.proofs.Searches.{anyBelow-in, anyBelow-out}
 use Rattle.literal.specs.Literals.{twin}
-use Rattle.literal.proofs.Signed.{and-left, and-right}
 use Rattle.literal.proofs.Twins.{twin-twice, twin-below}
 use Rattle.walk.specs.Walk.{Stamps}
 use Rattle.walk.specs.Forest.{dis, fin, Holds, Parted, Reach, here, on}
@@ -22,7 +23,6 @@ use Rattle.graph.proofs.Csr.{outs-mem}
 use Rattle.graph.proofs.Implications.{flip, tos-mem, no-self-edge}
 use Rattle.groups.specs.Groups.{reaches, connected, cyclic}
 use Rattle.groups.proofs.Least.{reaches-means}
-use Rattle.hidden.proofs.Basics.{bool-or, clash, and-both, differ, differs, anyBelow-in, anyBelow-out}
 use Rattle.cycles.specs.Forward.{Cycle, Acyclic, forward}
 use Rattle.cycles.proofs.Edges.{Edge, first, later, outs-edge, edge-outs}
 

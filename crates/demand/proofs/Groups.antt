@@ -13,8 +13,9 @@ use mathlib.Core.List.{List, map}
 use lib.Dec.{ltb}
 use borrow.Author.Tests.{ltb-true, ltb-false, lt-ltb, le-ltb}
 use Rattle.base.specs.Decide.{same-or}
+use Rattle.base.proofs.Booleans.{and-left, and-right, clash, and-both}
+use Rattle.base.proofs.Searches.{anyBelow-in, anyBelow-out}
 use Rattle.literal.specs.Literals.{twin}
-use Rattle.literal.proofs.Signed.{and-left, and-right}
 use Rattle.literal.proofs.Twins.{twin-even, twin-odd, twin-below}
 use Rattle.walk.specs.Forest.{Reach, here}
 use Rattle.graph.specs.Skew.{Skew}
@@ -23,7 +24,6 @@ use Rattle.groups.specs.Groups.{reaches, connected, leastMutual}
 use Rattle.groups.proofs.Least.{reaches-means, least-mutual}
 use Rattle.groups.proofs.Classes.{same-rep, twin-rep}
 use Rattle.merge.specs.Merge.{clashes}
-use Rattle.hidden.proofs.Basics.{clash, and-both, anyBelow-in, anyBelow-out}
 use Rattle.sound.specs.Formula.{literalsIn, graph}
 use Rattle.sound.specs.Kept.{Shaped}
 use Rattle.sound.proofs.Graph.{shaped-below}

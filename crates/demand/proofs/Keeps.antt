@@ -9,13 +9,14 @@ use lib.Seq.{getD-set-same, getD-set-other, set-out}
 use lib.Dec.{eqb}
 use borrow.Author.Tests.{eqb-true, eq-eqb}
 use Rattle.base.specs.Decide.{same-or, le-or}
+use Rattle.base.proofs.Booleans.{clash, both-ways, or-either}
+use Rattle.base.proofs.Lists.{sub-mem, mem-getD}
 use Rattle.literal.specs.Literals.{twin}
 use Rattle.literal.specs.Assignments.{Assignment}
 use Rattle.hidden.specs.Failed.{failedSlot}
-use Rattle.hidden.proofs.Basics.{clash, same-truth, or-either, sub-mem}
 use Rattle.sound.specs.Formula.{Clause, dropped, standing, value, True, Sat, Models}
 use Rattle.sound.proofs.Truth.{true-or, not-both}
-use Rattle.sound.proofs.Sound.{mem-nth, nth-mem, reach-true}
+use Rattle.sound.proofs.Sound.{nth-mem, reach-true}
 use Rattle.sound.proofs.Fresh.{Fresh, fresh-stamp, fresh-sweep, sweep-models, failed-true}
 use Rattle.demand.specs.Core.{Core, Stands, load, clauseAt, put, learn, marked, isTrue, isFalse}
 use Rattle.demand.specs.Moves.{Change, satisfied, falsified, unit, conflict, contrary, grouped, substituted, tautology, Freshness, spent, fresh, Move, change, spend, stamp, failed, opposite, sweep, Moves, stay, go}
@@ -39,7 +40,7 @@ models-nth τ f M i = at (getD f i dropped) refl
     at (standing C) e = M C (nth-mem f i C e)
 
 nth-models : (τ : Assignment) (f : List Clause) → ((i : ℕ) → SatC τ (getD f i dropped)) → Models τ f
-nth-models τ f all C m = let r = mem-nth f m in subst (SatC τ) (r .1) (all (r .0))
+nth-models τ f all C m = let r = mem-getD f dropped m in subst (SatC τ) (r .2) (all (r .0))
 
 -- a formula with one clause replaced by one that is true under the same conditions
 module _ (τ : Assignment) (f : List Clause) (i : ℕ) (c : Clause) where
@@ -136,7 +137,7 @@ change-same {k} (grouped ρ owned both once) = λ τ. (
   where
     -- literals that reach each other have the same truth
     equal : (τ : Assignment) → Models τ (k .clauses) → (s : ℕ) → value τ (ρ s) ≡ value τ s
-    equal τ M s = same-truth (value τ (ρ s)) (value τ s) (λ t. reach-true (k .clauses) τ M (both s .1) t) (λ t. reach-true (k .clauses) τ M (both s .0) t)
+    equal τ M s = both-ways (value τ (ρ s)) (value τ s) (λ t. reach-true (k .clauses) τ M (both s .1) t) (λ t. reach-true (k .clauses) τ M (both s .0) t)
 change-same {k} (substituted i {C = C} {D = D} e s all) =
     swap-same k i C D e (λ τ M. (
       λ h. let r = Memᴰ·of-map (k .class) C (sub-mem s (h .1)) in (r .0, r .1, M .0 (r .0) ∙ ap (value τ) (r .2) ∙ h .2),

@@ -12,13 +12,13 @@ use mathlib.Core.List.{List, [], _∷_, _++_, map}
 use lib.ListN.{length, getD, drop, length-map, List·getD-map}
 use lib.IntN.{ℤ, pos}
 use Rattle.base.specs.Lists.{interleave}
+use Rattle.base.proofs.Lists.{map-self}
 use Rattle.literal.specs.Literals.{slotOf, litAt}
 use Rattle.literal.proofs.Laws.{slot-lit}
 use Rattle.walk.specs.Walk.{Stamps}
 use Rattle.walk.specs.Forest.{fin, par}
 use Rattle.stamps.specs.Columns.{columns}
 use Rattle.hidden.specs.Hidden.{hiddenTautology, shorten}
-use Rattle.hidden.proofs.Basics.{map-self}
 use Rattle.hidden.proofs.Intervals.{Within}
 use Rattle.hidden.proofs.Shorten.{shorten-slots}
 use Rattle.hidden.proofs.Agree.{Agree, tautology-agree, shorten-agree}

@@ -283,3 +283,8 @@ judge-is v l (w ∷ ws) end ok = go (meaning (w .bytes)) refl (ltb 0 (l .clauses
         lit : (u : Bool) → (ltb 0 (l .clauses) && (leb n v && ltb 0 (l .literals))) ≡ u → (judge v l (w ∷ ws) end ok ≡ ok) ⊎ ((r : Refusal) × (judge v l (w ∷ ws) end ok ≡ Refused r))
         lit true q = rw (m, judge, q) b
         lit false q = inr (Limit (w .at), rw (m, judge, q))
+
+-- ---- a text is not both refused and accepted
+
+pub not-fits : (x : Verdict) (r : Refusal) (v n body : ℕ) → x ≡ Refused r → x ≡ Fits v n body → ⊥
+not-fits x r v n body p q = let z : _≡_ {A = ℕ} 0 1 = cc in omega arith

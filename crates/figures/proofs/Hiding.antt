@@ -5,18 +5,17 @@
 use Prim.Native.Nat.{ℕ, _≤_, _<_}
 use native.Mathlib.Omega.{arith}
 use mathlib.Core.Path.{_≡_, refl, sym, ap, _∙_}
-use mathlib.Core.Bool.{Bool, true, false, not, _&&_, _||_}
+use mathlib.Core.Bool.{Bool, true, false, not, _&&_, _||_, or-false}
 use mathlib.Core.List.{List, [], _∷_, List·Memᴰ, List·Memᴰ·head, List·Memᴰ·tail}
 use lib.Dec.{ltb, eqb}
 use borrow.Author.Tests.{ltb-true, ltb-false, lt-ltb, le-ltb, eq-eqb}
 use Rattle.base.specs.Lists.{any, filter}
-use Rattle.base.proofs.Lists.{any-here, any-next}
-use Rattle.literal.proofs.Signed.{and-left, and-right}
+use Rattle.base.proofs.Booleans.{and-left, and-right, clash, both-ways, and-both, differ, differs}
+use Rattle.base.proofs.Lists.{any-here, any-next, filter-same, any-same, no-any}
 use Rattle.walk.specs.Walk.{Stamps}
 use Rattle.walk.specs.Forest.{dis, fin}
 use Rattle.hidden.specs.Hidden.{holds}
-use Rattle.hidden.proofs.Basics.{clash, same-truth, and-both, differ, differs, filter-same}
-use Rattle.hidden.proofs.Intervals.{Nested, holds-true, true-holds, inside}
+use Rattle.hidden.proofs.Intervals.{Nested, Below, holds-true, true-holds, inside}
 use Rattle.hidden.proofs.Sorted.{Rising}
 use Rattle.figures.specs.Figures.{least, inner, outer}
 
@@ -26,20 +25,6 @@ holdsOne σ xs x = any (λ m. not (eqb m x) && holds σ x m) xs
 
 abbrev pub heldByOne : Stamps → List ℕ → ℕ → Bool
 heldByOne σ xs x = any (λ m. not (eqb m x) && holds σ m x) xs
-
-abbrev pub Below : ℕ → List ℕ → Type 0
-Below size xs = (x : ℕ) → List·Memᴰ x xs → x < size
-
--- tests that agree on the list
-pub any-same : {A : Type 0} (p q : A → Bool) (xs : List A) → ((x : A) → List·Memᴰ x xs → p x ≡ q x) → any p xs ≡ any q xs
-unfolding any
-any-same p q [] h = refl
-any-same p q (x ∷ xs) h = λ i. elim (h x (List·Memᴰ·head refl) i) [ true ↦ true | false ↦ any-same p q xs (λ y m. h y (List·Memᴰ·tail m)) i ]
-
-no-any : (xs : List ℕ) → any (λ m. false) xs ≡ false
-unfolding any
-no-any [] = refl
-no-any (x ∷ xs) = no-any xs
 
 -- some element ends before f exactly if the least finish is below f
 pub least-any : (σ : Stamps) (f : ℕ) → f ≤ 4294967295 → (xs : List ℕ) → ltb (least σ xs) f ≡ any (λ m. ltb (fin σ m) f) xs
@@ -58,7 +43,7 @@ module _ (size : ℕ) (σ : Stamps) (N : Nested size σ) where
   -- of two slots, the one that is discovered no later holds the other exactly if the other ends before it
   later : (x m : ℕ) → x < size → m < size → dis σ x ≤ dis σ m → (not (eqb m x) && holds σ x m) ≡ ltb (fin σ m) (fin σ x)
   later x m lx lm le =
-      same-truth (not (eqb m x) && holds σ x m) (ltb (fin σ m) (fin σ x))
+      both-ways (not (eqb m x) && holds σ x m) (ltb (fin σ m) (fin σ x))
       (λ h. lt-ltb (fin σ m) (fin σ x) (inside size σ N x m lx lm (differ m x (and-left (not (eqb m x)) (holds σ x m) h)) (holds-true σ x m (and-right (not (eqb m x)) (holds σ x m) h)) .1))
       (λ h. let lt = ltb-true (fin σ m) (fin σ x) h in and-both (not (eqb m x)) (holds σ x m) (differs m x (λ e. omega (arith, lt, ap (fin σ) e))) (true-holds σ x m (le, omega arith)))
 
@@ -66,12 +51,12 @@ module _ (size : ℕ) (σ : Stamps) (N : Nested size σ) where
   later′ x m lx lm le = ap (λ (b : Bool). b && holds σ x m) (turned x m) ∙ later x m lx lm le
     where
       turned : (a b : ℕ) → not (eqb a b) ≡ not (eqb b a)
-      turned a b = same-truth _ _ (λ h. differs b a (λ e. differ a b h (sym e))) (λ h. differs a b (λ e. differ b a h (sym e)))
+      turned a b = both-ways _ _ (λ h. differs b a (λ e. differ a b h (sym e))) (λ h. differs a b (λ e. differ b a h (sym e)))
 
   -- a slot that is discovered no earlier than another does not hold it
   earlier : (x m : ℕ) → x < size → m < size → dis σ x ≤ dis σ m → (b : Bool) → (b ≡ true → x ≡ m → ⊥) → (b && holds σ m x) ≡ false
   earlier x m lx lm le b d =
-      same-truth (b && holds σ m x) false
+      both-ways (b && holds σ m x) false
       (λ h. absurd (omega (arith, le, inside size σ N m x lm lx (d (and-left b (holds σ m x) h)) (holds-true σ m x (and-right b (holds σ m x) h)) .0)))
       (λ h. clash h refl)
 
@@ -123,12 +108,8 @@ module _ (size : ℕ) (σ : Stamps) (N : Nested size σ) where
       none : heldByOne σ (x ∷ xs) x ≡ false
       none = any-next (λ m. not (eqb m x) && holds σ m x) x xs (self x (holds σ x x)) ∙ any-same _ (λ m. false) xs (λ m k. earlier x m lx (below m (List·Memᴰ·tail k)) (rise .0 m k) (not (eqb m x)) (λ h e. differ m x h (sym e))) ∙ no-any xs
 
-      or-no : (a : Bool) → (a || false) ≡ a
-      or-no true = refl
-      or-no false = refl
-
       first : (before x || heldByOne σ (x ∷ xs) x) ≡ ltb (fin σ x) d
-      first = ap (λ (b : Bool). before x || b) none ∙ or-no (before x) ∙ same x (List·Memᴰ·head refl)
+      first = ap (λ (b : Bool). before x || b) none ∙ or-false (before x) ∙ same x (List·Memᴰ·head refl)
 
       -- x counts with those in front
       and-x : ℕ → Bool

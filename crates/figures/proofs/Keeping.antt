@@ -7,13 +7,13 @@ use mathlib.Core.Bool.{true, false}
 use mathlib.Core.Logic.{⊎-elim}
 use mathlib.Core.List.{List, [], _∷_, _++_, append-nil, map}
 use lib.ListN.{length, take, drop, getD, set, length-set, drop-of-length-le}
-use lib.Seq.{drop-cons, set-split, take-suc-set, take-set-le, getD-set-other, append-snoc, length-take-le, drop-at, drop-length, getD-take, take-take, take-all}
+use lib.Seq.{drop-cons, set-split, take-suc-set, take-set-le, getD-set-other, append-snoc, length-take-le, drop-at, drop-length, take-take, take-all}
 use lib.Dec.{ltb, eqb}
 use lib.IntN.{ℤ, pos, negℤ, natAbs}
 use borrow.Author.Tests.{eq-eqb, ne-eqb}
 use Rattle.base.specs.Decide.{same-or, le-or}
 use Rattle.base.specs.Lists.{any}
-use Rattle.base.proofs.Lists.{filter-in, filter-out, any-here, any-next}
+use Rattle.base.proofs.Lists.{filter-in, filter-out, any-here, any-next, take-same}
 use Rattle.literal.specs.Literals.{Literal, slotOf, Small}
 use Rattle.literal.proofs.Compact.{Compact, start, stay, gone}
 use Rattle.literal.proofs.Signed.{abs-neg, small-neg}
@@ -33,9 +33,6 @@ pub record Mapping {A : Type 0} (f : A → ℕ) (d : A) (xs : List A) (out : Lis
   pub within : i ≤ length xs
   pub same : length out ≡ length xs
   pub left : map f xs ≡ take i out ++ map f (drop i xs)
-
-pub mapping-none : {A : Type 0} (f : A → ℕ) (d : A) (xs : List A) (out : List ℕ) → length out ≡ length xs → Mapping f d xs out 0
-mapping-none f d xs out e = record { within = omega arith; same = e; left = refl }
 
 module _ {A : Type 0} {f : A → ℕ} {d : A} {xs : List A} {out : List ℕ} {i : ℕ} (M : Mapping f d xs out i) where
   pub mapping-more : (y : ℕ) → i < length xs → y ≡ f (getD xs i d) → Mapping f d xs (set out i y) (i + 1)
@@ -94,7 +91,7 @@ module _ (σ : Stamps) (x : ℕ) (xs : List ℕ) where
 
 module _ {times xs₀ xs : List ℕ} {finished n i : ℕ} (N : Narrowing times xs₀ xs finished n i) (some : 0 < i) where
   last : getD xs (i - 1) 0 ≡ getD xs₀ (i - 1) 0
-  last = sym (getD-take i xs (i - 1) 0 (omega arith)) ∙ ap (λ (l : List ℕ). getD l (i - 1) 0) (N .front) ∙ getD-take i xs₀ (i - 1) 0 (omega arith)
+  last = take-same i (i - 1) xs xs₀ 0 (omega arith) (N .front)
 
   -- the slot before i, and the rest
   from : drop (i - 1) xs₀ ≡ getD xs (i - 1) 0 ∷ drop i xs₀
@@ -201,9 +198,6 @@ pub record Halving (xs : List ℕ) (s low high : ℕ) : Type 0 where
   pub within : high ≤ length xs
   pub before : (k : ℕ) → k < low → getD xs k 0 ≡ s → ⊥
   pub behind : (k : ℕ) → high ≤ k → k < length xs → getD xs k 0 ≡ s → ⊥
-
-pub halving-none : (xs : List ℕ) (s : ℕ) → Halving xs s 0 (length xs)
-halving-none xs s = record { ordered = omega arith; within = omega arith; before = λ k h e. omega arith; behind = λ k h l e. omega arith }
 
 pub among-at : (s : ℕ) (xs : List ℕ) (k : ℕ) → k < length xs → getD xs k 0 ≡ s → among s xs ≡ true
 unfolding any

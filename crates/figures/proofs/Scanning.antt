@@ -1,19 +1,17 @@
 -- The tests and the steps of the figure 6 scan. Assumes nothing.
 use Prim.Native.Nat.{ℕ, _+_, _*_, _≤_, _<_}
-use native.Mathlib.Numerals.{add-one}
 use native.Mathlib.Omega.{arith}
 use mathlib.Core.Path.{_≡_, refl, sym, ap, _∙_}
 use mathlib.Core.Bool.{Bool, true, false, _&&_, _||_}
 use mathlib.Core.List.{List, [], _∷_}
 use lib.ListN.{length, drop, getD, drop-of-length-le}
-use lib.Seq.{drop-cons}
 use lib.Dec.{ltb, eqb}
 use lib.IntN.{ℤ}
 use borrow.Author.Tests.{lt-ltb, le-ltb, eq-eqb, ne-eqb}
+use Rattle.base.proofs.Lists.{getD-mem, drop-step}
 use Rattle.literal.specs.Literals.{twin}
 use Rattle.walk.specs.Walk.{Stamps}
 use Rattle.walk.specs.Forest.{dis, fin, par}
-use Rattle.walk.proofs.Cycle.{mem-at}
 use Rattle.hidden.specs.Hidden.{passes, scanAt, scan}
 use Rattle.intervals.specs.Slots.{Child}
 use Rattle.figures.specs.Stamped.{Stamped, Two, Both}
@@ -30,11 +28,8 @@ module _ {v : ℕ} {times : List ℕ} {links : List ℤ} (S : Stamped v times li
     parent = record { above = S .fresh .parent-literal s lt .above; within = omega (arith, S .fresh .parent-literal s lt .within, S .few) };
   }
 
-  pub stamped-small : s < 65536
-  stamped-small = omega (arith, lt, S .few)
-
 pub both-two : {times : List ℕ} {links : List ℤ} {xs ys : List ℕ} → Both times links xs ys → (i j : ℕ) → i < length xs → j < length ys → Two times links (getD ys j 0) (getD xs i 0)
-both-two {times} {links} {xs} {ys} B i j lx ly = record { vars = B .vars; stamped = B .stamped; one = B .others (getD ys j 0) (mem-at ys 0 j (omega arith) ly); other = B .ones (getD xs i 0) (mem-at xs 0 i (omega arith) lx) }
+both-two {times} {links} {xs} {ys} B i j lx ly = record { vars = B .vars; stamped = B .stamped; one = B .others (getD ys j 0) (getD-mem ys j 0 ly); other = B .ones (getD xs i 0) (getD-mem xs i 0 lx) }
 
 -- ---- line 7, test by test
 
@@ -103,13 +98,10 @@ module _ {σ : Stamps} {two : Bool} {ps ns : List ℕ} {i j : ℕ} (S : Scanning
 
   module _ (lp : i < length ps) (ln : j < length ns) where
     heads : scan σ two ps ns ≡ scan σ two (getD ps i 0 ∷ drop (i + 1) ps) (getD ns j 0 ∷ drop (j + 1) ns)
-    heads = sym (S .left) ∙ (λ k. scan σ two (at ps i lp k) (at ns j ln k))
-      where
-        at : (xs : List ℕ) (k : ℕ) → k < length xs → drop k xs ≡ getD xs k 0 ∷ drop (k + 1) xs
-        at xs k lt = drop-cons xs k 0 lt ∙ ap (λ (m : ℕ). getD xs k 0 ∷ drop m xs) (sym (add-one k))
+    heads = sym (S .left) ∙ (λ k. scan σ two (drop-step ps i lp k) (drop-step ns j ln k))
 
     again : (xs : List ℕ) (k : ℕ) → k < length xs → getD xs k 0 ∷ drop (k + 1) xs ≡ drop k xs
-    again xs k lt = ap (λ (m : ℕ). getD xs k 0 ∷ drop m xs) (add-one k) ∙ sym (drop-cons xs k 0 lt)
+    again xs k lt = sym (drop-step xs k lt)
 
     pub scanning-next-pos : ltb (dis σ (getD ps i 0)) (dis σ (getD ns j 0)) ≡ true → Scanning σ two ps ns (i + 1) j
     scanning-next-pos e = record {

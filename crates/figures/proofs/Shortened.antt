@@ -4,20 +4,19 @@ use native.Mathlib.Omega.{arith}
 use mathlib.Core.Path.{_≡_, sym, ap, subst, _∙_}
 use mathlib.Core.Bool.{Bool, true, false, not}
 use mathlib.Core.Logic.{inl, inr, ⊎-elim}
-use mathlib.Core.List.{List, [], _∷_, _++_, map, List·Memᴰ, List·Memᴰ·cases-cons, List·Memᴰ·not-nil, Memᴰ·of-map}
+use mathlib.Core.List.{List, [], _∷_, _++_, map, List·Memᴰ, Memᴰ·of-map}
 use lib.ListN.{length, take, drop, getD, length-map, length-drop, replicate}
 use lib.Seq.{take-append-le}
 use lib.Dec.{ltb}
 use lib.IntN.{ℤ, pos, negℤ}
 use Rattle.base.specs.Decide.{same-or}
 use Rattle.base.specs.Lists.{filter}
-use Rattle.base.proofs.Lists.{mem-filter}
+use Rattle.base.proofs.Lists.{mem-filter, getD-mem, each-mem}
 use Rattle.literal.specs.Literals.{Literal, slotOf, twin}
 use Rattle.literal.proofs.Laws.{slot-below, slot-twin}
 use Rattle.literal.proofs.Twins.{twin-below}
 use Rattle.walk.specs.Walk.{Stamps}
 use Rattle.walk.specs.Forest.{dis, fin, Parted}
-use Rattle.walk.proofs.Cycle.{mem-at}
 use Rattle.stamps.specs.Columns.{columns}
 use Rattle.hidden.specs.Hidden.{byDiscovery, shorten}
 use Rattle.hidden.proofs.Intervals.{Nested, Within}
@@ -33,7 +32,7 @@ use Rattle.figures.proofs.Shortening.{innerSlots, outerTwins, inner-mem
 
 module _ {times xs : List ℕ} (I : Inside times xs) where
   pub inside-small : (k : ℕ) → k < length xs → getD xs k 0 < 65536
-  inside-small k lt = omega (arith, I .each (getD xs k 0) (mem-at xs 0 k (omega arith) lt), I .few)
+  inside-small k lt = omega (arith, I .each (getD xs k 0) (getD-mem xs k 0 lt), I .few)
 
   pub inside-twins : Slots times (map twin xs)
   inside-twins = record {
@@ -66,7 +65,7 @@ filter-rising σ p (x ∷ xs) r = go (filter-rising σ p xs (r .1)) (p x)
 rising-at : (σ : Stamps) (xs : List ℕ) → Rising σ xs → (j k : ℕ) → j < k → k < length xs → dis σ (getD xs j 0) ≤ dis σ (getD xs k 0)
 rising-at σ [] r j k lt h = absurd (omega arith)
 rising-at σ (x ∷ xs) r j zero lt h = absurd (omega arith)
-rising-at σ (x ∷ xs) r zero (suc k) lt h = r .0 (getD xs k 0) (mem-at xs 0 k (omega arith) (omega arith))
+rising-at σ (x ∷ xs) r zero (suc k) lt h = r .0 (getD xs k 0) (getD-mem xs k 0 (omega arith))
 rising-at σ (x ∷ xs) r (suc j) (suc k) lt h = rising-at σ xs (r .1) j k (omega arith) (omega arith)
 
 -- slots that are discovered together are one
@@ -80,11 +79,6 @@ same-discovery size σ N a b la lb e = ⊎-elim (λ q. q) (λ d. absurd (go (N .
     go (inr (inr (inr h))) = omega (arith, h .0, e)
 
 -- ---- a clause
-
--- what holds at each place holds of each element
-pub at-mem : (P : ℤ → Type 0) (C : List ℤ) → ((k : ℕ) → k < length C → P (getD C k (pos 0))) → (l : ℤ) → List·Memᴰ l C → P l
-at-mem P [] h l m = absurd (List·Memᴰ·not-nil m)
-at-mem P (x ∷ C) h l m = ⊎-elim (λ (e : l ≡ x). subst P (sym e) (h 0 (omega arith))) (λ t. at-mem P C (λ k lt. h (suc k) (omega arith)) l t) (List·Memᴰ·cases-cons m)
 
 inner-shorter : (σ : Stamps) (xs : List ℕ) → length (inner σ xs) ≤ length xs
 unfolding inner
@@ -100,7 +94,7 @@ module _ {times : List ℕ} {C : List ℤ} (K : Clause times C) where
   σ = columns times []
 
   literals : (l : ℤ) → List·Memᴰ l C → Literal (K .vars) l
-  literals = at-mem (Literal (K .vars)) C (K .each)
+  literals = each-mem (Literal (K .vars)) C (pos 0) (K .each)
 
   pub clause-within : Within (2 * K .vars) (map slotOf C)
   clause-within s m =
@@ -137,7 +131,7 @@ module _ {times : List ℕ} {C : List ℤ} (K : Clause times C) where
     lits = clause-lits;
     searched = λ k lt. record {
       rises = rising-at σ (outerTwins σ C) (subst (Rising σ) (sym outer-is) (filter-rising σ _ (byDiscovery σ (map twin (innerSlots σ C))) (sorted-rising σ (map twin (innerSlots σ C)))));
-      alone = λ j lj e. same-discovery (2 * K .vars) σ (K .nested) (getD (outerTwins σ C) j 0) (slotOf (negℤ (getD C k (pos 0)))) (outer-below (getD (outerTwins σ C) j 0) (mem-at (outerTwins σ C) 0 j (omega arith) lj)) (complement k lt) e;
+      alone = λ j lj e. same-discovery (2 * K .vars) σ (K .nested) (getD (outerTwins σ C) j 0) (slotOf (negℤ (getD C k (pos 0)))) (outer-below (getD (outerTwins σ C) j 0) (getD-mem (outerTwins σ C) j 0 lj)) (complement k lt) e;
     };
   }
     where

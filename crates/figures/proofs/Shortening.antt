@@ -1,66 +1,43 @@
 -- What the code of figure 5 keeps is the two filters. Assumes nothing.
 use Prim.Native.Nat.{ℕ, _≤_, _<_}
 use mathlib.Core.Path.{_≡_, refl, sym, ap, subst, _∙_}
-use mathlib.Core.Bool.{Bool, true, false, not, _&&_}
-use mathlib.Core.List.{List, [], _∷_, map, List·Memᴰ, Memᴰ·map, Memᴰ·of-map}
+use mathlib.Core.Bool.{Bool, true, not, _&&_}
+use mathlib.Core.List.{List, map, List·Memᴰ, Memᴰ·map, Memᴰ·of-map}
 use lib.Dec.{eqb}
 use lib.IntN.{ℤ, natAbs}
 use borrow.Author.Tests.{eqb-true, eq-eqb}
 use Rattle.base.specs.Lists.{any, filter}
-use Rattle.base.proofs.Lists.{mem-filter}
+use Rattle.base.proofs.Booleans.{both-ways, and-left, and-right}
+use Rattle.base.proofs.Lists.{mem-filter, filter-same, filter-map, any-in, any-out, filter-filter, any-same, any-filter, any-map}
 use Rattle.literal.specs.Literals.{slotOf, twin}
 use Rattle.literal.proofs.Laws.{slot-twin}
+use Rattle.literal.proofs.Twins.{twin-eq}
 use Rattle.walk.specs.Walk.{Stamps}
 use Rattle.walk.specs.Forest.{fin}
 use Rattle.hidden.specs.Hidden.{holds, byDiscovery, unhidden, shorten}
-use Rattle.hidden.proofs.Basics.{clash, same-truth, filter-same, filter-map, any-in, any-out}
-use Rattle.hidden.proofs.Intervals.{Nested, Within, twin-eq}
+use Rattle.hidden.proofs.Intervals.{Nested, Within, Below}
 use Rattle.hidden.proofs.Sorted.{sorted-in, sorted-out, sorted-rising}
 use Rattle.figures.specs.Figures.{inner, outer, among, keptBy}
-use Rattle.figures.proofs.Hiding.{holdsOne, heldByOne, Below, any-same, inner-filter, outer-filter}
+use Rattle.figures.proofs.Hiding.{holdsOne, heldByOne, inner-filter, outer-filter}
 
--- ---- some element of a filtered, mapped or sorted list
-
-pub any-filter : (p q : ℕ → Bool) (xs : List ℕ) → any q (filter p xs) ≡ any (λ x. p x && q x) xs
-unfolding any filter
-any-filter p q [] = refl
-any-filter p q (x ∷ xs) = go (any-filter p q xs) (p x) (q x) refl
-  where
-    go : any q (filter p xs) ≡ any (λ x. p x && q x) xs → (a b : Bool) → q x ≡ b
-        → any q (elim a [ true ↦ x ∷ filter p xs | false ↦ filter p xs ]) ≡ elim (a && b) [ true ↦ true | false ↦ any (λ x. p x && q x) xs ]
-    go r true true e = rw (e, any)
-    go r true false e = rw (e, any) r
-    go r false b e = r
-
-pub any-map : {A : Type 0} (f : A → ℕ) (p : ℕ → Bool) (xs : List A) → any p (map f xs) ≡ any (λ x. p (f x)) xs
-unfolding any
-any-map f p [] = refl
-any-map f p (x ∷ xs) = ap (λ (b : Bool). elim (p (f x)) [ true ↦ true | false ↦ b ]) (any-map f p xs)
+-- ---- some element of a sorted list
 
 pub any-sorted : (σ : Stamps) (p : ℕ → Bool) (xs : List ℕ) → any p (byDiscovery σ xs) ≡ any p xs
 any-sorted σ p xs =
-    same-truth _ _
+    both-ways _ _
     (λ h. let r = any-out p (byDiscovery σ xs) h in any-in p xs (sorted-out σ xs (r .1)) (r .2))
     (λ h. let r = any-out p xs h in any-in p (byDiscovery σ xs) (sorted-in σ xs (r .1)) (r .2))
 
 -- an element that passes a test and is s
 among-test : (s : ℕ) (p : ℕ → Bool) (xs : List ℕ) → any (λ m. p m && eqb m s) xs ≡ (among s xs && p s)
 among-test s p xs =
-    same-truth _ _
+    both-ways _ _
     (λ h. let r = any-out (λ m. p m && eqb m s) xs h in both (r .0) (r .1) (p (r .0)) refl (r .2))
-    (λ h. let r = any-out (λ m. eqb m s) xs (left (among s xs) (p s) h) in
-    any-in (λ m. p m && eqb m s) xs (r .1) (λ i. (ap p (eqb-true (r .0) s (r .2)) ∙ right (among s xs) (p s) h) i && r .2 i))
+    (λ h. let r = any-out (λ m. eqb m s) xs (and-left (among s xs) (p s) h) in
+    any-in (λ m. p m && eqb m s) xs (r .1) (λ i. (ap p (eqb-true (r .0) s (r .2)) ∙ and-right (among s xs) (p s) h) i && r .2 i))
   where
-    left : (a b : Bool) → (a && b) ≡ true → a ≡ true
-    left true b h = refl
-    left false b h = h
-
-    right : (a b : Bool) → (a && b) ≡ true → b ≡ true
-    right true b h = h
-    right false b h = clash h refl
-
     both : (m : ℕ) → List·Memᴰ m xs → (b : Bool) → p m ≡ b → (p m && eqb m s) ≡ true → (among s xs && p s) ≡ true
-    both m k b e h = let q = right (p m) (eqb m s) h in λ i. any-in (λ y. eqb y s) xs k q i && (ap p (sym (eqb-true m s q)) ∙ left (p m) (eqb m s) h) i
+    both m k b e h = let q = and-right (p m) (eqb m s) h in λ i. any-in (λ y. eqb y s) xs k q i && (ap p (sym (eqb-true m s q)) ∙ and-left (p m) (eqb m s) h) i
 
 among-filter : (s : ℕ) (p : ℕ → Bool) (xs : List ℕ) → among s (filter p xs) ≡ (among s xs && p s)
 among-filter s p xs = any-filter p (λ m. eqb m s) xs ∙ among-test s p xs
@@ -69,18 +46,7 @@ among-in : (s : ℕ) (xs : List ℕ) → List·Memᴰ s xs → among s xs ≡ tr
 among-in s xs m = any-in (λ y. eqb y s) xs m (eq-eqb s s refl)
 
 twins-same : (a b : ℕ) → eqb (twin a) (twin b) ≡ eqb a b
-twins-same a b = same-truth _ _ (λ h. eq-eqb a b (twin-eq (eqb-true (twin a) (twin b) h))) (λ h. eq-eqb (twin a) (twin b) (ap twin (eqb-true a b h)))
-
-filter-filter : {A : Type 0} (p q : A → Bool) (C : List A) → filter p (filter q C) ≡ filter (λ l. q l && p l) C
-unfolding filter
-filter-filter p q [] = refl
-filter-filter {A} p q (x ∷ C) = go (filter-filter p q C) (q x) (p x) refl
-  where
-    go : filter p (filter q C) ≡ filter (λ l. q l && p l) C → (b c : Bool) → p x ≡ c
-        → filter p (elim b [ true ↦ x ∷ filter q C | false ↦ filter q C ]) ≡ elim (b && c) [ true ↦ x ∷ filter (λ l. q l && p l) C | false ↦ filter (λ l. q l && p l) C ]
-    go rest true true e = rw (e, filter) (ap (λ (l : List A). x ∷ l) rest)
-    go rest true false e = rw (e, filter) rest
-    go rest false c e = rest
+twins-same a b = both-ways _ _ (λ h. eq-eqb a b (twin-eq (eqb-true (twin a) (twin b) h))) (λ h. eq-eqb (twin a) (twin b) (ap twin (eqb-true a b h)))
 
 -- ---- the slots that the code keeps of a clause
 

@@ -1,21 +1,22 @@
 -- The implication graph of the two-literal clauses: taking twins reverses it, and without a variable twice in a clause it has no edge from a slot to itself.
 -- Assumes nothing.
-use Prim.Native.Nat.{ℕ, zero, suc, _+_, _-_, _*_, _/_, _%_, _≤_, _<_}
+use Prim.Native.Nat.{ℕ, zero, suc, _+_, _-_, _*_, _/_, _≤_, _<_}
 use native.Mathlib.Omega.{arith}
 use mathlib.Core.Path.{_≡_, refl, sym, ap, subst, _∙_}
 use mathlib.Core.Bool.{Bool, true, false, not}
 use mathlib.Core.Logic.{_⊎_, inl, inr, ⊎-elim}
 use mathlib.Core.List.{List, [], _∷_, _++_, List·Memᴰ, List·Memᴰ·head, List·Memᴰ·tail, List·Memᴰ·not-nil, List·Memᴰ·cases-cons, List·Memᴰ·append-cases}
 use lib.ListN.{length, getD, take}
-use Rattle.walk.specs.Ready.{adjOf}
-use Rattle.base.specs.Lists.{absent}
 use Rattle.base.specs.Decide.{same-or}
+use Rattle.base.specs.Lists.{absent}
+use Rattle.base.proofs.Lists.{absent-not, absent-is}
+use Rattle.walk.specs.Ready.{adjOf}
 use Rattle.graph.specs.Skew.{Skew}
 use Rattle.literal.specs.Literals.{twin}
 use Rattle.graph.specs.Edges.{outs, Built}
 use Rattle.graph.specs.Clauses.{clauseFroms, clauseTos, froms, tos, implications, Once, empty, more}
-use Rattle.literal.proofs.Twins.{twin-even, twin-odd, twin-twice, twin-below}
-use Rattle.graph.proofs.Csr.{outs-in, outs-out, outs-mem, built-adj, absent-not, absent-is}
+use Rattle.literal.proofs.Twins.{twin-twice, twin-below, twin-variable}
+use Rattle.graph.proofs.Csr.{outs-in, outs-out, outs-mem, built-adj}
 
 -- ---- an edge is the first of the list, or a later one
 
@@ -107,13 +108,6 @@ implications-skew cs v slots =
 
 -- ---- no edge goes from a slot to itself
 
-pub twin-variable : (s : ℕ) → twin s / 2 ≡ s / 2
-twin-variable s =
-    ⊎-elim
-    (λ (e : s % 2 ≡ 0). omega (arith, e, twin-even s e))
-    (λ (d : s % 2 ≡ 0 → ⊥). omega (arith, d, twin-odd s d))
-    (same-or (s % 2) 0)
-
 -- neither edge of a clause of two variables
 no-loop : (a b p : ℕ) → Once (a ∷ b ∷ []) → ((twin a ≡ p) × (p ≡ b)) ⊎ ((twin b ≡ p) × (p ≡ a)) → ⊥
 no-loop a b p (more apart o) (inl e) = apart b (List·Memᴰ·head refl) (ap (λ (k : ℕ). k / 2) (sym (e .0 ∙ e .1)) ∙ twin-variable a)
@@ -188,7 +182,3 @@ pub built-skew : (cs : List (List ℕ)) (offsets targets : List ℕ) (v r : ℕ)
     → Built (froms cs) (tos cs) offsets targets (2 * v) r → Skew (adjOf offsets (take r targets)) twin (2 * v)
 built-skew cs offsets targets v r slots b =
     skew-as (implications cs) (adjOf offsets (take r targets)) twin (2 * v) (λ s lt. built-adj (froms cs) (tos cs) offsets targets (2 * v) r b s lt) (implications-skew cs v slots)
-
-pub built-no-self : (cs : List (List ℕ)) (offsets targets : List ℕ) (size r : ℕ) → ((c : List ℕ) → List·Memᴰ c cs → Once c)
-    → Built (froms cs) (tos cs) offsets targets size r → (s : ℕ) → s < size → List·Memᴰ s (adjOf offsets (take r targets) s) → ⊥
-built-no-self cs offsets targets size r once b s lt m = no-self-edge cs once s (subst (List·Memᴰ s) (built-adj (froms cs) (tos cs) offsets targets size r b s lt) m)

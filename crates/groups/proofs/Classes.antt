@@ -2,20 +2,21 @@
 -- Assumes nothing.
 use Prim.Native.Nat.{ℕ, zero, suc, _+_, _-_, _*_, _/_, _%_, _≤_, _<_}
 use native.Mathlib.Omega.{arith}
-use mathlib.Core.Path.{_≡_, refl, sym, ap, subst, _∙_}
+use mathlib.Core.Path.{_≡_, sym, ap, subst, _∙_}
 use mathlib.Core.Logic.{_⊎_, inl, inr, ⊎-elim}
 use mathlib.Core.List.{List}
-use mathlib.Core.Bool.{Bool, true, false, not}
-use Rattle.walk.specs.Forest.{Reach, here, on}
+use mathlib.Core.Bool.{Bool, true}
 use Rattle.base.specs.Decide.{same-or, le-or}
+use Rattle.base.proofs.Booleans.{both-ways, not-itself}
+use Rattle.walk.specs.Forest.{Reach, here, on}
 use Rattle.graph.specs.Skew.{Skew}
 use Rattle.literal.specs.Literals.{twin}
-use Rattle.walk.proofs.Theorems.{reach-implies}
+use Rattle.walk.proofs.Theorems.{reach-implies, reach-below}
 use Rattle.graph.specs.Clauses.{implications}
 use Rattle.literal.proofs.Twins.{twin-even, twin-odd}
 use Rattle.graph.proofs.Implications.{Satisfies, edge-true}
 use Rattle.groups.specs.Groups.{leastMutual, Representative}
-use Rattle.groups.proofs.Kosaraju.{reach-trans, reach-below, mirror}
+use Rattle.groups.proofs.Kosaraju.{reach-trans, mirror}
 use Rattle.groups.proofs.Least.{least-mutual, representative-is}
 
 -- of two literals of different variables the smaller slot has the smaller variable, so twins keep the order
@@ -67,7 +68,7 @@ module _ (adj : ℕ → List ℕ) (size : ℕ) (K : Skew adj twin size) where
         there = mirror adj twin size K (S .below) (S .back);
         back = mirror adj twin size K lt (S .there);
         least = λ b there back.
-            let bl : b < size = reach-below adj twin size K tl there in
+            let bl : b < size = reach-below adj size (K .inside) tl there in
             let to-s : Reach adj (twin b) s = back-again (twin b) (mirror adj twin size K tl there) in
             let from-s : Reach adj s (twin b) = subst (λ (x : ℕ). Reach adj x (twin b)) (K .twice s lt) (mirror adj twin size K bl back) in
             twin-order r b (S .least (twin b) from-s to-s)
@@ -79,15 +80,6 @@ module _ (adj : ℕ → List ℕ) (size : ℕ) (K : Skew adj twin size) where
   rep-variable s b lt there back = omega (arith, least-mutual adj size (K .inside) s lt .least b there back)
 
 -- ---- truth: what reaches each other is equal under every assignment that satisfies the clauses
-
-both-ways : (a b : Bool) → (a ≡ true → b ≡ true) → (b ≡ true → a ≡ true) → a ≡ b
-both-ways true b f g = sym (f refl)
-both-ways false true f g = g refl
-both-ways false false f g = refl
-
-not-itself : (a : Bool) → a ≡ not a → ⊥
-not-itself true e = let z : _≡_ {A = ℕ} 0 1 = cc in omega arith
-not-itself false e = let z : _≡_ {A = ℕ} 0 1 = cc in omega arith
 
 module _ (cs : List (List ℕ)) (val : ℕ → Bool) (S : Satisfies val cs) where
   pub reach-true : {a b : ℕ} → Reach (implications cs) a b → val a ≡ true → val b ≡ true

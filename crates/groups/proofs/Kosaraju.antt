@@ -9,14 +9,14 @@ use mathlib.Core.Path.{_≡_, refl, sym, ap, subst, subst₂, _∙_}
 use mathlib.Core.Logic.{_⊎_, inl, inr, ⊎-elim}
 use mathlib.Core.List.{List, [], _∷_, List·Memᴰ, List·Memᴰ·head, List·Memᴰ·tail, List·Memᴰ·not-nil, List·Memᴰ·cases-cons}
 use lib.ListN.{length, getD, replicate, length-replicate}
+use Rattle.base.specs.Decide.{same-or, le-or, zero-or}
+use Rattle.base.proofs.Lists.{getD-zeros}
 use Rattle.walk.specs.Walk.{Stamps, edge, edges, starts, fresh}
 use Rattle.walk.specs.Forest.{dis, fin, top, Holds, Parted, Reach, here, on, Forest}
 use Rattle.walk.proofs.Run.{Less, less-refl, edge-new, edge-old}
-use Rattle.walk.proofs.Steps.{Walked, Sized, sized-less, zero-or, reach-from}
-use Rattle.base.specs.Decide.{same-or, le-or}
+use Rattle.walk.proofs.Steps.{Walked, Sized, sized-less, reach-from}
 use Rattle.walk.proofs.Drive.{fresh-all}
-use Rattle.walk.proofs.Theorems.{Stamped, holds-reach, start-top, times-apart, reach-entered, forest-start, start-walked, forest-edges, fresh-none}
-use Rattle.walk.proofs.Theorems as theorems
+use Rattle.walk.proofs.Theorems.{Stamped, holds-reach, start-top, times-apart, reach-entered, reach-below, forest-start, start-walked, forest-edges, fresh-none}
 use Rattle.graph.specs.Skew.{Skew}
 use Rattle.groups.specs.Groups.{blank, walk, Lists, Falls, none, next}
 
@@ -63,13 +63,9 @@ module _ (adj : ℕ → List ℕ) (σ : Stamps) (F : Forest adj σ) where
 -- ---- taking twins reverses paths
 
 module _ (adj : ℕ → List ℕ) (twin : ℕ → ℕ) (size : ℕ) (K : Skew adj twin size) where
-  pub reach-below : {a b : ℕ} → a < size → Reach adj a b → b < size
-  reach-below lt here = lt
-  reach-below lt (on {b = b} {c = c} r m) = K .inside b c (reach-below lt r) m
-
   pub mirror : {a b : ℕ} → a < size → Reach adj a b → Reach adj (twin b) (twin a)
   mirror lt here = here
-  mirror lt (on {b = b} {c = c} r m) = reach-from (K .flip b c (reach-below lt r) m) (mirror lt r)
+  mirror lt (on {b = b} {c = c} r m) = reach-from (K .flip b c (reach-below adj size (K .inside) lt r) m) (mirror lt r)
 
   pub mirror-back : (a b : ℕ) → a < size → b < size → Reach adj (twin a) (twin b) → Reach adj b a
   mirror-back a b la lb r = subst₂ (Reach adj) (K .twice b lb) (K .twice a la) (mirror (K .below a la) r)
@@ -114,13 +110,13 @@ module _ (adj : ℕ → List ℕ) (twin : ℕ → ℕ) (size : ℕ) (K : Skew ad
   returns : (σ : Stamps) (r : ℕ) → Forest adj σ → r < size → ((z : ℕ) → z < size → key r < key z → 0 < dis σ z) → (q : ℕ) → dis σ q ≡ 0 → Reach adj r q → Reach adj q r
   returns σ r F lt high q new there =
       let F₁ = S .forest in
-      let ql : q < size = reach-below adj twin size K lt there in
+      let ql : q < size = reach-below adj size (K .inside) lt there in
       let x : ℕ = twin q in
       let u : ℕ = twin r in
       let ul : u < size = K .below r lt in
       let ex : 0 < dis σ₁ x = S .all x (K .below q ql) in
       let (y, xy, h, le) = last-finish adj σ₁ F₁ ex (mirror adj twin size K lt there) in
-      let yl : y < size = reach-below adj twin size K (K .below q ql) xy in
+      let yl : y < size = reach-below adj size (K .inside) (K .below q ql) xy in
       let ey : 0 < dis σ₁ y = S .all y yl in
       ⊎-elim
       (λ (e : y ≡ u). mirror-back adj twin size K r q lt ql (subst (λ (k : ℕ). Reach adj k x) e (holds-reach adj σ₁ F₁ ey ex h)))
@@ -178,7 +174,7 @@ module _ (adj : ℕ → List ℕ) (twin : ℕ → ℕ) (size : ℕ) (K : Skew ad
 
 module _ (adj : ℕ → List ℕ) (size : ℕ) (inside : (s q : ℕ) → s < size → List·Memᴰ q (adj s) → q < size) (f p s : List ℕ) where
   not-entered : {A : Type 0} (q : ℕ) → 0 < dis (blank size f p s) q → A
-  not-entered q e = absurd (omega (arith, e, theorems.blank adj size inside size q))
+  not-entered q e = absurd (omega (arith, e, getD-zeros size q))
 
   pub blank-forest : Forest adj (blank size f p s)
   blank-forest =

@@ -1,19 +1,19 @@
 -- The rules look only at the stamps of the clause's literals and their complements: stamps that agree on the slots below a number give the same results. So the records past 2V do not matter. Assumes nothing.
-use Prim.Native.Nat.{ℕ, zero, suc, _+_, _≤_, _<_}
+use Prim.Native.Nat.{ℕ, _<_}
 use native.Mathlib.Omega.{arith}
 use mathlib.Core.Path.{_≡_, refl, ap, subst, _∙_}
 use mathlib.Core.Bool.{Bool, true, false, not, _&&_, _||_}
 use mathlib.Core.List.{List, [], _∷_, map, List·Memᴰ, List·Memᴰ·head, List·Memᴰ·tail, Memᴰ·map, Memᴰ·of-map}
 use lib.ListN.{length}
 use lib.Dec.{leb, ltb, eqb}
-use Rattle.base.specs.Lists.{any, first, anyBelow}
+use Rattle.base.proofs.Lists.{filter-same, sub-mem, any-same}
+use Rattle.base.proofs.Searches.{anyBelow-same, first-same}
 use Rattle.literal.specs.Literals.{twin}
 use Rattle.walk.specs.Walk.{Stamps}
 use Rattle.walk.specs.Forest.{dis, fin, par, top}
 use Rattle.hidden.specs.Hidden.{holds, insert, byDiscovery, excepted, passes, scanAt, scan, hiddenTautology, unhidden, shorten}
 use Rattle.hidden.specs.Failed.{sameStart, holdsBoth, lowest, failedSlot}
-use Rattle.hidden.proofs.Basics.{filter-same, sub-mem}
-use Rattle.hidden.proofs.Intervals.{Within}
+use Rattle.hidden.proofs.Intervals.{Within, Below}
 use Rattle.hidden.proofs.Sorted.{sorted-out}
 use Rattle.hidden.proofs.Shorten.{unhidden-sub}
 
@@ -23,26 +23,6 @@ pub record Agree (size : ℕ) (σ ρ : Stamps) : Type 0 where
   pub finishes : (q : ℕ) → q < size → fin σ q ≡ fin ρ q
   pub parents : (q : ℕ) → q < size → par σ q ≡ par ρ q
   pub starts : (q : ℕ) → q < size → top σ q ≡ top ρ q
-
-abbrev Below : ℕ → List ℕ → Type 0
-Below size xs = (x : ℕ) → List·Memᴰ x xs → x < size
-
--- ---- tests that agree where they are asked
-
-any-same : {A : Type 0} (p q : A → Bool) (xs : List A) → ((x : A) → List·Memᴰ x xs → p x ≡ q x) → any p xs ≡ any q xs
-unfolding any
-any-same p q [] h = refl
-any-same p q (x ∷ xs) h = λ i. elim (h x (List·Memᴰ·head refl) i) [ true ↦ true | false ↦ any-same p q xs (λ y m. h y (List·Memᴰ·tail m)) i ]
-
-anyBelow-same : (p q : ℕ → Bool) (n : ℕ) → ((i : ℕ) → i < n → p i ≡ q i) → anyBelow n p ≡ anyBelow n q
-unfolding anyBelow
-anyBelow-same p q zero h = refl
-anyBelow-same p q (suc n) h = λ i. elim (h n (omega arith) i) [ true ↦ true | false ↦ anyBelow-same p q n (λ j lt. h j (omega arith)) i ]
-
-first-same : (p q : ℕ → Bool) (n k : ℕ) → ((i : ℕ) → k ≤ i → i < k + n → p i ≡ q i) → first p n k ≡ first q n k
-unfolding first
-first-same p q zero k h = refl
-first-same p q (suc n) k h = λ i. elim (h k (omega arith) (omega arith) i) [ true ↦ k | false ↦ first-same p q n (suc k) (λ j le lt. h j (omega arith) (omega arith)) i ]
 
 -- ---- figures 5 and 6
 

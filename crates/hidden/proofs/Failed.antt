@@ -13,13 +13,13 @@ use lib.Dec.{eqb}
 use borrow.Author.Tests.{eqb-true, not-true}
 use Rattle.base.specs.Decide.{same-or}
 use Rattle.base.specs.Lists.{anyBelow}
+use Rattle.base.proofs.Booleans.{and-left, and-right, bool-or, clash, and-both, differ, differs}
+use Rattle.base.proofs.Searches.{anyBelow-out, anyBelow-in, first-found}
 use Rattle.literal.specs.Literals.{twin}
-use Rattle.literal.proofs.Signed.{and-left, and-right}
 use Rattle.walk.specs.Walk.{Stamps}
 use Rattle.walk.specs.Forest.{dis, par, top, Holds}
 use Rattle.hidden.specs.Hidden.{holds}
 use Rattle.hidden.specs.Failed.{sameStart, holdsBoth, lowest, failedSlot}
-use Rattle.hidden.proofs.Basics.{bool-or, clash, and-both, differ, differs, anyBelow-out, anyBelow-in, first-found}
 use Rattle.hidden.proofs.Intervals.{Nested, holds-true, true-holds, inside, holds-both, nested-both}
 
 -- the links of the slots below size, as the shape rule has them: "a parent has the narrowest other interval around its child (itself if there is none), a start the widest"

@@ -9,34 +9,16 @@ use mathlib.Core.List.{List, [], _∷_, map, reverse, reverseAux, List·Memᴰ, 
 use lib.Dec.{eqb, ltb}
 use borrow.Author.Tests.{ltb-true, ltb-false, lt-ltb, le-ltb, eqb-true, eq-eqb}
 use Rattle.base.specs.Lists.{any, filter}
+use Rattle.base.proofs.Booleans.{and-left, and-right, clash, both-ways, and-both, or-either, differ, differs}
+use Rattle.base.proofs.Lists.{filter-same, sub-mem, any-in, any-out, filter-all, filter-filter}
 use Rattle.literal.specs.Literals.{twin}
-use Rattle.literal.proofs.Signed.{and-left, and-right}
-use Rattle.literal.proofs.Twins.{twin-twice}
+use Rattle.literal.proofs.Twins.{twin-twice, twin-eq}
 use Rattle.walk.specs.Walk.{Stamps}
 use Rattle.walk.specs.Forest.{dis, fin}
 use Rattle.hidden.specs.Hidden.{holds, byDiscovery, unhidden, shorten, without, loop, start, linesPos, linesNeg, figure5}
-use Rattle.hidden.proofs.Basics.{clash, same-truth, and-both, or-either, differ, differs, filter-same, sub-mem, any-in, any-out}
-use Rattle.hidden.proofs.Intervals.{Nested, Within, holds-true, true-holds, twin-eq, inside}
+use Rattle.hidden.proofs.Intervals.{Nested, Within, holds-true, true-holds, inside}
 use Rattle.hidden.proofs.Sorted.{Sorted, Rising, sorted-in, sorted-out, sorted-rising}
 use Rattle.hidden.proofs.Shorten.{unhidden-self, unhidden-sub}
-
--- ---- filters after filters
-
-filter-all : (C : List ℕ) → filter (λ l. true) C ≡ C
-unfolding filter
-filter-all [] = refl
-filter-all (x ∷ C) = ap (λ (l : List ℕ). x ∷ l) (filter-all C)
-
-filter-filter : (p q : ℕ → Bool) (C : List ℕ) → filter p (filter q C) ≡ filter (λ l. q l && p l) C
-unfolding filter
-filter-filter p q [] = refl
-filter-filter p q (x ∷ C) = go (filter-filter p q C) (q x) (p x) refl
-  where
-    go : filter p (filter q C) ≡ filter (λ l. q l && p l) C → (b c : Bool) → p x ≡ c
-        → filter p (elim b [ true ↦ x ∷ filter q C | false ↦ filter q C ]) ≡ elim (b && c) [ true ↦ x ∷ filter (λ l. q l && p l) C | false ↦ filter (λ l. q l && p l) C ]
-    go rest true true e = rw (e, filter) (ap (λ (l : List ℕ). x ∷ l) rest)
-    go rest true false e = rw (e, filter) rest
-    go rest false c e = rest
 
 -- ---- the loop, over any test and any order
 
@@ -60,7 +42,7 @@ module _ (goes : ℕ → ℕ → Bool) (σ : Stamps) where
     where
       -- l is taken out with x exactly if l's element is x
       element : (l : ℕ) → eqb l (literal x) ≡ eqb (literal l) x
-      element l = same-truth _ _
+      element l = both-ways _ _
           (λ h. eq-eqb (literal l) x (ap literal (eqb-true l (literal x) h) ∙ inv x))
           (λ h. eq-eqb l (literal x) (sym (inv l) ∙ ap literal (eqb-true (literal l) x h)))
 
@@ -151,7 +133,7 @@ module _ (goes : ℕ → ℕ → Bool) (σ : Stamps) where
       where
         agree : (l : ℕ) → List·Memᴰ l C → hit (fin σ x) (x ∷ xs) (literal l) ≡ any (λ m. not (eqb m l) && implies l m) C
         agree l k =
-            same-truth (hit (fin σ x) (x ∷ xs) (literal l)) (any (λ m. not (eqb m l) && implies l m) C)
+            both-ways (hit (fin σ x) (x ∷ xs) (literal l)) (any (λ m. not (eqb m l) && implies l m) C)
             (λ h.
             let r = hit-has Ord x xs (literal l) s (sym (hit-first x xs (literal l)) ∙ h) in
             let m = literal (r .0) in

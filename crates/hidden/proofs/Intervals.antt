@@ -1,20 +1,18 @@
 -- Intervals of slots below a number: what the shape rule says of fresh stamps, and how two of them lie. Assumes nothing.
 use Prim.Native.Nat.{ℕ, _≤_, _<_}
 use native.Mathlib.Omega.{arith}
-use mathlib.Core.Path.{_≡_, sym, ap, _∙_}
+use mathlib.Core.Path.{_≡_, sym, ap}
 use mathlib.Core.Bool.{true}
 use mathlib.Core.Logic.{_⊎_, inl, inr, ⊎-elim}
 use mathlib.Core.List.{List, List·Memᴰ}
 use lib.Dec.{leb}
 use borrow.Author.Tests.{leb-true, le-leb}
 use Rattle.base.specs.Decide.{same-or}
+use Rattle.base.proofs.Booleans.{and-left, and-right, and-both}
 use Rattle.literal.specs.Literals.{twin}
-use Rattle.literal.proofs.Signed.{and-left, and-right}
-use Rattle.literal.proofs.Twins.{twin-twice}
 use Rattle.walk.specs.Walk.{Stamps}
 use Rattle.walk.specs.Forest.{dis, fin, Holds, Parted}
 use Rattle.hidden.specs.Hidden.{holds}
-use Rattle.hidden.proofs.Basics.{and-both}
 
 -- the slots below size have intervals: each spans some time, and two are nested or apart
 pub record Nested (size : ℕ) (σ : Stamps) : Type 0 where
@@ -25,6 +23,10 @@ pub record Nested (size : ℕ) (σ : Stamps) : Type 0 where
 abbrev pub Within : ℕ → List ℕ → Type 0
 Within size C = (l : ℕ) → List·Memᴰ l C → (l < size) × (twin l < size)
 
+-- slots with stamps
+abbrev pub Below : ℕ → List ℕ → Type 0
+Below size xs = (x : ℕ) → List·Memᴰ x xs → x < size
+
 -- ---- the test on intervals is the relation
 
 pub holds-true : (σ : Stamps) (a b : ℕ) → holds σ a b ≡ true → Holds σ a b
@@ -34,10 +36,6 @@ holds-true σ a b h = (leb-true (dis σ a) (dis σ b) (and-left _ _ h), leb-true
 pub true-holds : (σ : Stamps) (a b : ℕ) → Holds σ a b → holds σ a b ≡ true
 unfolding holds
 true-holds σ a b h = and-both _ _ (le-leb (dis σ a) (dis σ b) (h .0)) (le-leb (fin σ b) (fin σ a) (h .1))
-
--- complements of different literals differ
-pub twin-eq : {a b : ℕ} → twin a ≡ twin b → a ≡ b
-twin-eq {a} {b} e = sym (twin-twice a) ∙ ap twin e ∙ twin-twice b
 
 -- ---- two intervals
 

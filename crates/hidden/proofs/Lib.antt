@@ -1,5 +1,4 @@
 pub mod Cases
-pub mod Basics
 pub mod Intervals
 pub mod Sorted
 pub mod Scan

@@ -12,13 +12,14 @@ use lib.ListN.{length}
 use lib.Dec.{ltb, eqb}
 use borrow.Author.Tests.{ltb-true, ltb-false, eqb-false, ne-eqb}
 use Rattle.base.specs.Lists.{any}
+use Rattle.base.proofs.Booleans.{clash, both-ways, or-neither}
+use Rattle.base.proofs.Lists.{any-in, any-out}
 use Rattle.literal.specs.Literals.{twin}
 use Rattle.literal.proofs.Twins.{twin-twice}
 use Rattle.walk.specs.Walk.{Stamps}
 use Rattle.walk.specs.Forest.{dis, fin, par, Holds}
 use Rattle.hidden.specs.Hidden.{holds, byDiscovery, passes, scanAt, scan, hiddenTautology}
-use Rattle.hidden.proofs.Basics.{clash, same-truth, or-neither, any-in, any-out}
-use Rattle.hidden.proofs.Intervals.{Nested, Within, holds-true, true-holds, before}
+use Rattle.hidden.proofs.Intervals.{Nested, Within, Below, holds-true, true-holds, before}
 use Rattle.hidden.proofs.Sorted.{Rising, sorted-in, sorted-out, sorted-rising}
 
 -- where the scan says yes
@@ -48,9 +49,6 @@ scan-yes σ two [] ns h = clash h refl
 scan-yes σ two (p ∷ ps) ns h = scanAt-yes σ two (scan σ two ps) p ps ns (λ ms k. scan-yes σ two ps ms k) h
 
 -- ---- the scan misses no pair, where there are no exceptions
-
-abbrev Below : ℕ → List ℕ → Type 0
-Below size xs = (x : ℕ) → List·Memᴰ x xs → x < size
 
 -- a pair that holds
 abbrev Pair : Stamps → List ℕ → List ℕ → Type 0
@@ -131,7 +129,7 @@ of-hidden size σ N C within long h =
 -- "For three or more literals the yes is given exactly when some literal's complement holds a literal of the clause", as one equation
 pub tautology-means : (size : ℕ) (σ : Stamps) → Nested size σ → (C : List ℕ) → Within size C → 2 < length C → hiddenTautology σ C ≡ any (λ l. any (λ m. holds σ (twin l) m) C) C
 tautology-means size σ N C within long =
-    same-truth _ _
+    both-ways _ _
     (λ h. let r = hidden-of σ C h in any-in _ C (r .2) (any-in _ C (r .3) (true-holds σ (twin (r .0)) (r .1) (r .4))))
     (λ h.
     let l = any-out _ C h in

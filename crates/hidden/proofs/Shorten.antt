@@ -14,13 +14,14 @@ use mathlib.Core.List.{List, [], _∷_, map, List·Memᴰ, List·Memᴰ·head, L
 use lib.ListN.{length, length-map}
 use lib.Dec.{eqb}
 use Rattle.base.specs.Lists.{any, filter}
+use Rattle.base.proofs.Booleans.{and-left, and-right, bool-or, differ}
+use Rattle.base.proofs.Lists.{in-filter, filter-sub, filter-map, map-self, sub-mem, any-out}
 use Rattle.literal.specs.Literals.{twin}
-use Rattle.literal.proofs.Signed.{and-left, and-right}
+use Rattle.literal.proofs.Twins.{twin-eq}
 use Rattle.walk.specs.Walk.{Stamps}
 use Rattle.walk.specs.Forest.{dis, fin, Holds}
 use Rattle.hidden.specs.Hidden.{holds, unhidden, shorten}
-use Rattle.hidden.proofs.Basics.{bool-or, differ, in-filter, filter-sub, filter-map, map-self, sub-mem, any-out}
-use Rattle.hidden.proofs.Intervals.{Nested, Within, holds-true, twin-eq, inside}
+use Rattle.hidden.proofs.Intervals.{Nested, Within, holds-true, inside}
 
 -- ---- literals with slots, and the slots
 

@@ -42,6 +42,29 @@ lit-var s = go (eqb (s % 2) 0)
     go true = refl
     go false = abs-neg (pos (s / 2 + 1))
 
+pub slot-variable : (l : ℤ) → 0 < natAbs l → natAbs l ≡ slotOf l / 2 + 1
+slot-variable l above = ap natAbs (sym (lit-slot l above)) ∙ lit-var (slotOf l)
+
+-- a slot is that of a literal
+pub lit-above : (s : ℕ) → 0 < natAbs (litAt s)
+lit-above s = omega (arith, lit-var s)
+
+pub lit-twin : (s : ℕ) → litAt (twin s) ≡ negℤ (litAt s)
+lit-twin s =
+    ap (λ (k : ℕ). litAt (twin k)) (sym (slot-lit s))
+    ∙ ap litAt (sym (slot-twin (litAt s) (lit-above s)))
+    ∙ lit-slot (negℤ (litAt s)) (omega (arith, abs-neg (litAt s), lit-above s))
+
+-- the slots of two literals are the same exactly if the literals are
+pub slot-same : (x y : ℤ) → 0 < natAbs x → 0 < natAbs y → slotOf x ≡ slotOf y → x ≡ y
+slot-same x y g h e = sym (lit-slot x g) ∙ ap litAt e ∙ lit-slot y h
+
+-- a literal is not its own complement
+pub not-own-complement : (x : ℤ) → 0 < natAbs x → x ≡ negℤ x → ⊥
+not-own-complement (pos zero) h e = absurd (omega arith)
+not-own-complement (pos (suc n)) h e = absurd (let z : _≡_ {A = ℕ} 0 1 = cc in omega arith)
+not-own-complement (negsuc n) h e = absurd (let z : _≡_ {A = ℕ} 0 1 = cc in omega arith)
+
 -- the test of a literal's range says just that
 pub literal-tested : {l : ℤ} {v : ℕ} → v < 2147483648 → Literal v l → inRange l v ≡ true
 literal-tested {l} {v} h L = rw (lt-ltb 0 (natAbs l) (L .above), lt-ltb (natAbs l) 2147483648 (omega (arith, L .within)), le-leb (natAbs l) v (L .within))

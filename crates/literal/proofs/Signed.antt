@@ -1,19 +1,20 @@
 -- What a proof over i32 literals needs: bits and back, negation, the tests, the casts. Each lemma has its literal z from a record, `Small z` or `SFits w32 z`, so no caller writes it. Assumes nothing.
 use Prim.Native.Nat.{ℕ, zero, suc, _+_, _*_, _-_, _^_, _<_, _≤_}
 use mathlib.Core.Path.{_≡_, refl, sym, ap, _∙_, subst}
-use mathlib.Core.Bool.{Bool, true, false, not, _&&_}
+use mathlib.Core.Bool.{Bool, true, false, not}
 use native.Mathlib.Omega.{arith}
 use lib.Dec.{T, ltb, leb, eqb}
 use mathlib.Core.List.{List}
 use lib.ListN.{getD}
 use lib.IntN.{ℤ, pos, negsuc, negℤ, natAbs, _-ℤ_, +ℤ-idl, negℤ-negℤ}
 use lib.Signed.{mag, ltZ, leZ, nonNeg}
-use mir.Syntax.{Width, w8, w16, w32, w64}
+use mir.Syntax.{Width, w16, w32, w64}
 use mir.Val.{Fits, SFits, ofZ, toZ, bits, hbits}
 use mir.Facts.{toZ-ofZ, toZ-pos, sfits-lit}
 use borrow.Author.Tests.{ltb-true, leb-true, eq-eqb, eqb-true, ne-eqb}
 use borrow.Author.Needs.{needs, fits-under}
-use Rattle.literal.specs.Literals.{Small, Tri, eqZ, inRange}
+use Rattle.base.proofs.Booleans.{clash, and-left, and-right}
+use Rattle.literal.specs.Literals.{Small, eqZ, inRange}
 
 -- ---- Small: |z| < 2^31, so z is an i32 and not the smallest
 pub small-fits : {z : ℤ} → Small z → SFits w32 z
@@ -133,26 +134,7 @@ tested-eq {y} {z} f g e = eq-eqZ y z (bits-eq f g e)
 pub tested-ne : {y z : ℤ} → SFits w32 y → SFits w32 z → (ofZ w32 y ≡ ofZ w32 z → ⊥) → eqZ y z ≡ false
 tested-ne {y} {z} f g h = ne-eqZ y z (bits-ne y z h)
 
--- ---- values: -1, 0 or 1 in an i8
-pub tri-fits : {z : ℤ} → Tri z → SFits w8 z
-tri-fits {z} h = go z (h .tri)
-  where
-    go : (z : ℤ) → natAbs z ≤ 1 → SFits w8 z
-    go (pos n) h = record { sfits = omega arith }
-    go (negsuc n) h = record { sfits = omega arith }
-
-pub tri-neg : {z : ℤ} → Tri z → Tri (negℤ z)
-tri-neg {z} h = record { tri = rw abs-neg (h .tri) }
-
 -- ---- a literal in range, from the test
-pub and-left : (a b : Bool) → (a && b) ≡ true → a ≡ true
-and-left true b e = refl
-and-left false b e = e
-
-pub and-right : (a b : Bool) → (a && b) ≡ true → b ≡ true
-and-right true b e = e
-and-right false b e = absurd (subst T (sym e) tt)
-
 pub record InRange (l : ℤ) (v : ℕ) : Type 0 where
   pub above : 0 < natAbs l
   pub low : Small l
@@ -171,11 +153,7 @@ eqb-bits {w} {y} {z} f g = go (eqZ y z) refl
   where
     go : (b : Bool) → eqZ y z ≡ b → eqb (ofZ w y) (ofZ w z) ≡ b
     go true e = eq-eqb _ _ (ap (ofZ w) (eqZ-true y z e))
-    go false e = ne-eqb _ _ (λ q. not-both (eqZ y z) (eq-eqZ y z (sym (toZ-ofZ f) ∙ ap (toZ w) q ∙ toZ-ofZ g)) e)
-      where
-        not-both : (b : Bool) → b ≡ true → b ≡ false → ⊥
-        not-both true p q = subst T q tt
-        not-both false p q = subst T (sym p) tt
+    go false e = ne-eqb _ _ (λ q. clash (eq-eqZ y z (sym (toZ-ofZ f) ∙ ap (toZ w) q ∙ toZ-ofZ g)) e)
 
 -- an element of an i32 slice that was read into a local, read back: `read xs i (c .l .given)`, with `let l = xs[i];`
 pub read : (xs : List ℤ) (i : ℕ) → mag (getD xs i (pos 0)) < 2147483648 → toZ w32 (ofZ w32 (getD xs i (pos 0))) ≡ getD xs i (pos 0)

@@ -1,6 +1,6 @@
--- Taking the twin twice is nothing, and the slots below an even number are closed under it.
+-- Taking the twin twice is nothing, twins are of one variable, and the slots below an even number are closed under taking the twin.
 -- Assumes nothing.
-use Prim.Native.Nat.{ℕ, _+_, _-_, _*_, _%_, _≤_, _<_}
+use Prim.Native.Nat.{ℕ, _+_, _-_, _*_, _/_, _%_, _≤_, _<_}
 use native.Mathlib.Omega.{arith}
 use native.Mathlib.Decide.{ℕ-discrete}
 use mathlib.Core.Path.{_≡_, refl, sym, ap, subst, _∙_}
@@ -29,4 +29,16 @@ twin-below v s lt =
     ⊎-elim
     (λ (e : s % 2 ≡ 0). omega (arith, twin-even s e))
     (λ (d : s % 2 ≡ 0 → ⊥). omega (arith, twin-odd s d))
+    (same-or (s % 2) 0)
+
+-- different slots have different twins
+pub twin-eq : {a b : ℕ} → twin a ≡ twin b → a ≡ b
+twin-eq {a} {b} e = sym (twin-twice a) ∙ ap twin e ∙ twin-twice b
+
+-- slot s is one of variable s / 2 + 1, and so is its twin
+pub twin-variable : (s : ℕ) → twin s / 2 ≡ s / 2
+twin-variable s =
+    ⊎-elim
+    (λ (e : s % 2 ≡ 0). omega (arith, e, twin-even s e))
+    (λ (d : s % 2 ≡ 0 → ⊥). omega (arith, d, twin-odd s d))
     (same-or (s % 2) 0)

@@ -2,10 +2,10 @@
 use mathlib.Core.Path.{_≡_, refl, sym, ap, _∙_, subst}
 use mathlib.Core.Bool.{Bool, true, false}
 use mathlib.Core.List.{List, [], _∷_, _++_, append-assoc, append-nil}
-use Prim.Native.Nat.{ℕ, zero, suc, _+_, _*_, _-_, _≤_, _<_}
+use Prim.Native.Nat.{ℕ, suc, _+_, _*_, _-_, _≤_, _<_}
 use native.Mathlib.Omega.{arith}
 use native.Mathlib.Numerals.{add-one}
-use lib.ListN.{length, take, drop, getD, set, replicate, length-set, length-append, take-append-drop, replicate-append-replicate}
+use lib.ListN.{length, take, drop, set, replicate, length-set, length-append, take-append-drop, replicate-append-replicate}
 use lib.Seq.{take-suc-set, drop-set-lt, length-take-le, sets, sets-eq, take-at}
 use lib.IntN.{ℤ, pos}
 use Rattle.base.specs.Decide.{Decides, agrees, does-exact}
@@ -117,11 +117,6 @@ own-end {w₀} {w} {v} {i} f h =
     cleared-filled (pos 0) w₀ w (variableRecords 1 v) (2 * v) 2048 t (omega (arith, f .small, f .room)) (f .beyond)
 
 -- ---- the whole load
-pub getD-zeros : (n i : ℕ) → getD {A = ℕ} (replicate n 0) i 0 ≡ 0
-getD-zeros zero i = refl
-getD-zeros (suc n) zero = refl
-getD-zeros (suc n) (suc i) = getD-zeros n i
-
 module _ {text : List ℕ} {body : ℕ} {c₀ : List ℕ} {l₀ : List ℤ} {c : List ℕ} {l : List ℤ} {p : Progress} {c₂ : List ℕ} {l₂ w₂ : List ℤ} (w₀ : List ℤ) (v n : ℕ)
     (times : List ℕ) (links : List ℤ) (st : State) where
   pub lay-done : LaidBy text body c₀ l₀ c l p → 12288 ≤ length c₀ → 16384 ≤ length l₀

@@ -15,7 +15,8 @@ use mathlib.Core.Logic.{⊎-elim}
 use Rattle.literal.specs.Literals.{Literal, slotOf}
 use Rattle.literal.specs.Clauses.{has, distinct, tautology}
 use Rattle.literal.proofs.Signed.{abs-neg, eq-eqZ, ne-eqZ}
-use Rattle.literal.proofs.Laws.{slot-below}
+use Rattle.literal.proofs.Laws.{slot-below, slot-same}
+use Rattle.literal.proofs.Distinct.{has-snoc, has-repeat, tautology-snoc, tautology-repeat, distinct-repeat, distinct-new, distinct-empty}
 use Rattle.dimacs.specs.Words.{wordsAt}
 use Rattle.dimacs.specs.Tokens.{bad, nought, literal}
 use Rattle.dimacs.specs.Text.{Left, left, judge, signed, clausesOf}
@@ -23,7 +24,6 @@ use Rattle.dimacs.specs.declared.Verdict.the-variants.{Fits}
 use Rattle.dimacs.proofs.Judge.{Seen, SeenLiteral, judge-zero, judge-literal}
 use Rattle.load.specs.Load.{keptOf, clauseRecords, literalPlaces, anyEmpty}
 use Rattle.load.specs.Laid.{Work, work, progress, keptEnd, flag, recordAt, endClause, wasRead, addLiteral, Ending, Adding, Accepted, LaidBy}
-use Rattle.load.proofs.Distinct.{slot-same, has-snoc, has-repeat, tautology-snoc, tautology-repeat, distinct-repeat, distinct-new, distinct-empty}
 use Rattle.load.proofs.Steps.{kept-between, add-repeat, add-new}
 use Rattle.load.proofs.Texts.{fits-not-bad, fits-zero, fits-clause, fits-range, fits-room, fits-seen, fits-literal, clauses-zero, clauses-literal, clauses-end}
 

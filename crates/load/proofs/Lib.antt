@@ -1,6 +1,6 @@
-pub mod Distinct
 pub mod Texts
 pub mod Steps
 pub mod Laying
 pub mod Fill
+pub mod Sizes
 pub mod Cases

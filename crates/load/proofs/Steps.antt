@@ -12,13 +12,13 @@ use Rattle.literal.specs.Literals.{slotOf}
 use Rattle.load.specs.Laid.{Work, work, progress, keptEnd, flag, recordAt, endClause, wasRead, addLiteral}
 use Rattle.load.specs.declared.Progress.{Progress}
 
-pub or-left : (a b : Bool) → a ≡ true → a ≡ (a || b)
-or-left true b e = refl
-or-left false b e = absurd (let z : _≡_ {A = ℕ} 0 1 = cc in omega arith)
+pub or-when-true : (a b : Bool) → a ≡ true → a ≡ (a || b)
+or-when-true true b e = refl
+or-when-true false b e = absurd (let z : _≡_ {A = ℕ} 0 1 = cc in omega arith)
 
-pub or-right : (a b : Bool) → a ≡ false → b ≡ (a || b)
-or-right true b e = absurd (let z : _≡_ {A = ℕ} 0 1 = cc in omega arith)
-or-right false b e = refl
+pub or-when-false : (a b : Bool) → a ≡ false → b ≡ (a || b)
+or-when-false true b e = absurd (let z : _≡_ {A = ℕ} 0 1 = cc in omega arith)
+or-when-false false b e = refl
 
 -- ---- a clause's end
 pub kept-between : (p : Progress) → p .start ≤ p .end → (p .start ≤ keptEnd p) × (keptEnd p ≤ p .end)

@@ -11,16 +11,14 @@ use lib.IntN.{ℤ, natAbs, pos}
 use borrow.Author.Tests.{eqb-true, eqb-false, leb-true}
 use Rattle.literal.specs.Literals.{Literal}
 use Rattle.literal.proofs.Signed.{abs-neg}
-use Rattle.state.specs.declared.Refusal.{Refusal}
 use Rattle.dimacs.specs.Words.{isDigit, span, wordsAt}
 use Rattle.dimacs.specs.Tokens.{bad, nought, literal, decimal, decimalFrom, numeral, meaning}
 use Rattle.dimacs.specs.Header.{header}
 use Rattle.dimacs.specs.Text.{Left, left, judge, judgeBody, judgeText, signed, clausesOf}
 use Rattle.dimacs.specs.declared.Header.{Header}
 use Rattle.dimacs.specs.declared.Header.the-variants.{NoHeader, Fields}
-use Rattle.dimacs.specs.declared.Verdict.{Verdict}
-use Rattle.dimacs.specs.declared.Verdict.the-variants.{Refused, Fits}
-use Rattle.dimacs.proofs.Judge.{Seen, SeenLiteral, judge-bad, judge-extra, judge-past, judge-beyond, judge-full, header-v, header-n, judge-is}
+use Rattle.dimacs.specs.declared.Verdict.the-variants.{Fits}
+use Rattle.dimacs.proofs.Judge.{Seen, SeenLiteral, judge-bad, judge-extra, judge-past, judge-beyond, judge-full, header-v, header-n, judge-is, not-fits}
 
 -- ---- a literal that a text spells is not 0
 decimal-ge : (n : ℕ) (ds : List ℕ) → n ≤ decimalFrom n ds
@@ -69,9 +67,6 @@ abs-signed true m = abs-neg (pos m)
 abs-signed false m = refl
 
 -- ---- in a text that fits, no token is refused
-not-fits : (x : Verdict) (r : Refusal) (v n body : ℕ) → x ≡ Refused r → x ≡ Fits v n body → ⊥
-not-fits x r v n body p q = let z : _≡_ {A = ℕ} 0 1 = cc in omega arith
-
 module _ (v : ℕ) (l : Left) (end n body : ℕ) {text : List ℕ} {at start next : ℕ} (acc : judge v l (wordsAt (drop at text) at) end (Fits v n body) ≡ Fits v n body) where
   pub fits-not-bad : Seen text at bad start next → ⊥
   fits-not-bad s = not-fits _ _ v n body (judge-bad v l end (Fits v n body) s) acc

@@ -7,12 +7,13 @@ use mathlib.Core.Bool.{Bool, true, false, not, _||_, false≢true}
 use mathlib.Core.Logic.{_⊎_, ⊎-elim}
 use mathlib.Core.List.{List, [], _∷_, _++_, map, List·Memᴰ, List·Memᴰ·head, List·Memᴰ·tail, List·Memᴰ·not-nil, List·Memᴰ·cases-cons}
 use lib.ListN.{length, getD}
-use lib.IntN.{ℤ, pos, negsuc, negℤ, natAbs}
+use lib.IntN.{ℤ, pos}
 use Rattle.base.specs.Decide.{same-or}
+use Rattle.base.proofs.Booleans.{both-ways, not-itself}
 use Rattle.literal.specs.Literals.{Literal, slotOf, litAt, twin}
 use Rattle.literal.specs.Assignments.{Assignment, holds, someHolds}
-use Rattle.literal.proofs.Signed.{abs-neg}
-use Rattle.literal.proofs.Laws.{slot-lit, lit-slot, lit-var, slot-twin, slot-below}
+use Rattle.literal.proofs.Laws.{lit-slot, slot-below}
+use Rattle.literal.proofs.Truth.{holds-twin}
 use Rattle.walk.specs.Forest.{Reach}
 use Rattle.walk.proofs.Theorems.{reach-implies}
 use Rattle.graph.specs.Skew.{Skew}
@@ -30,27 +31,9 @@ use Rattle.pairs.proofs.Listing.{formed-listed, from-clauses, slot-literal}
 use Rattle.components.proofs.Chain.{listed-skew}
 use Rattle.merge.specs.Merge.{edgesOf, clashes, representative, regrouped, mergedClasses}
 use Rattle.merge.proofs.Regrouped.{regrouped-class, regrouped-value}
-use Rattle.merge.proofs.Opening.{equal-bools, clashes-some}
+use Rattle.merge.proofs.Opening.{clashes-some}
 
 -- ---- literals and slots
-
-not-twice : (b : Bool) → b ≡ not (not b)
-not-twice true = refl
-not-twice false = refl
-
-pub holds-complement : (τ : Assignment) (l : ℤ) → 0 < natAbs l → holds τ (negℤ l) ≡ not (holds τ l)
-holds-complement τ (pos zero) h = absurd (omega arith)
-holds-complement τ (pos (suc n)) h = refl
-holds-complement τ (negsuc n) h = not-twice (τ (suc n))
-
-literal-above : (s : ℕ) → 0 < natAbs (litAt s)
-literal-above s = omega (arith, lit-var s)
-
-literal-twin : (s : ℕ) → litAt (twin s) ≡ negℤ (litAt s)
-literal-twin s =
-    ap (λ (k : ℕ). litAt (twin k)) (sym (slot-lit s))
-    ∙ ap litAt (sym (slot-twin (litAt s) (literal-above s)))
-    ∙ lit-slot (negℤ (litAt s)) (omega (arith, abs-neg (litAt s), literal-above s))
 
 -- a clause that is satisfied has a true literal, by its place
 true-place : (τ : Assignment) (C : List ℤ) → someHolds τ C ≡ true → (k : ℕ) × (k < length C) × (holds τ (getD C k (pos 0)) ≡ true)
@@ -100,10 +83,6 @@ present-edges cs s = ap (λ (l : List ℕ). outs l (tos cs) s) (sym (present-fro
 
 -- ---- truth along paths
 
-not-itself : (b : Bool) → b ≡ not b → ⊥
-not-itself true e = false≢true (sym e)
-not-itself false e = false≢true e
-
 module _ {v n k : ℕ} {mark : Bool} {c : List ℕ} {l w : List ℤ} (F : Formed v n k mark c l w) (τ : Assignment)
     (sat : (i : ℕ) → i < n → standing c i ≡ 1 → someHolds τ (literalsOf c l i) ≡ true) where
   abbrev adj : ℕ → List ℕ
@@ -116,7 +95,7 @@ module _ {v n k : ℕ} {mark : Bool} {c : List ℕ} {l w : List ℤ} (F : Formed
   skew = listed-skew (formed-listed F)
 
   opposite : (s : ℕ) → val (twin s) ≡ not (val s)
-  opposite s = ap (holds τ) (literal-twin s) ∙ holds-complement τ (litAt s) (literal-above s)
+  opposite s = holds-twin τ s
 
   -- a clause with a literal stands, so one of its slots is true
   true-slot : (i : ℕ) → i < n → 0 < lengthOf c i → (q : ℕ) × (List·Memᴰ q (slotsAt c l i)) × (val q ≡ true)
@@ -153,7 +132,7 @@ module _ {v n k : ℕ} {mark : Bool} {c : List ℕ} {l w : List ℤ} (F : Formed
       (λ s q m h. edge-true val (present (slotsFrom c l n 0)) satisfies s q (subst (List·Memᴰ q) (present-edges (slotsFrom c l n 0) s) m) h) r t
 
   reach-equal : {a b : ℕ} → Reach adj a b → Reach adj b a → val a ≡ val b
-  reach-equal {a} {b} there back = equal-bools (val a) (val b) (reach-true there) (reach-true back)
+  reach-equal {a} {b} there back = both-ways (val a) (val b) (reach-true there) (reach-true back)
 
   -- THE LAW: a literal and its representative have the same truth
   pub classes-equal : (x : ℤ) → Literal v x → holds τ x ≡ holds τ (representative adj v x)

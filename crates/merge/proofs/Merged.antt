@@ -12,9 +12,10 @@ use lib.Seq.{getD-take, getD-drop, length-take-le}
 use lib.Dec.{eqb}
 use lib.IntN.{ℤ, pos, negℤ, natAbs}
 use borrow.Author.Tests.{lt-ltb, ltb-true, eq-eqb}
-use Rattle.base.specs.Lists.{any}
 use Rattle.base.specs.Decide.{same-or}
+use Rattle.base.specs.Lists.{any}
 use Rattle.base.proofs.Lists.{any-here, any-next}
+use Rattle.base.proofs.Searches.{first-found}
 use Rattle.literal.specs.Literals.{slotOf, litAt, twin}
 use Rattle.literal.proofs.Signed.{abs-neg, ne-eqZ}
 use Rattle.literal.proofs.Laws.{lit-slot, lit-var, slot-twin, slot-below}
@@ -25,7 +26,7 @@ use Rattle.graph.specs.Edges.{outs}
 use Rattle.graph.specs.Clauses.{froms, tos, implications}
 use Rattle.graph.proofs.Csr.{outs-out}
 use Rattle.groups.specs.Groups.{leastMutual, Representative}
-use Rattle.groups.proofs.Least.{least-mutual, first-is}
+use Rattle.groups.proofs.Least.{least-mutual}
 use Rattle.groups.proofs.Classes.{same-rep, twin-rep}
 use Rattle.tables.specs.Tables.{Tables, startOf, lengthOf, standing, variableAt, classOf, valueOf}
 use Rattle.tables.specs.Clauses.{literalsOf, slotsFrom}
@@ -109,7 +110,7 @@ module _ {v n : ℕ} (t : Tables) (F : Formed v n n false (t .clauses) (t .liter
   -- so no variable of a clause has a value
   no-value : (valueOf (t .variables) variable ≡ pos 0 → ⊥) → ⊥
   unfolding firstUnsettled
-  no-value d = omega (arith, settled, lt, first-is (unsettled t) n 0 i (omega arith) (omega arith) (unsettled-here d) .1)
+  no-value d = omega (arith, settled, lt, first-found (unsettled t) n 0 i (omega arith) (omega arith) (unsettled-here d) .1)
 
 -- ---- the new classes
 

@@ -8,10 +8,10 @@ use mathlib.Core.Logic.{_⊎_, ⊎-elim}
 use mathlib.Core.List.{List}
 use lib.ListN.{length, getD}
 use lib.IntN.{ℤ, pos}
-use Rattle.base.specs.Lists.{anyBelow}
 use Rattle.base.specs.Decide.{same-or}
+use Rattle.base.specs.Lists.{anyBelow}
+use Rattle.base.proofs.Booleans.{and-left, and-right, both-ways}
 use Rattle.literal.specs.Literals.{Literal, slotOf, litAt, twin}
-use Rattle.literal.proofs.Signed.{and-left, and-right}
 use Rattle.literal.proofs.Laws.{slot-below}
 use Rattle.literal.proofs.Twins.{twin-even, twin-odd}
 use Rattle.walk.specs.Forest.{Reach}
@@ -48,11 +48,6 @@ below-one (suc n) test i lt e = go (λ h. below-one n test i h e) (test n) refl
     go : (i < n → anyBelow n test ≡ true) → (b : Bool) → test n ≡ b → _≡_ {A = Bool} (elim b [ true ↦ true | false ↦ anyBelow n test ]) true
     go rest true h = refl
     go rest false h = rest (⊎-elim (λ (s : i ≡ n). absurd (false≢true (sym h ∙ ap test (sym s) ∙ e))) (λ (d : i ≡ n → ⊥). omega arith) (same-or i n))
-
-pub equal-bools : (a b : Bool) → (a ≡ true → b ≡ true) → (b ≡ true → a ≡ true) → a ≡ b
-equal-bools true b f g = sym (f refl)
-equal-bools false true f g = g refl
-equal-bools false false f g = refl
 
 -- ---- v and −v in one component
 
@@ -111,7 +106,7 @@ module _ {v n s : ℕ} {mark : Bool} {c : List ℕ} {l w : List ℤ} (F : Formed
 
   pub clash-is : clash rep ≡ clashes adj v
   clash-is =
-      equal-bools (clash rep) (clashes adj v)
+      both-ways (clash rep) (clashes adj v)
       (λ e. let (q, lt, there, back) = clash-means adj (2 * v) skew rep len is e in some-clashes adj v skew q lt there back)
       (λ e. let (q, lt, there, back) = clashes-some adj v skew e in by-test (clash rep) refl q lt there back)
     where

@@ -1,39 +1,22 @@
 -- Laws of a clause without repeats: it is no longer, what holds of each literal still does, and if no variable has both signs, no variable stands twice. Assumes nothing.
-use Prim.Native.Nat.{ℕ, zero, suc, _+_, _≤_, _<_}
+use Prim.Native.Nat.{ℕ, zero, suc, _≤_, _<_}
 use native.Mathlib.Omega.{arith}
 use mathlib.Core.Path.{_≡_, refl, sym, ap, _∙_}
 use mathlib.Core.Bool.{Bool, true, false, _||_, false≢true}
 use mathlib.Core.Logic.{_⊎_, inl, inr, ⊎-elim}
 use mathlib.Core.List.{List, [], _∷_, _++_, map}
-use lib.ListN.{length, getD, length-append}
+use lib.ListN.{length, getD}
 use lib.IntN.{ℤ, pos, negsuc, negℤ, natAbs}
+use Rattle.base.proofs.Booleans.{or-neither, neither-or}
 use Rattle.literal.specs.Literals.{Literal, eqZ}
 use Rattle.literal.specs.Clauses.{has, distinctFrom, distinct, tautology}
 use Rattle.literal.proofs.Signed.{eq-eqZ, ne-eqZ}
+use Rattle.literal.proofs.Distinct.{from-sized}
 use Rattle.tables.specs.Tables.{classOf}
 use Rattle.clauses.specs.Formed.{FitClause}
 use Rattle.clauses.proofs.Fitting.{FitHead, fit-none, fit-cons}
 
--- ---- truth values
-
-or-none : (a b : Bool) → (a || b) ≡ false → (a ≡ false) × (b ≡ false)
-or-none true b e = absurd (false≢true (sym e))
-or-none false b e = (refl, e)
-
-none-or : (a b : Bool) → a ≡ false → b ≡ false → (a || b) ≡ false
-none-or a b e h = ap (λ (x : Bool). x || b) e ∙ h
-
 -- ---- length
-
-from-sized : (kept xs : List ℤ) → (length kept ≤ length (distinctFrom kept xs)) × (length (distinctFrom kept xs) ≤ length kept + length xs)
-from-sized kept [] = (omega arith, omega arith)
-from-sized kept (x ∷ xs) = go (has x kept) refl (from-sized kept xs) (from-sized (kept ++ (x ∷ [])) xs)
-  where
-    go : (t : Bool) → has x kept ≡ t → (length kept ≤ length (distinctFrom kept xs)) × (length (distinctFrom kept xs) ≤ length kept + length xs)
-        → (length (kept ++ (x ∷ [])) ≤ length (distinctFrom (kept ++ (x ∷ [])) xs)) × (length (distinctFrom (kept ++ (x ∷ [])) xs) ≤ length (kept ++ (x ∷ [])) + length xs)
-        → (length kept ≤ length (distinctFrom kept (x ∷ xs))) × (length (distinctFrom kept (x ∷ xs)) ≤ length kept + suc (length xs))
-    go true e a b = rw (e, distinctFrom) (a .0, omega (arith, a .1))
-    go false e a b = rw (e, distinctFrom) (omega (arith, b .0, length-append kept (x ∷ [])), omega (arith, b .1, length-append kept (x ∷ [])))
 
 pub distinct-short : (xs : List ℤ) → length (distinct xs) ≤ length xs
 distinct-short xs = omega (arith, from-sized [] xs .1)
@@ -81,13 +64,13 @@ Once (x ∷ xs) = (has x xs ≡ false) × Once xs
 
 -- a literal that is not in a list, nor the one behind it
 absent-snoc : (y : ℤ) (xs : List ℤ) (x : ℤ) → has y xs ≡ false → eqZ x y ≡ false → has y (xs ++ (x ∷ [])) ≡ false
-absent-snoc y [] x e h = none-or (eqZ x y) false h refl
-absent-snoc y (z ∷ xs) x e h = let r = or-none (eqZ z y) (has y xs) e in none-or (eqZ z y) (has y (xs ++ (x ∷ []))) (r .0) (absent-snoc y xs x (r .1) h)
+absent-snoc y [] x e h = neither-or (eqZ x y) false h refl
+absent-snoc y (z ∷ xs) x e h = let r = or-neither (eqZ z y) (has y xs) e in neither-or (eqZ z y) (has y (xs ++ (x ∷ []))) (r .0) (absent-snoc y xs x (r .1) h)
 
 once-snoc : (xs : List ℤ) (x : ℤ) → Once xs → has x xs ≡ false → Once (xs ++ (x ∷ []))
 once-snoc [] x O e = (refl, tt)
 once-snoc (y ∷ xs) x O e =
-    let h = or-none (eqZ y x) (has x xs) e in
+    let h = or-neither (eqZ y x) (has x xs) e in
     let turned : eqZ x y ≡ false = ne-eqZ x y (λ q. false≢true (sym (h .0) ∙ eq-eqZ y x (sym q))) in
     (absent-snoc y xs x (O .0) turned, once-snoc xs x (O .1) (h .1))
 
@@ -129,7 +112,7 @@ pub record Own (v : ℕ) (w : List ℤ) (x : ℤ) : Type 0 where
 -- such literals, each once and no variable with both signs, are what the shape rule asks of a clause
 pub once-fits : (v : ℕ) (w : List ℤ) (b : Bool) (xs : List ℤ) → All (Own v w) xs → Once xs → tautology xs ≡ false → FitClause v w b xs
 once-fits v w b [] A O e = fit-none
-once-fits v w b (x ∷ xs) A O e = fit-cons head (once-fits v w b xs (A .1) (O .1) (or-none (has (negℤ x) xs) (tautology xs) e .1))
+once-fits v w b (x ∷ xs) A O e = fit-cons head (once-fits v w b xs (A .1) (O .1) (or-neither (has (negℤ x) xs) (tautology xs) e .1))
   where
     head : FitHead v w b x xs
     head = record {
@@ -137,7 +120,7 @@ once-fits v w b (x ∷ xs) A O e = fit-cons head (once-fits v w b xs (A .1) (O .
       apart = λ j h q.
           ⊎-elim
           (λ (s : getD xs j (pos 0) ≡ x). false≢true (sym (O .0) ∙ ap (λ (z : ℤ). has z xs) (sym s) ∙ has-at xs j h))
-          (λ (s : getD xs j (pos 0) ≡ negℤ x). false≢true (sym (or-none (has (negℤ x) xs) (tautology xs) e .0) ∙ ap (λ (z : ℤ). has z xs) (sym s) ∙ has-at xs j h))
+          (λ (s : getD xs j (pos 0) ≡ negℤ x). false≢true (sym (or-neither (has (negℤ x) xs) (tautology xs) e .0) ∙ ap (λ (z : ℤ). has z xs) (sym s) ∙ has-at xs j h))
           (same-variable x (getD xs j (pos 0)) q);
       own = λ s. A .0 .own;
     }

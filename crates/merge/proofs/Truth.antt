@@ -12,11 +12,11 @@ use Rattle.literal.specs.Literals.{eqZ, signBy}
 use Rattle.literal.specs.Clauses.{has, distinct, distinctFrom, tautology}
 use Rattle.literal.specs.Assignments.{Assignment, signed, holds, someHolds}
 use Rattle.literal.proofs.Signed.{eqZ-true}
+use Rattle.literal.proofs.Truth.{holds-neg}
 use Rattle.tables.specs.Tables.{classOf}
 use Rattle.tables.specs.Values.{classLiteral}
 use Rattle.clauses.proofs.Known.{abs-signed}
 use Rattle.merge.specs.Visits.{substituted}
-use Rattle.merge.proofs.Equal.{holds-complement}
 use Rattle.merge.proofs.Repeats.{All, distinct-all, all-map}
 
 -- ---- repeats
@@ -63,7 +63,7 @@ tautology-true τ [] A e = e
 tautology-true τ (x ∷ xs) A e = go (has (negℤ x) xs) refl e (tautology-true τ xs (A .1))
   where
     go : (b : Bool) → has (negℤ x) xs ≡ b → (b || tautology xs) ≡ true → (tautology xs ≡ true → someHolds τ xs ≡ true) → someHolds τ (x ∷ xs) ≡ true
-    go true b e rest = either-true (holds τ x) (someHolds τ xs) (λ f. has-holds τ (negℤ x) xs b (holds-complement τ x (A .0) ∙ ap not f))
+    go true b e rest = either-true (holds τ x) (someHolds τ xs) (λ f. has-holds τ (negℤ x) xs b (holds-neg τ x (A .0) ∙ ap not f))
     go false b e rest = ap (λ (z : Bool). holds τ x || z) (rest e) ∙ or-true (holds τ x)
 
 -- ---- classes
@@ -81,7 +81,7 @@ class-holds τ w l some e = go (nonNeg l)
 
     go : (b : Bool) → holds τ (signBy b (classOf w (natAbs l))) ≡ signed b (τ (natAbs l))
     go true = sym e
-    go false = holds-complement τ (classOf w (natAbs l)) some ∙ ap not (sym e)
+    go false = holds-neg τ (classOf w (natAbs l)) some ∙ ap not (sym e)
 
 some-map : (τ : Assignment) (f : ℤ → ℤ) (xs : List ℤ) → ((k : ℕ) → k < length xs → holds τ (f (getD xs k (pos 0))) ≡ holds τ (getD xs k (pos 0))) → someHolds τ (map f xs) ≡ someHolds τ xs
 some-map τ f [] h = refl

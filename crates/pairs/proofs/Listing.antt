@@ -9,7 +9,7 @@ use mathlib.Core.List.{List, [], _∷_, map, List·Memᴰ, List·Memᴰ·head, L
 use lib.ListN.{length, getD, take, drop, length-drop, length-append}
 use lib.Seq.{sets, sets-eq, take-at, getD-take, getD-drop, length-take-le}
 use lib.IntN.{ℤ, pos}
-use Rattle.walk.proofs.Cycle.{mem-at}
+use Rattle.base.proofs.Lists.{getD-mem}
 use Rattle.literal.specs.Literals.{slotOf, twin}
 use Rattle.literal.proofs.Laws.{slot-below}
 use Rattle.literal.proofs.Twins.{twin-below}
@@ -147,6 +147,6 @@ module _ {v n : ℕ} {cs : List ℕ} {ls : List ℤ} {F T offsets targets : List
         few = omega (arith, few-edges cs ls n 0, R .listed .number);
         room = omega (arith, few-edges cs ls n 0, R .heads);
         slots = λ i lt.
-            let k = froms-mem clauses (mem-at (froms clauses) 0 i (omega arith) lt) in
+            let k = froms-mem clauses (getD-mem (froms clauses) i 0 lt) in
             omega (arith, R .marks, k .4, twin-below v (k .2) (slots-in (R .listed) (k .0) (k .1) (k .2) (k .3)));
       }

@@ -59,9 +59,6 @@ module _ (n : ℕ) (cs : List ℕ) (ls : List ℤ) where
     pub from-same : sets F k (froms (rest i)) ≡ sets F₀ 0 (froms (rest 0))
     pub to-same : sets T k (tos (rest i)) ≡ sets T₀ 0 (tos (rest 0))
 
-  pub pairing-none : (F T : List ℕ) → Pairing F T F T 0 0
-  pairing-none F T = record { within = omega arith; few = omega arith; from-size = refl; to-size = refl; count = omega arith; from-same = refl; to-same = refl }
-
   module _ (F₀ T₀ F T : List ℕ) (k i : ℕ) (lt : i < n) (C : Listed 1024 n cs ls) (P : Pairing F₀ T₀ F T k i) where
     pub pairing-in : (a b : ℕ) (F′ T′ : List ℕ) → lengthOf cs i ≡ 2 → a ≡ slotOf (getD ls (startOf cs i) (pos 0)) → b ≡ slotOf (getD ls (startOf cs i + 1) (pos 0))
         → F′ ≡ sets F k (twin a ∷ twin b ∷ []) → T′ ≡ sets T k (b ∷ a ∷ []) → Pairing F₀ T₀ F′ T′ (k + 2) (i + 1)

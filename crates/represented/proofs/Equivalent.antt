@@ -3,7 +3,7 @@ use Prim.Native.Nat.{ℕ, zero, suc, _+_, _*_, _-_, _/_, _%_, _≤_, _<_}
 use native.Mathlib.Omega.{arith}
 use native.Mathlib.Numerals.{add-one}
 use mathlib.Core.Path.{_≡_, refl, sym, ap, subst, _∙_}
-use mathlib.Core.Bool.{Bool, true, false, not, false≢true}
+use mathlib.Core.Bool.{Bool, true, false, not, false≢true, Bool·not-not}
 use mathlib.Core.Logic.{_⊎_, inl, inr, ⊎-elim}
 use mathlib.Core.List.{List, map, List·Memᴰ}
 use lib.ListN.{length, getD}
@@ -23,10 +23,11 @@ use Rattle.clauses.specs.Formed.{Formed, Variables}
 use Rattle.clauses.proofs.Forming.{clause-fits}
 use Rattle.sound.specs.Formula.{Clause, dropped, standing, value, Sat, Models}
 use Rattle.demand.specs.Core as core
+use Rattle.sound.proofs.Truth.{value-slot}
 use Rattle.represented.specs.Represented.{clauseOf, Represented}
 use Rattle.represented.proofs.Propagated.{mem-map, map-mem, mem-at}
 use Rattle.represented.proofs.Literals.{class-is, class-lit}
-use Rattle.represented.proofs.Standing.{Real, value-slot, sat-slots, slots-sat, mem-number, number-mem, clause-stands, stands-clause, class-holds, fact-holds, holds-neg, not-not}
+use Rattle.represented.proofs.Standing.{Real, sat-slots, slots-sat, mem-number, number-mem, clause-stands, stands-clause, class-holds, fact-holds}
 
 -- a slot below 2v is that of a literal
 pub slot-literal : (v s : ℕ) → s < 2 * v → Literal v (litAt s)
@@ -79,5 +80,5 @@ module _ (st : State) (t : Tables) (k : core.Core) (sl : ℕ) (F : Formed (st .v
     truths = λ w lt e. fact-true S (pos (w + 1)) (record { above = omega arith; within = omega arith }) e;
     falsehoods = λ w lt e.
         let q : not (τ (suc w)) ≡ true = fact-true S (negsuc w) (record { above = omega arith; within = lt }) (ap negℤ (ap (valueOf (t .variables)) (sym (add-one w)) ∙ e)) in
-        ap τ (add-one w) ∙ sym (not-not (τ (suc w))) ∙ ap not q;
+        ap τ (add-one w) ∙ sym (Bool·not-not (τ (suc w))) ∙ ap not q;
   }

@@ -33,16 +33,6 @@ flagBy b = elim b [ true ↦ 0 | false ↦ 1 ]
 
 -- ---- sizes
 
-records-length : (at : ℕ) (cs : List (List ℤ)) → length (clauseRecords at cs) ≡ 3 * length cs
-unfolding clauseRecords
-records-length at [] = refl
-records-length at (c ∷ cs) = omega (arith, records-length (at + length (keptOf c)) cs)
-
-variables-length : (w v : ℕ) → length (variableRecords w v) ≡ 2 * v
-unfolding variableRecords
-variables-length w zero = refl
-variables-length w (suc v) = omega (arith, variables-length (suc w) v)
-
 kept-short : (c : List ℤ) → length (keptOf c) ≤ length c
 kept-short c = go (tautology c)
   where

@@ -8,11 +8,12 @@ use mathlib.Core.List.{List, [], _∷_, _++_, map, List·Memᴰ, List·Memᴰ·h
 use lib.ListN.{length, getD, length-map}
 use lib.Seq.{getD-set-same, set-set}
 use lib.IntN.{ℤ, pos, negℤ, natAbs}
+use Rattle.base.proofs.Booleans.{or-either}
+use Rattle.base.proofs.Lists.{sub-mem}
 use Rattle.literal.specs.Literals.{Literal, slotOf, twin, eqZ}
 use Rattle.literal.specs.Clauses.{has, distinctFrom, distinct, tautology}
 use Rattle.literal.proofs.Laws.{slot-twin}
 use Rattle.literal.proofs.Signed.{eqZ-true, eq-eqZ}
-use Rattle.hidden.proofs.Basics.{or-either, sub-mem}
 use Rattle.tables.specs.Tables.{Tables, tables, lengthOf}
 use Rattle.tables.specs.Tables as T
 use Rattle.tables.specs.Values.{classLiteral}
@@ -28,7 +29,7 @@ use Rattle.demand.specs.Core as core
 use Rattle.demand.specs.Moves as moves
 use Rattle.merge.specs.Merge.{mergeClause, unlessTautology}
 use Rattle.merge.proofs.Repeats.{distinct-short}
-use Rattle.load.proofs.Distinct.{has-distinct}
+use Rattle.literal.proofs.Distinct.{has-distinct}
 use Rattle.represented.specs.Represented.{clauseOf, Represented}
 use Rattle.represented.proofs.Literals.{class-is, class-lit}
 use Rattle.represented.proofs.Propagated.{Simulated, literalsAt, stands-as, put-represented, mem-map, map-mem, map-sub}

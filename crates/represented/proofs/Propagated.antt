@@ -13,10 +13,9 @@ use lib.IntN.{ℤ, pos, negℤ, natAbs}
 use lib.Signed.{nonNeg}
 use Rattle.base.specs.Decide.{same-or}
 use Rattle.base.specs.Lists.{any, filter}
+use Rattle.base.proofs.Lists.{mem-filter, any-out, in-filter, filter-sub}
 use Rattle.literal.specs.Literals.{Literal, slotOf, litAt, twin, eqZ, signBy}
 use Rattle.literal.proofs.Laws.{slot-below}
-use Rattle.base.proofs.Lists.{mem-filter}
-use Rattle.hidden.proofs.Basics.{any-out, in-filter, filter-sub}
 use Rattle.tables.specs.Tables.{Tables, tables, lengthOf}
 use Rattle.tables.specs.Tables as T
 use Rattle.tables.specs.Values as values

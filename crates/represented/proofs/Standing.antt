@@ -14,7 +14,8 @@ use borrow.Author.Tests.{lt-ltb, le-ltb}
 use Rattle.base.specs.Decide.{same-or, le-or}
 use Rattle.literal.specs.Literals.{Literal, slotOf, litAt, litBy, twin, eqZ}
 use Rattle.literal.specs.Assignments.{Assignment, holds, someHolds}
-use Rattle.literal.proofs.Laws.{slot-lit, lit-slot, slot-below}
+use Rattle.literal.proofs.Laws.{slot-lit, slot-below}
+use Rattle.literal.proofs.Truth.{holds-neg}
 use Rattle.state.specs.declared.State.{State}
 use Rattle.tables.specs.Tables.{Tables, classOf, valueOf}
 use Rattle.tables.specs.Tables as T
@@ -24,6 +25,7 @@ use Rattle.tables.specs.Clauses.{literalsOf}
 use Rattle.clauses.specs.Formed.{Formed, Variables}
 use Rattle.clauses.proofs.Known.{known-row}
 use Rattle.sound.specs.Formula.{Clause, dropped, standing, value, Sat, Models}
+use Rattle.sound.proofs.Truth.{value-slot}
 use Rattle.demand.specs.Core as core
 use Rattle.represented.specs.Represented.{clauseOf, Represented, clausesOf, coreOf}
 use Rattle.represented.proofs.Propagated.{mem-map, map-mem}
@@ -77,10 +79,6 @@ some-holds τ (x ∷ C) {l} m h = ⊎-elim (λ (e : l ≡ x). ap (λ (b : Bool).
 pub record Real (C : List ℤ) : Type 0 where
   pub each : (l : ℤ) → List·Memᴰ l C → 0 < natAbs l
 
-pub value-slot : (τ : Assignment) (l : ℤ) → 0 < natAbs l → value τ (slotOf l) ≡ holds τ l
-unfolding value
-value-slot τ l h = ap (holds τ) (lit-slot l h)
-
 pub sat-slots : (τ : Assignment) (C : List ℤ) → Real C → someHolds τ C ≡ true → Sat τ (map slotOf C)
 sat-slots τ C real h = let r = holds-some τ C h in (slotOf (r .0), map-mem C (r .1), value-slot τ (r .0) (real .each (r .0) (r .1)) ∙ r .2)
 
@@ -112,15 +110,6 @@ unfolding clauseOf
 stands-clause c l i e = ap (λ (x : ℕ). elim x as (λ y. Clause) [ zero ↦ dropped | suc _ ↦ standing (map slotOf (literalsOf c l i)) ]) e
 
 -- ---- classes and values of a literal
-
-pub not-not : (b : Bool) → not (not b) ≡ b
-not-not true = refl
-not-not false = refl
-
-pub holds-neg : (τ : Assignment) (l : ℤ) → 0 < natAbs l → holds τ (negℤ l) ≡ not (holds τ l)
-holds-neg τ (pos zero) h = absurd (omega arith)
-holds-neg τ (pos (suc n)) h = refl
-holds-neg τ (negsuc n) h = sym (not-not (τ (suc n)))
 
 module _ (st : State) (t : Tables) (τ : Assignment) (S : stands.Stands t st τ) (rows : Variables (st .v) (t .variables)) where
   pub class-holds : (l : ℤ) → Literal (st .v) l → holds τ l ≡ holds τ (classLiteral (t .variables) l)

@@ -8,19 +8,16 @@ use lib.ListN.{length, drop, length-append}
 use lib.Dec.{leb, ltb}
 use lib.IntN.{ℤ, natAbs}
 use borrow.Author.Tests.{leb-true, ltb-true}
-use Rattle.literal.proofs.Signed.{and-left, and-right}
-use Rattle.state.specs.declared.Refusal.{Refusal}
+use Rattle.base.proofs.Booleans.{and-left, and-right}
 use Rattle.state.specs.declared.Refusal.the-variants.{Grammar, Limit}
 use Rattle.dimacs.specs.Words.{Word, wordsAt}
 use Rattle.dimacs.specs.Tokens.{Meaning, bad, nought, literal, meaning}
 use Rattle.dimacs.specs.Text.{left, judge, judgeEnd, judgeText, signed, clausesOf, textClauses}
 use Rattle.dimacs.specs.declared.Verdict.{Verdict}
-use Rattle.dimacs.specs.declared.Verdict.the-variants.{Refused, Fits}
+use Rattle.dimacs.specs.declared.Verdict.the-variants.{Fits}
+use Rattle.dimacs.proofs.Judge.{not-fits}
 use Rattle.load.proofs.Texts.{literal-pos, abs-signed, fits-ready}
 use Rattle.write.specs.Writable.{InClause, InClauses, total}
-
-not-fits : (x : Verdict) (r : Refusal) (v n body : ℕ) → x ≡ Refused r → x ≡ Fits v n body → ⊥
-not-fits x r v n body p q = let z : _≡_ {A = ℕ} 0 1 = cc in omega arith
 
 -- ---- the clauses of words that are accepted
 

@@ -1,6 +1,5 @@
 -- Loading what was written: the same clauses stand in the tables, in the same order. Assumes nothing.
 use Prim.Native.Nat.{ℕ, zero, suc, _+_, _*_, _-_}
-use native.Mathlib.Omega.{arith}
 use mathlib.Core.Path.{_≡_, refl, sym, ap, _∙_}
 use mathlib.Core.Bool.{Bool, true, false}
 use mathlib.Core.List.{List, [], _∷_, _++_, append-assoc}
@@ -19,6 +18,7 @@ use Rattle.tables.specs.Long.{Long, long?, longOk}
 use Rattle.tables.specs.Calls.{After, answered, state}
 use Rattle.dimacs.specs.Text.{judgeText, bodyOf}
 use Rattle.load.specs.Load.{keptOf, clauseRecords, literalPlaces, variableRecords, anyEmpty, laid, loadBy, loadCall}
+use Rattle.load.proofs.Sizes.{records-length, variables-length}
 use Rattle.printing.specs.Printing.{textOf}
 use Rattle.write.specs.Writable.{Writable}
 use Rattle.write.specs.Write.{unitsOf, classClauses, standingClauses, writtenBy, writtenClauses}
@@ -68,11 +68,6 @@ standing-laid (c ∷ cs) at front tail e =
         let f : _≡_ {A = ℕ} (elim (tautology c) [ true ↦ 0 | false ↦ 1 ]) 1 = rw t in
         ap (λ (x : ℕ). standingClauses (at ∷ length kept ∷ x ∷ clauseRecords (at + length kept) cs) l) f ∙ (λ i. view i ∷ more ih i) ∙ rw (t, keptClauses, keptOf)
 
-records-length : (at : ℕ) (cs : List (List ℤ)) → length (clauseRecords at cs) ≡ 3 * length cs
-unfolding clauseRecords
-records-length at [] = refl
-records-length at (c ∷ cs) = omega (arith, records-length (at + length (keptOf c)) cs)
-
 -- the clauses that stand in the tables which hold the clauses cs
 pub laid-standing : (v : ℕ) (cs : List (List ℤ)) (t : Tables) → standingClauses (take (3 * length cs) (laid v cs t .clauses)) (laid v cs t .literals) ≡ keptClauses cs
 unfolding laid
@@ -82,11 +77,6 @@ laid-standing v cs t =
     ∙ standing-laid cs 0 [] tail refl
 
 -- ---- no unit and no class clause comes of a load
-
-variables-length : (w v : ℕ) → length (variableRecords w v) ≡ 2 * v
-unfolding variableRecords
-variables-length w zero = refl
-variables-length w (suc v) = omega (arith, variables-length (suc w) v)
 
 no-units : (w v : ℕ) → unitsOf w (variableRecords w v) ≡ []
 unfolding variableRecords

@@ -2,35 +2,25 @@
 use Prim.Native.Nat.{ℕ, zero, suc, _+_, _≤_, _<_}
 use native.Mathlib.Omega.{arith}
 use mathlib.Core.Path.{_≡_, refl, sym, ap, _∙_, subst}
-use mathlib.Core.Bool.{Bool, true, false, _||_, false≢true}
+use mathlib.Core.Bool.{Bool, true, false, false≢true}
 use mathlib.Core.List.{List, [], _∷_, _++_, append-assoc, append-nil}
 use lib.ListN.{length, getD, take, drop}
 use lib.Seq.{drop-cons}
 use lib.IntN.{ℤ, pos, negℤ, natAbs}
+use Rattle.base.proofs.Booleans.{or-left, or-right, neither-or}
 use Rattle.literal.specs.Literals.{eqZ}
 use Rattle.literal.specs.Clauses.{has, distinctFrom, distinct, tautology}
 use Rattle.literal.proofs.Signed.{abs-neg, eq-eqZ, ne-eqZ}
 use Rattle.roundtrip.specs.Plain.{Plain}
 
--- ---- bools that are false
-or-left : (a b : Bool) → (a || b) ≡ false → a ≡ false
-or-left true b e = e
-or-left false b e = refl
-
-or-right : (a b : Bool) → (a || b) ≡ false → b ≡ false
-or-right true b e = absurd (false≢true (sym e))
-or-right false b e = e
-
-or-none : (a b : Bool) → a ≡ false → b ≡ false → (a || b) ≡ false
-or-none a b p q = rw (p, q)
-
+-- ---- the order of a test does not matter
 eqZ-flip : (x y : ℤ) → eqZ x y ≡ false → eqZ y x ≡ false
 eqZ-flip x y e = ne-eqZ y x (λ q. false≢true (sym e ∙ eq-eqZ x y (sym q)))
 
 -- ---- no literal of a list is l
 has-front : (l : ℤ) (xs ys : List ℤ) → has l (xs ++ ys) ≡ false → has l xs ≡ false
 has-front l [] ys e = refl
-has-front l (x ∷ xs) ys e = or-none (eqZ x l) (has l xs) (or-left (eqZ x l) (has l (xs ++ ys)) e) (has-front l xs ys (or-right (eqZ x l) (has l (xs ++ ys)) e))
+has-front l (x ∷ xs) ys e = neither-or (eqZ x l) (has l xs) (or-left (eqZ x l) (has l (xs ++ ys)) e) (has-front l xs ys (or-right (eqZ x l) (has l (xs ++ ys)) e))
 
 has-back : (l : ℤ) (xs ys : List ℤ) → has l (xs ++ ys) ≡ false → has l ys ≡ false
 has-back l [] ys e = e
@@ -38,7 +28,7 @@ has-back l (x ∷ xs) ys e = has-back l xs ys (or-right (eqZ x l) (has l (xs ++ 
 
 has-neither : (l : ℤ) (xs ys : List ℤ) → has l xs ≡ false → has l ys ≡ false → has l (xs ++ ys) ≡ false
 has-neither l [] ys a b = b
-has-neither l (x ∷ xs) ys a b = or-none (eqZ x l) (has l (xs ++ ys)) (or-left (eqZ x l) (has l xs) a) (has-neither l xs ys (or-right (eqZ x l) (has l xs) a) b)
+has-neither l (x ∷ xs) ys a b = neither-or (eqZ x l) (has l (xs ++ ys)) (or-left (eqZ x l) (has l xs) a) (has-neither l xs ys (or-right (eqZ x l) (has l xs) a) b)
 
 -- ---- no repeat
 NoRepeat : List ℤ → Type 0
@@ -50,7 +40,7 @@ not-before : (kept xs : List ℤ) (x : ℤ) → NoRepeat (kept ++ (x ∷ xs)) �
 unfolding NoRepeat
 not-before [] xs x n = refl
 not-before (y ∷ ys) xs x n =
-    or-none (eqZ y x) (has x ys) (eqZ-flip x y (or-left (eqZ x y) (has y xs) (has-back y ys (x ∷ xs) (n .0)))) (not-before ys xs x (n .1))
+    neither-or (eqZ y x) (has x ys) (eqZ-flip x y (or-left (eqZ x y) (has y xs) (has-back y ys (x ∷ xs) (n .0)))) (not-before ys xs x (n .1))
 
 distinct-kept : (kept xs : List ℤ) → NoRepeat (kept ++ xs) → distinctFrom kept xs ≡ kept ++ xs
 distinct-kept kept [] n = sym (append-nil kept)
@@ -63,7 +53,7 @@ snoc-no-repeat : (kept : List ℤ) (x : ℤ) → NoRepeat kept → has x kept �
 unfolding NoRepeat
 snoc-no-repeat [] x n e = (refl, tt)
 snoc-no-repeat (y ∷ ys) x n e = (
-  has-neither y ys (x ∷ []) (n .0) (or-none (eqZ x y) false (eqZ-flip y x (or-left (eqZ y x) (has x ys) e)) refl),
+  has-neither y ys (x ∷ []) (n .0) (neither-or (eqZ x y) false (eqZ-flip y x (or-left (eqZ y x) (has x ys) e)) refl),
   snoc-no-repeat ys x (n .1) (or-right (eqZ y x) (has x ys) e),
 )
 
@@ -81,7 +71,7 @@ consistent-without [] xs x e = or-right (has (negℤ x) xs) (tautology xs) e
 consistent-without (y ∷ ys) xs x e =
     let h : has (negℤ y) (ys ++ (x ∷ xs)) ≡ false = or-left (has (negℤ y) (ys ++ (x ∷ xs))) (tautology (ys ++ (x ∷ xs))) e in
     let b : has (negℤ y) (x ∷ xs) ≡ false = has-back (negℤ y) ys (x ∷ xs) h in
-    or-none (has (negℤ y) (ys ++ xs)) (tautology (ys ++ xs)) (has-neither (negℤ y) ys xs (has-front (negℤ y) ys (x ∷ xs) h) (or-right (eqZ x (negℤ y)) (has (negℤ y) xs) b))
+    neither-or (has (negℤ y) (ys ++ xs)) (tautology (ys ++ xs)) (has-neither (negℤ y) ys xs (has-front (negℤ y) ys (x ∷ xs) h) (or-right (eqZ x (negℤ y)) (has (negℤ y) xs) b))
     (consistent-without ys xs x (or-right (has (negℤ y) (ys ++ (x ∷ xs))) (tautology (ys ++ (x ∷ xs))) e))
 
 consistent-distinct : (kept xs : List ℤ) → tautology (kept ++ xs) ≡ false → tautology (distinctFrom kept xs) ≡ false
@@ -114,7 +104,7 @@ Varied (x ∷ xs) = Without (natAbs x) xs × Varied xs
 without-has : (l : ℤ) (w : ℕ) (xs : List ℤ) → natAbs l ≡ w → Without w xs → has l xs ≡ false
 unfolding Without
 without-has l w [] e n = refl
-without-has l w (x ∷ xs) e n = or-none (eqZ x l) (has l xs) (ne-eqZ x l (λ q. n .0 (ap natAbs q ∙ e))) (without-has l w xs e (n .1))
+without-has l w (x ∷ xs) e n = neither-or (eqZ x l) (has l xs) (ne-eqZ x l (λ q. n .0 (ap natAbs q ∙ e))) (without-has l w xs e (n .1))
 
 varied-no-repeat : (c : List ℤ) → Varied c → NoRepeat c
 unfolding Varied NoRepeat
@@ -124,7 +114,7 @@ varied-no-repeat (x ∷ xs) v = (without-has x (natAbs x) xs refl (v .0), varied
 varied-consistent : (c : List ℤ) → Varied c → tautology c ≡ false
 unfolding Varied
 varied-consistent [] v = refl
-varied-consistent (x ∷ xs) v = or-none (has (negℤ x) xs) (tautology xs) (without-has (negℤ x) (natAbs x) xs (abs-neg x) (v .0)) (varied-consistent xs (v .1))
+varied-consistent (x ∷ xs) v = neither-or (has (negℤ x) xs) (tautology xs) (without-has (negℤ x) (natAbs x) xs (abs-neg x) (v .0)) (varied-consistent xs (v .1))
 
 pub varied-plain : (c : List ℤ) → Varied c → Plain c
 varied-plain c v = record { once = distinct-kept [] c (varied-no-repeat c v); consistent = varied-consistent c v }

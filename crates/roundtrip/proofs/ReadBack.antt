@@ -3,13 +3,14 @@ use Prim.Native.Nat.{ℕ, zero, suc, _+_, _*_, _-_, _/_, _%_, _≤_, _<_}
 use native.Mathlib.Omega.{arith}
 use native.Mathlib.Numerals.{add-one}
 use mathlib.Core.Path.{_≡_, refl, sym, ap, _∙_, subst}
-use mathlib.Core.Bool.{Bool, true, false, not, _&&_, false≢true}
+use mathlib.Core.Bool.{Bool, true, false, not, false≢true}
 use mathlib.Core.List.{List, [], _∷_, _++_, append-assoc, append-nil}
 use lib.ListN.{length, take, drop, getD, length-append, List·getD-append}
 use lib.Seq.{take-at, drop-at, drop-drop}
 use lib.Dec.{leb, ltb}
 use lib.IntN.{ℤ, pos, negsuc, natAbs}
 use borrow.Author.Tests.{leb-true, not-true, ne-eqb, le-leb, lt-ltb, ltb-true, ltb-false}
+use Rattle.base.proofs.Booleans.{and-left}
 use Rattle.dimacs.specs.Words.{isSep, isWordByte, isDigit, span, Word, word, wordsAt}
 use Rattle.dimacs.specs.Tokens.{literal, decimal, decimalFrom, numeral, meaning}
 use Rattle.dimacs.specs.Header.{number, withinLimit, after, header, headerRest}
@@ -117,10 +118,6 @@ digit-word : (b : ℕ) → isDigit b ≡ true → isWordByte b ≡ true
 digit-word b e =
     let h : 48 ≤ b = leb-true 48 b (and-left (leb 48 b) (leb b 57) e) in
     rw (ne-eqb b 32 (λ q. omega (arith, q)), ne-eqb b 9 (λ q. omega (arith, q)), ne-eqb b 13 (λ q. omega (arith, q)), ne-eqb b 10 (λ q. omega (arith, q)))
-  where
-    and-left : (a b : Bool) → (a && b) ≡ true → a ≡ true
-    and-left true b e = refl
-    and-left false b e = e
 
 -- a literal's text is a word that means it
 record Spelt (l : ℤ) (w : List ℕ) : Type 0 where

@@ -1,11 +1,11 @@
 -- Reading what was read gives the same formula. After an accepted load Write gives the text's clauses with repeats removed and those with v and -v left out, or the empty clause alone under the mark;
 -- and a load of that text gives just these clauses again. Assumes nothing.
-use Prim.Native.Nat.{ℕ, _+_, _*_, _≤_}
+use Prim.Native.Nat.{ℕ, _*_, _≤_}
 use native.Mathlib.Omega.{arith}
 use mathlib.Core.Path.{_≡_, refl, sym, ap, _∙_, subst}
 use mathlib.Core.Bool.{Bool, true, false, false≢true}
 use mathlib.Core.List.{List, [], _∷_, _++_}
-use lib.ListN.{length, take, length-append}
+use lib.ListN.{length, take}
 use lib.IntN.{ℤ}
 use lib.Dec.{eqb}
 use Rattle.literal.specs.Clauses.{has, distinctFrom, tautology}
@@ -18,7 +18,7 @@ use Rattle.tables.specs.Calls.{After, answered, state}
 use Rattle.dimacs.specs.Text.{judgeText, textClauses}
 use Rattle.dimacs.specs.declared.Verdict.the-variants.{Fits}
 use Rattle.load.specs.Load.{anyEmpty, laid, loadBy, loadCall}
-use Rattle.load.proofs.Distinct.{distinct-empty}
+use Rattle.literal.proofs.Distinct.{from-sized, distinct-empty}
 use Rattle.printing.specs.Printing.{textOf}
 use Rattle.write.specs.Writable.{InClause, InClauses, total, Writable}
 use Rattle.write.specs.Write.{standingClauses, writtenClauses, writeText}
@@ -28,15 +28,6 @@ use Rattle.roundtrip.proofs.LoadBack.{kept-plain, laid-standing, laid-w
 use Rattle.roundtrip.proofs.Accepted.{Within, in-snoc, text-within}
 
 -- ---- what is kept of a clause
-
-distinct-length : (kept xs : List ℤ) → length (distinctFrom kept xs) ≤ length kept + length xs
-distinct-length kept [] = omega arith
-distinct-length kept (x ∷ xs) = go (has x kept) refl (distinct-length kept xs) (distinct-length (kept ++ (x ∷ [])) xs)
-  where
-    go : (b : Bool) → has x kept ≡ b → length (distinctFrom kept xs) ≤ length kept + length xs → length (distinctFrom (kept ++ (x ∷ [])) xs) ≤ length (kept ++ (x ∷ [])) + length xs
-        → length (distinctFrom kept (x ∷ xs)) ≤ length kept + length (x ∷ xs)
-    go true e a b = rw (e, distinctFrom) (omega (arith, a))
-    go false e a b = rw (e, distinctFrom) (omega (arith, b, length-append kept (x ∷ [])))
 
 distinct-in : (v : ℕ) (kept xs : List ℤ) → InClause v kept → InClause v xs → InClause v (distinctFrom kept xs)
 unfolding InClause
@@ -65,7 +56,7 @@ kept-all v (c ∷ cs) h = go (tautology c) refl (kept-all v cs (h .1))
     go false e K =
         rw (e, keptClauses) (record {
           fewer = omega (arith, K .fewer);
-          smaller = omega (arith, K .smaller, distinct-length [] c);
+          smaller = omega (arith, K .smaller, from-sized [] c .1);
           each = (distinct-in v [] c tt (h .0), K .each);
           plain = (distinct-plain c e, K .plain);
         })

@@ -3,7 +3,7 @@
 use Prim.Native.Nat.{ℕ, zero, suc, _+_, _*_, _≤_, _<_}
 use native.Mathlib.Omega.{arith}
 use mathlib.Core.Path.{_≡_, refl, sym, ap, _∙_, subst}
-use mathlib.Core.Bool.{Bool, true, false, _||_, false≢true}
+use mathlib.Core.Bool.{Bool, true, false, false≢true}
 use mathlib.Core.List.{List, [], _∷_, _++_}
 use lib.ListN.{length, take, drop, length-drop}
 use lib.Seq.{length-take-le}
@@ -11,6 +11,7 @@ use lib.IntN.{ℤ, pos, negℤ, natAbs}
 use lib.Signed.{nonNeg}
 use lib.Dec.{eqb}
 use borrow.Author.Tests.{ne-eqb}
+use Rattle.base.proofs.Booleans.{or-left, or-right}
 use Rattle.literal.specs.Literals.{eqZ, litBy}
 use Rattle.literal.proofs.Signed.{abs-neg, eqZ-true, eq-eqZ}
 use Rattle.state.specs.declared.State.{State}
@@ -55,16 +56,8 @@ good-append : (xs ys : List (List ℤ)) → Good xs → Good ys → Good (xs ++ 
 unfolding EachPlain
 good-append [] ys a b = b
 good-append (c ∷ xs) ys a b =
-    let r = good-append xs ys (record { plain = a .plain .1; full = right (eqb (length c) 0) (anyEmpty xs) (a .full) }) b in
-    record { plain = (a .plain .0, r .plain); full = rw (left (eqb (length c) 0) (anyEmpty xs) (a .full), r .full) }
-  where
-    left : (a b : Bool) → (a || b) ≡ false → a ≡ false
-    left true b e = e
-    left false b e = refl
-
-    right : (a b : Bool) → (a || b) ≡ false → b ≡ false
-    right true b e = absurd (false≢true (sym e))
-    right false b e = e
+    let r = good-append xs ys (record { plain = a .plain .1; full = or-right (eqb (length c) 0) (anyEmpty xs) (a .full) }) b in
+    record { plain = (a .plain .0, r .plain); full = rw (or-left (eqb (length c) 0) (anyEmpty xs) (a .full), r .full) }
 
 -- ---- what one record gives
 

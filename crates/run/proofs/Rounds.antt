@@ -7,6 +7,7 @@ use mathlib.Core.Bool.{Bool, true, false, _||_}
 use mathlib.Core.List.{List, _∷_}
 use lib.ListN.{length, getD, drop, drop-of-length-le}
 use lib.Seq.{drop-cons}
+use Rattle.base.proofs.Booleans.{or-left}
 use Rattle.tables.specs.Tables.{Tables}
 use Rattle.settle.specs.Settle.{Standing}
 use Rattle.run.specs.Run.{programme, follow, round, unchanged, Rounds, rounds, runFrom}
@@ -87,10 +88,6 @@ one-goes : (m k : ℕ) (w : Standing) → (round k programme w .state .mark || u
 unfolding runFrom
 one-goes m k w e = ap (λ (b : Bool). elim b as (λ x. Rounds) [ true ↦ rounds (suc k) (round k programme w) | false ↦ runFrom programme m (suc k) (round k programme w) ]) e
 
-or-false : (a b : Bool) → (a || b) ≡ false → a ≡ false
-or-false true b e = e
-or-false false b e = refl
-
 module _ {count k : ℕ} {w₀ w : Standing} (L : Rounding count w₀ w k) where
   pub rounding-done : count ≤ k → rounds k w ≡ runFrom programme count 0 w₀
   unfolding runFrom
@@ -109,7 +106,7 @@ module _ {count k : ℕ} {w₀ w : Standing} (L : Rounding count w₀ w k) where
     pub rounding-more : stop ≡ false → Sized (w .tables) (w′ .tables) → Rounding count w₀ w′ (k + 1)
     rounding-more s S = record {
       within = omega arith;
-      runs = subst Runs (sym is) (round-runs k programme w (L .runs) (or-false _ _ (sym told ∙ s)));
+      runs = subst Runs (sym is) (round-runs k programme w (L .runs) (or-left _ _ (sym told ∙ s)));
       left = ap₂ (λ (j : ℕ) (x : Standing). runFrom programme (count - (k + 1)) j x) (add-one k) is ∙ sym (one-goes (count - (k + 1)) k w (sym told ∙ s)) ∙ next;
       sizes = sized-more (L .sizes) S;
     }

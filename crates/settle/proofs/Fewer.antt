@@ -12,7 +12,7 @@ use Rattle.literal.specs.Literals.{slotOf, twin}
 use Rattle.literal.proofs.Laws.{slot-below}
 use Rattle.literal.proofs.Twins.{twin-even, twin-odd}
 use Rattle.walk.specs.Forest.{Reach, here}
-use Rattle.graph.proofs.Implications.{twin-variable}
+use Rattle.literal.proofs.Twins.{twin-variable}
 use Rattle.groups.specs.Groups.{cyclic, leastMutual, Representative}
 use Rattle.groups.proofs.Kosaraju.{mirror}
 use Rattle.cycles.proofs.Forward.{cyclic-found, reach-within}

@@ -9,7 +9,7 @@ use lib.ListN.{length, getD, replicate, length-replicate}
 use lib.Dec.{ltb}
 use lib.IntN.{ℤ, pos, negsuc, natAbs}
 use borrow.Author.Count.{below-more}
-use Rattle.stamps.proofs.Indexing.{getD-zeros}
+use Rattle.base.proofs.Lists.{getD-zeros}
 use Rattle.tables.specs.Tables.{startOf, lengthOf, standing, classOf}
 use Rattle.shape.specs.Shape.{Parts, Literals, Clauses}
 use Rattle.shape.specs.Row.{Below}

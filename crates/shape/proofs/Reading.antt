@@ -3,7 +3,7 @@ use Prim.Native.Nat.{ℕ, _+_, _≤_, _<_}
 use native.Mathlib.Decide.{decLe}
 use native.Mathlib.Omega.{arith}
 use mathlib.Core.Path.{_≡_}
-use mathlib.Core.Bool.{true, false}
+use mathlib.Core.Bool.{true}
 use mathlib.Core.List.{List}
 use Rattle.tables.specs.Tables.{Tables, startOf, lengthOf}
 use Rattle.shape.specs.Shape.{Parts, Shape}
@@ -27,9 +27,6 @@ disjoint-apart clauses i j rise none a b =
       | no h ↦ absurd (none (startOf clauses j) (rise, omega arith) (omega arith, omega arith))
     ]
 
--- refusal 1 is not given: the rule holds; it is given: the rule fails
+-- where refusal 1 is not given, the rule holds
 pub shaped : (t : Tables) (st : State) → shapeOk t st ≡ true → Shape t st
 shaped t st = shape-exact t st .holds
-
-pub misshapen : (t : Tables) (st : State) → shapeOk t st ≡ false → Shape t st → ⊥
-misshapen t st = shape-exact t st .fails

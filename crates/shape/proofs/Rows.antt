@@ -1,11 +1,12 @@
 -- The pass over the clause records, with the last start and the largest end so far. Assumes nothing.
-use Prim.Native.Nat.{ℕ, zero, suc, _+_, _≤_, _<_}
+use Prim.Native.Nat.{ℕ, _+_, _≤_, _<_}
 use native.Mathlib.Nat.{not-suc-le-zero}
 use native.Mathlib.Omega.{arith}
 use mathlib.Core.Path.{_≡_, refl}
-use mathlib.Core.Logic.{_⊎_, inl, inr}
+use mathlib.Core.Logic.{inl, inr}
 use mathlib.Core.List.{List}
 use borrow.Author.Count.{below-more}
+use Rattle.base.specs.Decide.{zero-or}
 use Rattle.tables.specs.Tables.{startOf, lengthOf, standing}
 use Rattle.shape.specs.Shape.{Parts}
 use Rattle.shape.specs.Row.{Row}
@@ -40,19 +41,15 @@ module _ (clauses : List ℕ) (i floor end : ℕ) (R : Rows clauses i floor end)
     flagged = P .flag i lt;
     dropped = P .dropped i lt;
     inside = P .inside i lt;
-    rising = elim (positive floor) [
+    rising = elim (zero-or floor) [
       | inl z ↦ omega arith
       | inr h ↦ let m = R .floor-met h in omega (arith, m .2, P .rising i lt (m .0) (m .1))
     ];
-    apart = λ has. elim (positive end) [
+    apart = λ has. elim (zero-or end) [
       | inl z ↦ omega arith
       | inr h ↦ let m = R .end-met h in omega (arith, m .3, P .apart i lt (m .0) (m .1) (m .2) has)
     ];
   }
-    where
-      positive : (k : ℕ) → (k ≡ 0) ⊎ (0 < k)
-      positive zero = inl refl
-      positive (suc k) = inr (omega arith)
 
   module _ (W : Row (startOf clauses i) (lengthOf clauses i) (standing clauses i) floor end) where
     next-parts : Parts (i + 1) clauses

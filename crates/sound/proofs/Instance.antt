@@ -12,6 +12,7 @@ use Rattle.graph.specs.Edges.{outs}
 use Rattle.graph.specs.Clauses.{froms, tos}
 use Rattle.groups.specs.Groups.{Lists, cyclic}
 use Rattle.stamp.specs.Stamp.{stampsOf}
+use Rattle.stamp.proofs.Stamped.{stamps-stamped}
 use Rattle.sound.specs.Formula.{literalsIn, Models, graph, formulaStamps}
 use Rattle.sound.specs.Sweep.{sweepFirst}
 use Rattle.sound.specs.Kept.{Shaped}
@@ -20,7 +21,7 @@ use Rattle.sound.proofs.Cases.{o4, f2}
 use Rattle.sound.proofs.Tests.{once?, clause?, shaped?, lists?, shaped-of, lists-of}
 use Rattle.sound.proofs.Graph.{shaped-below, shaped-once}
 use Rattle.cycles.proofs.Forward.{cyclic-forward}
-use Rattle.sound.proofs.Walked.{stamps-stamped, stamp-sweep-keeps}
+use Rattle.sound.proofs.Walked.{stamp-sweep-keeps}
 
 p2-shaped : Shaped 4 f2
 unfolding f2 once? clause? shaped? any literalsIn

@@ -5,6 +5,7 @@ use mathlib.Core.Path.{_≡_, sym, subst₂, _∙_}
 use mathlib.Core.Logic.{_⊎_, inl, inr, ⊎-elim, _↔_}
 use mathlib.Core.List.{List, [], _∷_}
 use lib.ListN.{getD}
+use Rattle.base.proofs.Lists.{mem-getD}
 use Rattle.literal.specs.Literals.{twin}
 use Rattle.walk.specs.Walk.{Stamps}
 use Rattle.walk.specs.Forest.{Reach, here, on}
@@ -15,7 +16,7 @@ use Rattle.sound.specs.Sweep.{sweepFirst}
 use Rattle.sound.specs.Kept.{Detour, Kept, same, round, implied, Since, none, each}
 use Rattle.sound.proofs.Graph.{not-standing, edge-pair, reads-edge}
 use Rattle.sound.proofs.Rule.{rule}
-use Rattle.sound.proofs.Sound.{Ready, graph-below, sweep-since, mem-nth, nth-mem}
+use Rattle.sound.proofs.Sound.{Ready, graph-below, sweep-since, nth-mem}
 
 -- ---- clauses by number
 
@@ -42,13 +43,13 @@ module _ (vars : ℕ) (f : List Clause) (σ : Stamps) (R : Ready vars f σ) (g :
   reach-kept whole {p} {q} r =
       reach-implies (graph f) (Reach (graph g) p) (λ x y k. rule (graph f) σ (R .stamped .forest) (R .acyclic) (Reach (graph g) p) (λ s t es m.
       let c = edge-pair f s t m in
-      let n = mem-nth f (c .2) in
+      let n = mem-getD f dropped (c .2) in
       ⊎-elim
       (λ k. inl (λ h. on h (reads-edge g (c .0) (c .1) s t (nth-mem g (n .0) _ k) (c .3))))
       (λ k.
-      let d = dropped-round (subst₂ (Kept (graph f)) (n .1) k (since-nth S (n .0))) in
+      let d = dropped-round (subst₂ (Kept (graph f)) (n .2) k (since-nth S (n .0))) in
       inr (by-reads (Detour (graph f)) (c .3) (d .0) (d .1)))
-      (whole (n .0) (c .0) (c .1) (n .1)))
+      (whole (n .0) (c .0) (c .1) (n .2)))
       x y (R .stamped .all x (graph-below vars f (R .shaped) x y k .0)) k) r here
 
   -- with no clause shortened at all, the reach is the same
@@ -56,9 +57,9 @@ module _ (vars : ℕ) (f : List Clause) (σ : Stamps) (R : Ready vars f σ) (g :
   reach-same whole here = here
   reach-same whole (on {b = s} {c = t} r m) =
       let c = edge-pair g s t m in
-      let n = mem-nth g (c .2) in
+      let n = mem-getD g dropped (c .2) in
       on (reach-same whole r) (reads-edge f (c .0) (c .1) s t
-      (nth-mem f (n .0) _ (⊎-elim (λ k. sym k ∙ n .1) (λ k. absurd (not-standing (sym k ∙ n .1))) (whole (n .0)))) (c .3))
+      (nth-mem f (n .0) _ (⊎-elim (λ k. sym k ∙ n .2) (λ k. absurd (not-standing (sym k ∙ n .2))) (whole (n .0)))) (c .3))
 
 -- whole clauses are whole pairs
 whole-pairs : (f g : List Clause) → Whole f g → PairsWhole f g

@@ -16,6 +16,7 @@ use mathlib.Core.Bool.{Bool, true, false}
 use mathlib.Core.Logic.{_⊎_, inl, inr, ⊎-elim, _↔_}
 use mathlib.Core.List.{List, [], _∷_, map, List·Memᴰ, List·Memᴰ·head, List·Memᴰ·tail, List·Memᴰ·not-nil, List·Memᴰ·cases-cons, Sublistᴰ, Sublistᴰ·refl}
 use lib.ListN.{length, getD}
+use Rattle.base.proofs.Lists.{sub-mem}
 use Rattle.literal.specs.Literals.{twin}
 use Rattle.literal.specs.Assignments.{Assignment}
 use Rattle.literal.proofs.Twins.{twin-below}
@@ -25,7 +26,6 @@ use Rattle.walk.proofs.Theorems.{Stamped, reach-implies}
 use Rattle.graph.specs.Clauses.{Once}
 use Rattle.groups.proofs.Kosaraju.{reach-trans}
 use Rattle.hidden.specs.Hidden.{shorten}
-use Rattle.hidden.proofs.Basics.{sub-mem}
 use Rattle.hidden.proofs.Intervals.{Within}
 use Rattle.hidden.proofs.Scan.{Reads, by-reads}
 use Rattle.hidden.proofs.Shorten.{shorten-sub}
@@ -66,10 +66,6 @@ first-since adj v (suc k) [] keeps = none
 first-since adj v (suc k) (c ∷ f) keeps = each (keeps c (List·Memᴰ·head refl)) (first-since adj v k f (λ x m. keeps x (List·Memᴰ·tail m)))
 
 -- ---- clauses by number
-
-pub mem-nth : (f : List Clause) {c : Clause} → List·Memᴰ c f → (i : ℕ) × (getD f i dropped ≡ c)
-mem-nth [] m = absurd (List·Memᴰ·not-nil m)
-mem-nth (x ∷ f) m = ⊎-elim (λ e. (zero, sym e)) (λ t. let r = mem-nth f t in (suc (r .0), r .1)) (List·Memᴰ·cases-cons m)
 
 pub nth-mem : (f : List Clause) (i : ℕ) (C : List ℕ) → getD f i dropped ≡ standing C → List·Memᴰ (standing C) f
 nth-mem [] i C e = absurd (not-standing e)

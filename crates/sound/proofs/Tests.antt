@@ -7,10 +7,11 @@ use mathlib.Core.List.{List, [], _∷_, List·Memᴰ, Memᴰ·cast}
 use lib.Dec.{eqb, ltb}
 use borrow.Author.Tests.{ltb-true, eqb-true, eq-eqb, not-true}
 use Rattle.base.specs.Lists.{any, anyBelow}
-use Rattle.literal.proofs.Signed.{and-left, and-right}
+use Rattle.base.proofs.Booleans.{and-left, and-right, bool-or, clash}
+use Rattle.base.proofs.Lists.{any-in, any-out}
+use Rattle.base.proofs.Searches.{anyBelow-in}
 use Rattle.graph.specs.Clauses.{Once, empty, more}
 use Rattle.groups.specs.Groups.{Lists}
-use Rattle.hidden.proofs.Basics.{bool-or, clash, any-in, any-out, anyBelow-in}
 use Rattle.sound.specs.Formula.{Clause, standing, literalsIn}
 use Rattle.sound.specs.Kept.{Shaped}
 

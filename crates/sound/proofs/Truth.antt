@@ -1,14 +1,14 @@
 -- Truth on slots is truth on literals, and a literal is true exactly if its complement is not. Assumes nothing.
-use Prim.Native.Nat.{ℕ, zero, suc, _<_}
-use native.Mathlib.Omega.{arith}
-use mathlib.Core.Path.{_≡_, refl, sym, ap, _∙_}
-use mathlib.Core.Bool.{not, true≢false, Bool·not-not}
+use Prim.Native.Nat.{ℕ, _<_}
+use mathlib.Core.Path.{_≡_, sym, ap, _∙_}
+use mathlib.Core.Bool.{not, true≢false}
 use mathlib.Core.Logic.{_⊎_, inl, inr, ⊎-elim}
-use lib.IntN.{ℤ, pos, negsuc, negℤ, natAbs}
-use Rattle.literal.specs.Literals.{slotOf, litAt, twin}
+use lib.IntN.{ℤ, natAbs}
+use Rattle.base.proofs.Booleans.{bool-or}
+use Rattle.literal.specs.Literals.{slotOf, twin}
 use Rattle.literal.specs.Assignments.{Assignment, holds}
-use Rattle.literal.proofs.Laws.{slot-lit, lit-slot, slot-twin, lit-var}
-use Rattle.hidden.proofs.Basics.{bool-or}
+use Rattle.literal.proofs.Laws.{lit-slot}
+use Rattle.literal.proofs.Truth.{holds-twin}
 use Rattle.sound.specs.Formula.{value, True}
 
 -- the truth of a literal's slot is the truth of the literal
@@ -16,24 +16,9 @@ pub value-slot : (τ : Assignment) (l : ℤ) → 0 < natAbs l → value τ (slot
 unfolding value
 value-slot τ l h = ap (holds τ) (lit-slot l h)
 
-holds-neg : (τ : Assignment) (l : ℤ) → 0 < natAbs l → holds τ (negℤ l) ≡ not (holds τ l)
-holds-neg τ (pos zero) h = absurd (omega arith)
-holds-neg τ (pos (suc n)) h = refl
-holds-neg τ (negsuc n) h = sym (Bool·not-not (τ (suc n)))
-
 pub value-twin : (τ : Assignment) (s : ℕ) → value τ (twin s) ≡ not (value τ s)
 unfolding value
-value-twin τ s =
-    let l : ℤ = litAt s in
-    let h : 0 < natAbs l = omega (arith, lit-var s) in
-    let k : 0 < natAbs (negℤ l) = above l h in
-    let e : litAt (twin s) ≡ negℤ l = ap litAt (ap twin (sym (slot-lit s)) ∙ sym (slot-twin l h)) ∙ lit-slot (negℤ l) k in
-    ap (holds τ) e ∙ holds-neg τ l h
-  where
-    above : (l : ℤ) → 0 < natAbs l → 0 < natAbs (negℤ l)
-    above (pos zero) h = h
-    above (pos (suc n)) h = omega arith
-    above (negsuc n) h = omega arith
+value-twin τ s = holds-twin τ s
 
 -- a literal is true, or its complement is
 pub true-or : (τ : Assignment) (s : ℕ) → True τ s ⊎ True τ (twin s)

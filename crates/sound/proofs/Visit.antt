@@ -6,17 +6,16 @@ use mathlib.Core.Bool.{Bool, true, false}
 use mathlib.Core.Logic.{_⊎_, inl, inr, ⊎-elim}
 use mathlib.Core.List.{List, [], _∷_, List·Memᴰ, List·Memᴰ·head, List·Memᴰ·tail}
 use lib.ListN.{length}
+use Rattle.base.proofs.Booleans.{and-left, and-right, or-either, differ}
 use Rattle.literal.specs.Literals.{twin}
-use Rattle.literal.proofs.Signed.{and-left, and-right}
-use Rattle.literal.proofs.Twins.{twin-twice}
+use Rattle.literal.proofs.Twins.{twin-twice, twin-eq}
 use Rattle.walk.specs.Walk.{Stamps}
 use Rattle.walk.specs.Forest.{dis, par, Holds, Reach, here, on, Top, Under}
 use Rattle.walk.proofs.Theorems.{Stamped, holds-reach, reach-mirror}
 use Rattle.graph.specs.Clauses.{Once}
 use Rattle.groups.proofs.Kosaraju.{reach-trans}
 use Rattle.hidden.specs.Hidden.{holds, hiddenTautology, shorten}
-use Rattle.hidden.proofs.Basics.{or-either, differ}
-use Rattle.hidden.proofs.Intervals.{Within, holds-true, twin-eq}
+use Rattle.hidden.proofs.Intervals.{Within, holds-true}
 use Rattle.hidden.proofs.Scan.{Reads, by-reads, Hidden, hidden-of, tautology-pair}
 use Rattle.hidden.proofs.Shorten.{shorten-sub, shorten-leads}
 use Rattle.sound.specs.Formula.{Clause, dropped, standing, graph}

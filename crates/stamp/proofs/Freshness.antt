@@ -5,34 +5,31 @@
 use Prim.Native.Nat.{ℕ, zero, suc, _+_, _*_, _/_, _-_, _≤_, _<_}
 use native.Mathlib.Omega.{arith}
 use mathlib.Core.Path.{_≡_, refl, sym, ap, _∙_}
-use mathlib.Core.Bool.{Bool}
 use mathlib.Core.Logic.{_⊎_, inl, inr, ⊎-elim}
-use mathlib.Core.List.{List, [], _∷_, _++_, map, List·Memᴰ}
-use lib.ListN.{length, getD, drop, replicate, length-replicate, length-append, length-drop, length-map, List·getD-eq-default, List·getD-append, List·getD-map}
+use mathlib.Core.List.{List, [], _∷_, _++_, map}
+use lib.ListN.{length, getD, drop, replicate, length-replicate, length-append, length-drop, length-map, List·getD-append, List·getD-map}
 use lib.IntN.{ℤ, pos}
-use Rattle.base.specs.Decide.{same-or, le-or}
-use Rattle.base.specs.Lists.{absent, filter, interleave}
-use Rattle.base.proofs.Lists.{mem-filter}
+use Rattle.base.specs.Decide.{same-or}
+use Rattle.base.specs.Lists.{interleave}
+use Rattle.base.proofs.Lists.{getD-any}
 use Rattle.literal.specs.Literals.{slotOf, litAt}
 use Rattle.stamps.specs.Fresh.{discovery, finish, parentOf, startOf, Times, FreshStamps}
 use Rattle.stamps.proofs.Local.{Around, Under, Entered, Left, fresh-from}
-use Rattle.walk.specs.Walk.{Stamps, edges, starts, stampAll}
+use Rattle.walk.specs.Walk.{Stamps}
 use Rattle.walk.specs.Forest.{dis, fin, par, top, Holds, Parted, Forest, Top}
-use Rattle.walk.proofs.Run.{Less, less-trans, edges-less, enters-less}
-use Rattle.walk.proofs.Theorems.{Stamped, times-apart}
-use Rattle.graph.specs.Clauses.{tos, implications}
+use Rattle.walk.proofs.Run.{Less}
+use Rattle.walk.proofs.Theorems.{Stamped, times-apart, entered-below}
+use Rattle.graph.specs.Clauses.{implications}
 use Rattle.groups.specs.Groups.{blank}
-use Rattle.cycles.proofs.Forward.{edge-below}
 use Rattle.tables.specs.Tables.{Tables}
 use Rattle.tables.specs.Clauses.{slotsFrom}
 use Rattle.pairs.proofs.Listing.{slots-in}
 use Rattle.stamping.specs.Stamping.{Proper}
 use Rattle.stamping.proofs.Copying.{many-records}
-use Rattle.stamping.proofs.Graphing.{walk-stamped}
 use Rattle.stamp.specs.Stamp.{stampsOf, stampedTables}
 use Rattle.stamp.specs.Asking.{Full}
-use Rattle.stamp.proofs.Ordering.{getD-any}
-use Rattle.stamp.proofs.Writing.{full-ordered}
+use Rattle.stamp.proofs.Stamped.{stamps-less, stamps-stamped}
+use Rattle.stamp.proofs.Writing.{full-lists}
 use Rattle.walk.specs.Forest as forest
 
 -- the tables hold the walk's columns: the times side by side, the links as literals
@@ -54,10 +51,6 @@ module _ (v : ℕ) (adj : ℕ → List ℕ) (σ : Stamps) (times : List ℕ) (li
 
   on : (s : ℕ) → s < 2 * v → 0 < D s
   on = S .all
-
-  -- a slot that is entered is one of the 2v
-  slot : (p : ℕ) → 0 < D p → p < 2 * v
-  slot p h = ⊎-elim (λ (le : 2 * v ≤ p). absurd (omega (arith, h, List·getD-eq-default (σ .disc) 0 {n = p} (omega (arith, size))))) (λ lt. lt) (le-or (2 * v) p)
 
   -- what is open when s is entered holds s
   around-holds : (u s : ℕ) → u < 2 * v → s < 2 * v → Around times u s → Holds σ u s
@@ -94,7 +87,7 @@ module _ (v : ℕ) (adj : ℕ → List ℕ) (σ : Stamps) (times : List ℕ) (li
       (λ (w : (p : ℕ) × forest.Under adj σ s p).
       let p = w .0 in
       let U = w .1 in
-      let lp = slot p (U .entered) in
+      let lp = entered-below adj (2 * v) σ S size p (U .entered) in
       inr (
         p,
         record {
@@ -192,38 +185,20 @@ module _ {v n : ℕ} {cs : List ℕ} {ls : List ℤ} {order : List ℤ} (P : Pro
   σ = stampsOf clauses (2 * v) slots
 
   -- the walk leaves the columns' lengths as they were
-  stamps-less : Less (blank (2 * v) (replicate (2 * v) 0) (replicate (2 * v) 0) (replicate (2 * v) 0)) σ
-  unfolding stampsOf stampAll starts
-  stamps-less =
-      let m : ℕ = 2 * v in
-      let z : List ℕ = replicate m 0 in
-      let adj : ℕ → List ℕ = implications clauses in
-      let root : ℕ → Bool = λ q. absent q (tos clauses) in
-      let visit : ℕ → Stamps → Stamps = starts (length {A = ℕ} (replicate m 0)) adj in
-      let inside : (s q : ℕ) → s < m → List·Memᴰ q (adj s) → q < m = λ s q lt k. edge-below clauses v (slots-in (P .listed)) s q k .1 in
-      let less = edges-less adj m inside visit (λ q τ. enters-less adj m inside (length {A = ℕ} (replicate m 0)) q q q τ) in
-      let below = full-ordered F .below in
-      let one = less (filter root slots) (λ q k. below q (mem-filter root slots k)) (blank m z z z) (length-replicate m 0) in
-      let two = less slots below (edges visit (filter root slots) (blank m z z z)) (one .discs ∙ length-replicate m 0) in
-      less-trans (blank m z z z) (edges visit (filter root slots) (blank m z z z)) σ one two
+  less : Less (blank (2 * v) (replicate (2 * v) 0) (replicate (2 * v) 0) (replicate (2 * v) 0)) σ
+  less = stamps-less clauses v (slots-in (P .listed)) slots (full-lists F)
 
   pub disc-size : length (σ .disc) ≡ 2 * v
-  disc-size = stamps-less .discs ∙ length-replicate (2 * v) 0
+  disc-size = less .discs ∙ length-replicate (2 * v) 0
 
   pub fin-size : length (σ .fin) ≡ 2 * v
-  fin-size = stamps-less .fins ∙ length-replicate (2 * v) 0
+  fin-size = less .fins ∙ length-replicate (2 * v) 0
 
   pub par-size : length (σ .par) ≡ 2 * v
-  par-size = stamps-less .pars ∙ length-replicate (2 * v) 0
+  par-size = less .pars ∙ length-replicate (2 * v) 0
 
   pub top-size : length (σ .start) ≡ 2 * v
-  top-size = stamps-less .starts ∙ length-replicate (2 * v) 0
-
-  pub stamps-forest : Stamped (implications clauses) (2 * v) σ
-  unfolding stampsOf
-  stamps-forest =
-      let z : length (replicate {A = ℕ} (2 * v) 0) ≡ 2 * v = length-replicate (2 * v) 0 in
-      walk-stamped P (full-ordered F) (replicate (2 * v) 0) (replicate (2 * v) 0) (replicate (2 * v) 0) z z z disc-size
+  top-size = less .starts ∙ length-replicate (2 * v) 0
 
   module _ (t : Tables) where
     abbrev t′ : Tables
@@ -246,7 +221,7 @@ module _ {v n : ℕ} {cs : List ℕ} {ls : List ℤ} {order : List ℤ} (P : Pro
         }
 
     pub records-fresh : FreshStamps v (t′ .times) (t′ .links)
-    records-fresh = stamped-fresh v (implications clauses) σ (t′ .times) (t′ .links) stamps-forest disc-size laid
+    records-fresh = stamped-fresh v (implications clauses) σ (t′ .times) (t′ .links) (stamps-stamped clauses v (slots-in (P .listed)) slots (full-lists F)) disc-size laid
 
     -- no table changes its length
     pub times-long : 4 * v ≤ length (t .times) → length (t′ .times) ≡ length (t .times)

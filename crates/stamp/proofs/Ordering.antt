@@ -1,54 +1,31 @@
 -- The look for the first wrong entry of an order: a slot is seen exactly if its literal stands before. Assumes nothing.
-use Prim.Native.Nat.{ℕ, zero, suc, _+_, _*_, _-_, _≤_, _<_}
+use Prim.Native.Nat.{ℕ, suc, _+_, _*_, _-_, _≤_, _<_}
 use native.Mathlib.Numerals.{add-one}
 use native.Mathlib.Omega.{arith}
-use mathlib.Core.Path.{_≡_, refl, sym, ap, subst, _∙_}
-use mathlib.Core.Bool.{Bool, true, false, not, _||_, false≢true}
+use mathlib.Core.Path.{_≡_, sym, ap, subst, _∙_}
+use mathlib.Core.Bool.{Bool, true, false, not, _||_, false≢true, or-true, or-false}
 use mathlib.Core.Logic.{_⊎_, inl, inr, ⊎-elim}
-use mathlib.Core.List.{List, [], _∷_, _++_, map, List·Memᴰ, List·Memᴰ·head, List·Memᴰ·tail}
+use mathlib.Core.List.{List, [], _∷_, _++_, map, List·Memᴰ, Memᴰ·map}
 use lib.ListN.{length, getD, set, take, replicate, length-set, length-replicate, getD-replicate, length-map, List·getD-map}
 use lib.Seq.{take-suc, getD-set-same, getD-set-other, getD-take, length-take-le}
 use lib.IntN.{ℤ, pos, natAbs}
 use borrow.Author.Tests.{not-false}
-use Rattle.base.specs.Lists.{first}
 use Rattle.base.specs.Decide.{eqℤ?, same-or, le-or}
+use Rattle.base.specs.Lists.{first}
+use Rattle.base.proofs.Booleans.{or-left, or-right}
+use Rattle.base.proofs.Lists.{getD-any, getD-mem}
+use Rattle.base.proofs.Searches.{first-hit, first-next, first-passed}
 use Rattle.stamps.specs.Fresh.{Times}
 use Rattle.stamps.proofs.Indexing.{every-time-hit}
-use Rattle.literal.specs.Literals.{inRange, slotOf, litAt, eqZ}
+use Rattle.literal.specs.Literals.{inRange, slotOf}
 use Rattle.literal.specs.Clauses.{has}
-use Rattle.literal.proofs.Laws.{lit-slot, slot-below}
+use Rattle.literal.proofs.Laws.{slot-below, slot-same}
+use Rattle.literal.proofs.Distinct.{has-snoc, has-at}
 use Rattle.literal.proofs.Signed.{eq-eqZ, ne-eqZ, InRange, in-range}
 use Rattle.stamp.specs.Stamp.{badEntry, firstBad}
 use Rattle.stamp.specs.Asking.{Full}
 
--- ---- the first number that passes a test
-
-first-hit : (test : ℕ → Bool) (n k : ℕ) → 0 < n → test k ≡ true → first test n k ≡ k
-unfolding first
-first-hit test zero k lt e = refl
-first-hit test (suc n) k lt e = rw (e, first)
-
-first-next : (test : ℕ → Bool) (n k : ℕ) → test k ≡ false → first test (suc n) k ≡ first test n (suc k)
-unfolding first
-first-next test n k e = rw (e, first)
-
 -- ---- one more entry
-
-or-true : (b : Bool) → (b || true) ≡ true
-or-true true = refl
-or-true false = refl
-
-or-false : (b : Bool) → (b || false) ≡ b
-or-false true = refl
-or-false false = refl
-
-has-last : (l x : ℤ) (xs : List ℤ) → eqZ x l ≡ true → has l (xs ++ (x ∷ [])) ≡ true
-has-last l x [] e = ap (λ (b : Bool). b || false) e
-has-last l x (y ∷ xs) e = ap (λ (b : Bool). eqZ y l || b) (has-last l x xs e) ∙ or-true (eqZ y l)
-
-has-same : (l x : ℤ) (xs : List ℤ) → eqZ x l ≡ false → has l (xs ++ (x ∷ [])) ≡ has l xs
-has-same l x [] e = ap (λ (b : Bool). b || false) e
-has-same l x (y ∷ xs) e = ap (λ (b : Bool). eqZ y l || b) (has-same l x xs e)
 
 same-or-not : (a b : ℤ) → (a ≡ b) ⊎ (a ≡ b → ⊥)
 same-or-not a b = elim (eqℤ? a b) [ yes e ↦ inl e | no n ↦ inr n ]
@@ -98,11 +75,11 @@ module _ {v : ℕ} {order : List ℤ} {seen : List Bool} {i : ℕ} (few : v ≤ 
           (λ (same : entry ≡ l).
           ap (λ (z : ℤ). getD (set seen (slotOf entry) true) (slotOf z) false) (sym same)
           ∙ getD-set-same seen (slotOf entry) true false (omega (arith, slot-below entry v above within, L .size))
-          ∙ sym (ap (has l) longer ∙ has-last l entry (take i order) (eq-eqZ entry l same)))
+          ∙ sym (ap (has l) longer ∙ has-snoc l (take i order) entry ∙ ap (λ (b : Bool). has l (take i order) || b) (eq-eqZ entry l same) ∙ or-true (has l (take i order))))
           (λ (other : entry ≡ l → ⊥).
-          getD-set-other seen (slotOf entry) (slotOf l) true false (λ s. other (sym (lit-slot entry above) ∙ ap litAt (sym s) ∙ lit-slot l a))
+          getD-set-other seen (slotOf entry) (slotOf l) true false (λ s. other (slot-same entry l above a (sym s)))
           ∙ L .marks l a b
-          ∙ sym (ap (has l) longer ∙ has-same l entry (take i order) (ne-eqZ entry l other)))
+          ∙ sym (ap (has l) longer ∙ has-snoc l (take i order) entry ∙ ap (λ (b : Bool). has l (take i order) || b) (ne-eqZ entry l other) ∙ or-false (has l (take i order))))
           (same-or-not entry l);
       left =
           let fine : badEntry v order i ≡ false = ap (λ (b : Bool). not b || has entry (take i order)) ranged ∙ sym (L .marks entry above within) ∙ e in
@@ -119,33 +96,6 @@ looked {v} {order} {seen} {i} L over = sym (ap (λ (n : ℕ). first (badEntry v 
 
 -- ---- an order with no wrong entry has every literal
 
-first-passed : (test : ℕ → Bool) (n k i : ℕ) → k ≤ i → i < first test n k → test i ≡ false
-unfolding first
-first-passed test zero k i le lt = absurd (omega arith)
-first-passed test (suc n) k i le lt = go (λ a b. first-passed test n (suc k) i a b) (test k) refl lt
-  where
-    go : (suc k ≤ i → i < first test n (suc k) → test i ≡ false) → (b : Bool) → test k ≡ b → i < elim b as (λ x. ℕ) [ true ↦ k | false ↦ first test n (suc k) ] → test i ≡ false
-    go rest true e h = absurd (omega arith)
-    go rest false e h = ⊎-elim (λ (same : i ≡ k). ap test same ∙ e) (λ (other : i ≡ k → ⊥). rest (omega arith) h) (same-or i k)
-
-or-left : (a b : Bool) → (a || b) ≡ false → a ≡ false
-or-left false b e = refl
-or-left true b e = e
-
-or-right : (a b : Bool) → (a || b) ≡ false → b ≡ false
-or-right false b e = e
-or-right true b e = absurd (false≢true (sym e))
-
-has-at : (xs : List ℤ) (j : ℕ) (l : ℤ) → j < length xs → getD xs j (pos 0) ≡ l → has l xs ≡ true
-has-at [] j l lt e = absurd (omega arith)
-has-at (x ∷ xs) zero l lt e = ap (λ (b : Bool). b || has l xs) (eq-eqZ x l e)
-has-at (x ∷ xs) (suc j) l lt e = ap (λ (b : Bool). eqZ x l || b) (has-at xs j l (omega arith) e) ∙ or-true (eqZ x l)
-
-pub getD-any : {A : Type 0} (l : List A) (i : ℕ) (a b : A) → i < length l → getD l i a ≡ getD l i b
-getD-any [] i a b lt = absurd (omega arith)
-getD-any (x ∷ l) zero a b lt = refl
-getD-any (x ∷ l) (suc i) a b lt = getD-any l i a b (omega arith)
-
 module _ (v : ℕ) (order : List ℤ) (many : length order ≡ 2 * v) (good : 2 * v ≤ firstBad v order) where
   fine : (i : ℕ) → i < 2 * v → badEntry v order i ≡ false
   unfolding firstBad
@@ -156,7 +106,7 @@ module _ (v : ℕ) (order : List ℤ) (many : length order ≡ 2 * v) (good : 2 
 
   earlier : (j k : ℕ) → j < k → k < 2 * v → getD order j (pos 0) ≡ getD order k (pos 0) → ⊥
   earlier j k lt lk e =
-      let h = has-at (take k order) j (getD order k (pos 0)) (omega (arith, length-take-le k order (omega arith))) (getD-take k order j (pos 0) lt ∙ e) in
+      let h = has-at (getD order k (pos 0)) (take k order) j (omega (arith, length-take-le k order (omega arith))) (getD-take k order j (pos 0) lt ∙ e) in
       false≢true (sym (or-right (not (inRange (getD order k (pos 0)) v)) (has (getD order k (pos 0)) (take k order)) (fine k lk)) ∙ h)
 
   -- the slots, each with 1 added, are 1 to 2v once each
@@ -166,24 +116,16 @@ module _ (v : ℕ) (order : List ℤ) (many : length order ≡ 2 * v) (good : 2 
   number-at : (k : ℕ) → k < 2 * v → getD numbers k 0 ≡ slotOf (getD order k (pos 0)) + 1
   number-at k lt = getD-any numbers k 0 (slotOf (pos 0) + 1) (omega (arith, length-map order (λ l. slotOf l + 1))) ∙ List·getD-map (λ l. slotOf l + 1) order k (pos 0)
 
-  same-entry : (j k : ℕ) → j < 2 * v → k < 2 * v → slotOf (getD order j (pos 0)) ≡ slotOf (getD order k (pos 0)) → getD order j (pos 0) ≡ getD order k (pos 0)
-  same-entry j k lj lk e = sym (lit-slot (getD order j (pos 0)) (entry-in j lj .above)) ∙ ap litAt e ∙ lit-slot (getD order k (pos 0)) (entry-in k lk .above)
-
   once-each : Times (2 * v) numbers
   once-each = record {
     ranged = λ k lt. (omega (arith, number-at k lt), omega (arith, number-at k lt, slot-below (getD order k (pos 0)) v (entry-in k lt .above) (entry-in k lt .within)));
     once = λ j lj k lk e.
         let slots : slotOf (getD order j (pos 0)) ≡ slotOf (getD order k (pos 0)) = omega (arith, e, number-at j lj, number-at k lk) in
-        let same = same-entry j k lj lk slots in
+        let same = slot-same (getD order j (pos 0)) (getD order k (pos 0)) (entry-in j lj .above) (entry-in k lk .above) slots in
         ⊎-elim (λ (i : j ≡ k). i)
         (λ (d : j ≡ k → ⊥). absurd (⊎-elim (λ (le : j ≤ k). earlier j k (omega arith) lk same) (λ (gt : k < j). earlier k j gt lj (sym same)) (le-or j k)))
         (same-or j k);
   }
-
-  mem-map-at : (l : List ℤ) (k : ℕ) → k < length l → List·Memᴰ (slotOf (getD l k (pos 0))) (map slotOf l)
-  mem-map-at [] k lt = absurd (omega arith)
-  mem-map-at (x ∷ l) zero lt = List·Memᴰ·head refl
-  mem-map-at (x ∷ l) (suc k) lt = List·Memᴰ·tail (mem-map-at l k (omega arith))
 
   pub good-full : Full v order
   good-full = record {
@@ -192,5 +134,5 @@ module _ (v : ℕ) (order : List ℤ) (many : length order ≡ 2 * v) (good : 2 
     all = λ q lt.
         let h = every-time-hit (2 * v) numbers once-each (q + 1) (omega arith) (omega arith) in
         let e : slotOf (getD order (h .0) (pos 0)) ≡ q = omega (arith, h .2, number-at (h .0) (h .1)) in
-        subst (λ (x : ℕ). List·Memᴰ x (map slotOf order)) e (mem-map-at order (h .0) (omega (arith, h .1)));
+        subst (λ (x : ℕ). List·Memᴰ x (map slotOf order)) e (Memᴰ·map slotOf (getD-mem order (h .0) (pos 0) (omega (arith, h .1))));
   }

@@ -1,29 +1,25 @@
 -- What is written: the columns that the walk leaves have a slot in every link, and the records made of them are the definition's. Assumes nothing.
-use Prim.Native.Nat.{ℕ, zero, suc, _+_, _*_, _≤_, _<_}
-use native.Mathlib.Nat.{le-refl}
+use Prim.Native.Nat.{ℕ, _+_, _*_, _≤_, _<_}
 use native.Mathlib.Omega.{arith}
-use mathlib.Core.Path.{_≡_, refl, sym, ap, subst, _∙_}
-use mathlib.Core.Logic.{_⊎_, ⊎-elim}
-use mathlib.Core.List.{List, _∷_, _++_, map}
-use lib.ListN.{length, getD, take, drop, replicate, length-replicate, length-map, List·getD-eq-default}
+use mathlib.Core.Path.{_≡_, sym, ap, subst, _∙_}
+use mathlib.Core.List.{List, _++_, map}
+use lib.ListN.{length, getD, take, drop, replicate, length-replicate, length-map}
 use lib.IntN.{ℤ, pos}
 use Rattle.base.specs.Lists.{absent, interleave}
-use Rattle.base.specs.Decide.{le-or}
+use Rattle.base.proofs.Lists.{take-zeros, front-zeros}
 use Rattle.literal.specs.Literals.{slotOf, litAt}
 use Rattle.literal.proofs.Laws.{slot-below}
 use Rattle.walk.specs.Walk.{Stamps, stampAll}
-use Rattle.walk.specs.Forest.{dis, par, top, Top, Under}
-use Rattle.walk.proofs.Theorems.{Stamped}
+use Rattle.walk.proofs.Theorems.{links-below}
 use Rattle.graph.specs.Clauses.{tos, implications}
-use Rattle.groups.specs.Groups.{blank}
+use Rattle.groups.specs.Groups.{blank, Lists}
 use Rattle.tables.specs.Tables.{tables}
 use Rattle.tables.specs.Clauses.{slotsFrom}
-use Rattle.pairs.proofs.Listing.{mem-map}
-use Rattle.components.proofs.Chain.{front-zeros}
+use Rattle.pairs.proofs.Listing.{mem-map, slots-in}
 use Rattle.stamping.specs.Stamping.{Holding, Columned, Proper, Ordered, Literals}
-use Rattle.stamping.proofs.Graphing.{walk-stamped}
 use Rattle.stamp.specs.Stamp.{stampsOf, stampedTables}
 use Rattle.stamp.specs.Asking.{Full, Blank}
+use Rattle.stamp.proofs.Stamped.{stamps-stamped}
 
 -- ---- the order
 
@@ -33,6 +29,9 @@ full-ordered {v} {order} F = record {
   below = λ q m. let k = mem-map slotOf (pos 0) order m in let L = F .each (k .0) (k .1) in omega (arith, k .2, slot-below (getD order (k .0) (pos 0)) v (L .above) (L .within));
   all = F .all;
 }
+
+pub full-lists : {v : ℕ} {order : List ℤ} → Full v order → Lists (2 * v) (map slotOf order)
+full-lists F = record { below = full-ordered F .below; all = F .all }
 
 pub full-literals : {v : ℕ} {order : List ℤ} → Full v order → v ≤ 1024 → Literals order
 full-literals F few = record { each = λ i lt. let L = F .each i lt in record { above = L .above; within = omega (arith, L .within, few) } }
@@ -46,29 +45,6 @@ blank-columned {v} B = record {
   pars = ap length (B .pars) ∙ length-replicate (2 * v) 0;
   tops = ap length (B .tops) ∙ length-replicate (2 * v) 0;
 }
-
--- every parent and every start is a slot
-module _ (adj : ℕ → List ℕ) (size : ℕ) (σ : Stamps) (S : Stamped adj size σ) (len : length (σ .disc) ≡ size) where
-  slot : (p : ℕ) → 0 < dis σ p → p < size
-  slot p h = ⊎-elim (λ (le : size ≤ p). absurd (omega (arith, h, List·getD-eq-default (σ .disc) 0 {n = p} (omega (arith, len))))) (λ lt. lt) (le-or size p)
-
-  parent-below : (q : ℕ) → 0 < dis σ q → par σ q < size
-  parent-below q e =
-      ⊎-elim
-      (λ (t : Top σ q). omega (arith, t .parent, slot q e))
-      (λ (u : (p : ℕ) × Under adj σ q p). omega (arith, u .1 .parent, slot (u .0) (u .1 .entered)))
-      (S .forest .tree q e)
-
-  start-below : (n q : ℕ) → dis σ q ≤ n → 0 < dis σ q → top σ q < size
-  start-below zero q le e = absurd (omega arith)
-  start-below (suc n) q le e =
-      ⊎-elim
-      (λ (t : Top σ q). omega (arith, t .start, slot q e))
-      (λ (u : (p : ℕ) × Under adj σ q p). omega (arith, u .1 .start, start-below n (u .0) (omega (arith, u .1 .begins)) (u .1 .entered)))
-      (S .forest .tree q e)
-
-  pub links-below : (q : ℕ) → q < size → (par σ q < size) × (top σ q < size)
-  links-below q lt = (parent-below q (S .all q lt), start-below (dis σ q) q (le-refl _) (S .all q lt))
 
 module _ {v n : ℕ} {cs : List ℕ} {ls : List ℤ} {order : List ℤ} (P : Proper v n cs ls) (F : Full v order) {slots d f p s : List ℕ} (B : Blank v slots d f p s) where
   abbrev clauses : List (List ℕ)
@@ -88,17 +64,11 @@ module _ {v n : ℕ} {cs : List ℕ} {ls : List ℤ} {order : List ℤ} (P : Pro
       (subst (λ (x : List ℕ). Holding (walk (map slotOf order) x p s) d′ f′ p′ s′) (B .fins)
       (subst (λ (x : List ℕ). Holding (walk x f p s) d′ f′ p′ s′) e H)))
 
-  pub stamps-stamped : length (σ .disc) ≡ 2 * v → Stamped (implications clauses) (2 * v) σ
-  unfolding stampsOf
-  stamps-stamped len =
-      let z : length (replicate {A = ℕ} (2 * v) 0) ≡ 2 * v = length-replicate (2 * v) 0 in
-      walk-stamped P (full-ordered F) (replicate (2 * v) 0) (replicate (2 * v) 0) (replicate (2 * v) 0) z z z len
-
   module _ {d′ f′ p′ s′ : List ℕ} (H : Holding σ d′ f′ p′ s′) (len : length d′ ≡ 2 * v) where
     pub entries-below : (q : ℕ) → q < 2 * v → (getD p′ q 0 < 2048) × (getD s′ q 0 < 2048)
     entries-below q lt =
         let h : length (σ .disc) ≡ 2 * v = ap length (sym (H .discs)) ∙ len in
-        let k = links-below (implications clauses) (2 * v) σ (stamps-stamped h) h q lt in (
+        let k = links-below (implications clauses) (2 * v) σ (stamps-stamped clauses v (slots-in (P .listed)) (map slotOf order) (full-lists F)) h q lt in (
           omega (arith, k .0, P .listed .few, ap (λ (l : List ℕ). getD l q 0) (H .pars)),
           omega (arith, k .1, P .listed .few, ap (λ (l : List ℕ). getD l q 0) (H .tops)),
         )
@@ -118,11 +88,6 @@ module _ {v n : ℕ} {cs : List ℕ} {ls : List ℤ} {order : List ℤ} (P : Pro
         ap (λ (x : List ℕ). tables cs ls variables x links′) a ∙ ap (tables cs ls variables (interleave (σ .disc) (σ .fin) ++ drop (4 * v) times)) b
 
 -- ---- the columns that `stamp_acyclic` owns
-
-pub take-zeros : (k m : ℕ) → k ≤ m → take k (replicate {A = ℕ} m 0) ≡ replicate k 0
-take-zeros zero m le = refl
-take-zeros (suc k) zero le = absurd (omega arith)
-take-zeros (suc k) (suc m) le = ap (λ (l : List ℕ). 0 ∷ l) (take-zeros k m (omega arith))
 
 pub own-blank : (v : ℕ) → v ≤ 1024 → Blank v (take (2 * v) (replicate 2048 0)) (take (2 * v) (replicate 2048 0)) (take (2 * v) (replicate 2048 0)) (take (2 * v) (replicate 2048 0)) (take (2 * v) (replicate 2048 0))
 own-blank v few =

@@ -1,19 +1,18 @@
 -- How the calls of `stamp_graph` fit: the tables' edges and the order are fit to be walked, and the test on the finishes says whether the graph is cyclic. Assumes nothing.
-use Prim.Native.Nat.{ℕ, suc, _+_, _*_, _/_, _≤_, _<_}
+use Prim.Native.Nat.{ℕ, suc, _+_, _*_, _/_, _<_}
 use native.Mathlib.Omega.{arith}
 use mathlib.Core.Path.{_≡_, refl, sym, ap, subst, _∙_}
-use mathlib.Core.Bool.{Bool, false, not}
+use mathlib.Core.Bool.{Bool, not}
 use mathlib.Core.List.{List, [], _∷_, map, List·Memᴰ}
 use lib.ListN.{length, getD, take, replicate, length-replicate}
-use lib.Seq.{length-take-le}
 use lib.IntN.{ℤ, pos, natAbs}
 use Rattle.base.specs.Lists.{absent}
+use Rattle.base.proofs.Lists.{getD-mem, front-zeros}
 use Rattle.literal.specs.Literals.{slotOf}
-use Rattle.literal.proofs.Laws.{lit-slot, lit-var}
+use Rattle.literal.proofs.Laws.{slot-variable}
 use Rattle.literal.proofs.Twins.{twin-below}
 use Rattle.walk.specs.Walk.{Stamps, stampAll}
 use Rattle.walk.specs.Ready.{stamps}
-use Rattle.walk.proofs.Cycle.{mem-at}
 use Rattle.walk.proofs.Theorems.{Stamped, stamp-theorem}
 use Rattle.graph.specs.Clauses.{froms, tos, implications, Once, empty, more}
 use Rattle.graph.proofs.Implications.{tos-mem}
@@ -25,13 +24,9 @@ use Rattle.clauses.specs.Formed.{Formed}
 use Rattle.clauses.proofs.Forming.{clause-fits}
 use Rattle.pairs.specs.Pairs.{Room}
 use Rattle.pairs.proofs.Listing.{formed-listed, mem-map, from-clauses, slots-in, froms-mem, fit-edges}
-use Rattle.components.proofs.Chain.{front-zeros}
 use Rattle.stamping.specs.Stamping.{Holding, Columned, Walkable, Finished, Proper, Ordered, Scratch}
 
 -- ---- tables that keep the shape rule
-
-slot-variable : (l : ℤ) → 0 < natAbs l → natAbs l ≡ slotOf l / 2 + 1
-slot-variable l above = ap natAbs (sym (lit-slot l above)) ∙ lit-var (slotOf l)
 
 -- no variable twice among the literals: none among their slots
 once-slots : (C : List ℤ) → ((k : ℕ) → k < length C → 0 < natAbs (getD C k (pos 0)))
@@ -69,10 +64,10 @@ module _ {v n : ℕ} {cs : List ℕ} {ls : List ℤ} (P : Proper v n cs ls) {ord
   room S = record { listed = P .listed; froms = S .froms; tos = S .tos; heads = S .heads; marks = S .marks }
 
   head-below : (i : ℕ) → i < length (tos clauses) → getD (tos clauses) i 0 < 2 * v
-  head-below i lt = let k = tos-mem clauses (mem-at (tos clauses) 0 i (omega arith) lt) in within (k .0) (k .1) (getD (tos clauses) i 0) (k .2)
+  head-below i lt = let k = tos-mem clauses (getD-mem (tos clauses) i 0 lt) in within (k .0) (k .1) (getD (tos clauses) i 0) (k .2)
 
   tail-below : (i : ℕ) → i < length (froms clauses) → getD (froms clauses) i 0 < 2 * v
-  tail-below i lt = let k = froms-mem clauses (mem-at (froms clauses) 0 i (omega arith) lt) in omega (arith, k .4, twin-below v (k .2) (within (k .0) (k .1) (k .2) (k .3)))
+  tail-below i lt = let k = froms-mem clauses (getD-mem (froms clauses) i 0 lt) in omega (arith, k .4, twin-below v (k .2) (within (k .0) (k .1) (k .2) (k .3)))
 
   pub walkable : {F T O G : List ℕ} {R : List Bool} {X : List ℕ} → Scratch v n F T O G R X → Walkable (2 * v) (froms clauses) (tos clauses) order O G R X
   walkable S = record {
@@ -80,7 +75,7 @@ module _ {v n : ℕ} {cs : List ℕ} {ls : List ℤ} (P : Proper v n cs ls) {ord
     edges = fit-edges (room S);
     marks = S .marks;
     heads = head-below;
-    below = λ i lt. A .below (getD order i 0) (mem-at order 0 i (omega arith) lt);
+    below = λ i lt. A .below (getD order i 0) (getD-mem order i 0 lt);
     flags = S .flags;
     picks = omega (arith, A .many, S .picks);
   }
@@ -108,9 +103,6 @@ module _ {v n : ℕ} {cs : List ℕ} {ls : List ℤ} (P : Proper v n cs ls) {ord
       ∙ sym (cyclic-forward clauses v within (P .once) σ S)
 
 -- ---- the scratch that `stamp_columns` owns
-
-pub front-flags : (k m : ℕ) → k ≤ m → length (take k (replicate m false)) ≡ k
-front-flags k m le = length-take-le k (replicate m false) (omega (arith, le, length-replicate m false))
 
 pub own-scratch : {v n : ℕ} {cs : List ℕ} {ls : List ℤ} (R : List Bool) → Proper v n cs ls → length R ≡ 2 * v
     → Scratch v n (replicate 8192 0) (replicate 8192 0) (take (2 * v + 1) (replicate 2049 0)) (replicate 8192 0) R (replicate 2048 0)

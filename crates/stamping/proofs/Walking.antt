@@ -6,14 +6,13 @@ use mathlib.Core.Path.{_≡_, refl, ap, _∙_}
 use mathlib.Core.List.{List, [], _∷_, List·Memᴰ, List·Memᴰ·head, List·Memᴰ·tail}
 use lib.ListN.{length, getD, take, replicate}
 use Rattle.base.specs.Lists.{filter, absent}
-use Rattle.base.proofs.Lists.{mem-filter}
+use Rattle.base.proofs.Lists.{mem-filter, filter-same}
 use Rattle.walk.specs.Walk.{Stamps, arrive, leave, edge, edges, enters, starts, fresh, stampAll}
 use Rattle.walk.specs.Ready.{adjOf, stamps, Graph}
 use Rattle.walk.proofs.Drive.{fresh-le}
 use Rattle.walk.proofs.Run.{mem-below, graph-inside}
 use Rattle.graph.specs.Edges.{outs, Built}
 use Rattle.graph.proofs.Csr.{built-adj, built-graph}
-use Rattle.graph.proofs.Roots.{filter-as}
 use Rattle.groups.specs.Groups.{blank}
 use Rattle.stamping.specs.Stamping.{Holding, Walkable}
 
@@ -33,7 +32,7 @@ stamped adj root order front D d f p s σ₁ σ₂ e len len₁ is one two =
 
 stamp-as : (adj : ℕ → List ℕ) (a b : ℕ → Bool) (order : List ℕ) (σ : Stamps) → ((q : ℕ) → List·Memᴰ q order → a q ≡ b q) → stampAll adj a order σ ≡ stampAll adj b order σ
 unfolding stampAll
-stamp-as adj a b order σ same = ap (λ (l : List ℕ). edges (starts (length (σ .disc)) adj) order (edges (starts (length (σ .disc)) adj) l σ)) (filter-as a b order same)
+stamp-as adj a b order σ same = ap (λ (l : List ℕ). edges (starts (length (σ .disc)) adj) order (edges (starts (length (σ .disc)) adj) l σ)) (filter-same a b order same)
 
 -- ---- over two graphs
 

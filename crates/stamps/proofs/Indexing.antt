@@ -9,9 +9,10 @@ use mathlib.Core.Logic.{⊎-elim}
 use mathlib.Core.List.{List, [], _∷_}
 use lib.ListN.{length, getD, set, take, replicate, length-set, length-replicate}
 use lib.Seq.{getD-set-same, getD-set-other}
+use Rattle.base.specs.Decide.{same-or, le-or}
+use Rattle.base.proofs.Lists.{getD-zeros, front-zeros}
 use Rattle.stamps.specs.Fresh.{Times}
 use Rattle.stamps.specs.Index.{Indexed, Filled}
-use Rattle.base.specs.Decide.{same-or, le-or}
 
 -- ---- the number of empty places
 
@@ -39,16 +40,6 @@ zeros-replicate : (n : ℕ) → zeros (replicate n 0) ≡ n
 unfolding zeros
 zeros-replicate zero = refl
 zeros-replicate (suc n) = ap suc (zeros-replicate n)
-
-pub getD-zeros : (n i : ℕ) → getD {A = ℕ} (replicate n 0) i 0 ≡ 0
-getD-zeros zero i = refl
-getD-zeros (suc n) zero = refl
-getD-zeros (suc n) (suc i) = getD-zeros n i
-
-pub take-zeros : (n m : ℕ) → n ≤ m → take n (replicate {A = ℕ} m 0) ≡ replicate n 0
-take-zeros zero m h = refl
-take-zeros (suc n) zero h = absurd (not-suc-le-zero h)
-take-zeros (suc n) (suc m) h = ap (λ (l : List ℕ). 0 ∷ l) (take-zeros n m (le-of-suc-le-suc h))
 
 -- ---- the first k places are entered
 
@@ -120,7 +111,7 @@ indexing-length {n} I index₀ e = I .size ∙ sym (ap length e ∙ length-repli
 
 -- the part of the empty array that is lent
 pub part-length : (v : ℕ) → v ≤ 1024 → 4 * v ≡ length (take (4 * v) (replicate {A = ℕ} 4096 0))
-part-length v h = sym (ap length (take-zeros (4 * v) 4096 (omega arith)) ∙ length-replicate (4 * v) 0)
+part-length v h = sym (front-zeros (4 * v) 4096 (omega arith))
 
 -- ---- for the reader: n places that hold 1 to n, none twice, hold each of 1 to n
 

@@ -9,13 +9,14 @@ use mathlib.Core.Logic.{_⊎_, inl, inr, ⊎-elim}
 use mathlib.Core.List.{List, [], _∷_, List·Memᴰ, List·Memᴰ·head, List·Memᴰ·tail, List·Memᴰ·not-nil, List·Memᴰ·cases-cons}
 use lib.ListN.{length, getD, take, drop, replicate}
 use lib.Seq.{slice, slice-cons, slice-empty, getD-take, length-take-le}
+use Rattle.base.proofs.Lists.{getD-zeros}
 use Rattle.walk.specs.Walk.{Stamps, edge, starts, fresh}
 use Rattle.walk.specs.Ready.{Graph, adjOf, stamps}
 use Rattle.walk.specs.Forest.{dis, fin, Reach, Back, BackAny, Forest}
 use Rattle.walk.proofs.Run.{edge-new, graph-inside}
 use Rattle.walk.proofs.Theorems.{Stamped, reach-exact, back-cycle, acyclic}
 
-pub mem-at : (m : List ℕ) (a i : ℕ) → a ≤ i → i < length m → List·Memᴰ (getD m i 0) (drop a m)
+mem-at : (m : List ℕ) (a i : ℕ) → a ≤ i → i < length m → List·Memᴰ (getD m i 0) (drop a m)
 mem-at [] a i le lt = absurd (not-suc-le-zero lt)
 mem-at (x ∷ m) zero zero le lt = List·Memᴰ·head refl
 mem-at (x ∷ m) zero (suc i) le lt = List·Memᴰ·tail (mem-at m zero i (omega arith) (le-of-suc-le-suc lt))
@@ -69,15 +70,9 @@ pub reached : (offsets targets D d f p s : List ℕ) (slot : ℕ) (σ : Stamps) 
 reached offsets targets D d f p s slot σ g e hf hp hs lt few is q =
     let n : ℕ = length d in
     let start : Stamps = starts n (adjOf offsets targets) slot (stamps 0 (replicate n 0) f p s) in
-    let blank-at : (k m : ℕ) → getD {A = ℕ} (replicate k 0) m 0 ≡ 0 = blank in
-    let same : σ ≡ start = is ∙ ap (λ (l : List ℕ). edge (starts n (adjOf offsets targets)) slot (stamps 0 l f p s)) e ∙ edge-new (starts n (adjOf offsets targets)) slot (stamps 0 (replicate n 0) f p s) (blank n slot) in
+    let same : σ ≡ start = is ∙ ap (λ (l : List ℕ). edge (starts n (adjOf offsets targets)) slot (stamps 0 l f p s)) e ∙ edge-new (starts n (adjOf offsets targets)) slot (stamps 0 (replicate n 0) f p s) (getD-zeros n slot) in
     subst (λ (x : Stamps). (0 < getD (x .disc) q 0 → Reach (adjOf offsets targets) slot q) × (Reach (adjOf offsets targets) slot q → 0 < getD (x .disc) q 0)) (sym same)
     (reach-exact (adjOf offsets targets) n (graph-inside offsets targets n g) n slot f p s hf hp hs lt (le-refl _) q)
-  where
-    blank : (k m : ℕ) → getD {A = ℕ} (replicate k 0) m 0 ≡ 0
-    blank zero m = refl
-    blank (suc k) zero = refl
-    blank (suc k) (suc m) = blank k m
 
 -- ---- refusal 7: after Stamp, an edge goes back exactly where two different slots reach each other
 

@@ -7,9 +7,9 @@ use mathlib.Core.Path.{_≡_, refl, sym, ap, subst, _∙_}
 use mathlib.Core.Logic.{⊎-elim}
 use mathlib.Core.List.{List, [], _∷_, List·Memᴰ, List·Memᴰ·head, List·Memᴰ·tail}
 use lib.ListN.{length, getD, length-set}
+use Rattle.base.specs.Decide.{zero-or}
 use Rattle.walk.specs.Walk.{Stamps, arrive, leave, edge, edges, enters, fresh}
 use Rattle.walk.proofs.Run.{Less, less-refl, edge-new, edge-old, edge-cases, enters-less, fresh-set}
-use Rattle.walk.proofs.Steps.{zero-or}
 
 edge-same : (f g : ℕ → Stamps → Stamps) (q : ℕ) (σ : Stamps) → (getD (σ .disc) q 0 ≡ 0 → f q σ ≡ g q σ) → edge f q σ ≡ edge g q σ
 edge-same f g q σ same =

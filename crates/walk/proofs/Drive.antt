@@ -1,29 +1,20 @@
 -- The laws of the driver: a search for a slot among the targets, and a loop that starts at each slot of a list.
 -- Assumes nothing.
-use Prim.Native.Nat.{ℕ, zero, suc, _+_, _*_, _≤_, _<_}
+use Prim.Native.Nat.{ℕ, zero, suc, _*_, _≤_, _<_}
 use native.Mathlib.Nat.{le-refl, le-trans}
-use native.Mathlib.Numerals.{add-one}
 use native.Mathlib.Omega.{arith}
 use mathlib.Core.Bool.{Bool, true, false}
 use mathlib.Core.Path.{_≡_, refl, sym, ap, subst, _∙_}
 use mathlib.Core.List.{List, [], _∷_, _++_, append-nil, List·Memᴰ, List·Memᴰ·head, List·Memᴰ·tail, List·Memᴰ·not-nil, List·Memᴰ·cases-cons}
 use mathlib.Core.Logic.{⊎-elim}
-use lib.ListN.{length, getD, set, drop, replicate, length-replicate}
-use lib.Seq.{drop-cons, drop-length}
+use lib.ListN.{length, set, drop, replicate, length-replicate}
 use lib.Dec.{eqb}
 use borrow.Author.Tests.{eq-eqb, ne-eqb}
-use Rattle.walk.specs.Walk.{Stamps, edge, edges, enters, starts, fresh, stampAll}
 use Rattle.base.specs.Lists.{absent, filter}
+use Rattle.base.proofs.Lists.{drop-done}
+use Rattle.walk.specs.Walk.{Stamps, edge, edges, enters, starts, fresh, stampAll}
 use Rattle.walk.specs.Ready.{Graph, Columns, adjOf, stamps}
 use Rattle.walk.proofs.Run.{Less, less-refl, columns-less, edge-cases, edges-less, enters-less, graph-inside}
-
--- ---- a list from an index on, where the code's next index is i + 1
-
-pub drop-step : (l : List ℕ) (i : ℕ) → i < length l → drop i l ≡ getD l i 0 ∷ drop (i + 1) l
-drop-step l i lt = drop-cons l i 0 lt ∙ ap (λ (k : ℕ). getD l i 0 ∷ drop k l) (sym (add-one i))
-
-pub drop-done : (l : List ℕ) (i : ℕ) → i ≤ length l → length l ≤ i → drop i l ≡ []
-drop-done l i a b = ap (λ (k : ℕ). drop k l) (let e : i ≡ length l = omega arith in e) ∙ drop-length l
 
 -- ---- the fill
 

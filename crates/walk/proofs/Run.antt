@@ -5,9 +5,10 @@ use native.Mathlib.Nat.{le-refl, le-trans, le-of-suc-le-suc, not-suc-le-zero}
 use native.Mathlib.Numerals.{add-one}
 use native.Mathlib.Omega.{arith}
 use mathlib.Core.Path.{_≡_, refl, sym, ap, subst, _∙_}
-use mathlib.Core.List.{List, [], _∷_, List·Memᴰ, List·Memᴰ·head, List·Memᴰ·tail, List·Memᴰ·not-nil}
-use lib.ListN.{length, getD, set, take, drop, length-set}
+use mathlib.Core.List.{List, [], _∷_, List·Memᴰ, List·Memᴰ·head, List·Memᴰ·tail}
+use lib.ListN.{length, getD, set, take, length-set}
 use lib.Seq.{slice, slice-cons, slice-empty}
+use Rattle.base.proofs.Lists.{mem-take, mem-drop, each-mem}
 use Rattle.walk.specs.Walk.{Stamps, arrive, leave, edge, edges, enters, fresh}
 use Rattle.walk.specs.Ready.{Graph, Columns, adjOf, stamps}
 
@@ -106,21 +107,8 @@ enters-step (suc m) adj r p s σ lt e le = (m, refl, omega (arith, fresh-set (σ
 
 -- ---- the graph in compressed form
 
-mem-drop : (n : ℕ) (l : List ℕ) {q : ℕ} → List·Memᴰ q (drop n l) → List·Memᴰ q l
-mem-drop zero l m = m
-mem-drop (suc n) [] m = m
-mem-drop (suc n) (x ∷ xs) m = List·Memᴰ·tail (mem-drop n xs m)
-
-mem-take : (n : ℕ) (l : List ℕ) {q : ℕ} → List·Memᴰ q (take n l) → List·Memᴰ q l
-mem-take zero l m = absurd (List·Memᴰ·not-nil m)
-mem-take (suc n) [] m = m
-mem-take (suc n) (x ∷ xs) (List·Memᴰ·head e) = List·Memᴰ·head e
-mem-take (suc n) (x ∷ xs) (List·Memᴰ·tail m) = List·Memᴰ·tail (mem-take n xs m)
-
 pub mem-below : (l : List ℕ) (size : ℕ) → ((i : ℕ) → i < length l → getD l i 0 < size) → {q : ℕ} → List·Memᴰ q l → q < size
-mem-below [] size below m = absurd (List·Memᴰ·not-nil m)
-mem-below (x ∷ xs) size below (List·Memᴰ·head e) = subst (λ (k : ℕ). k < size) (sym e) (below 0 (omega arith))
-mem-below (x ∷ xs) size below (List·Memᴰ·tail m) = mem-below xs size (λ i lt. below (suc i) (omega arith)) m
+mem-below l size below {q} m = each-mem (λ k. k < size) l 0 below q m
 
 pub graph-inside : (offsets targets : List ℕ) (size : ℕ) → Graph offsets targets size → (s q : ℕ) → s < size → List·Memᴰ q (adjOf offsets targets s) → q < size
 unfolding adjOf

@@ -9,14 +9,10 @@ use mathlib.Core.Logic.{_⊎_, inl, inr, ⊎-elim, ⊎-map}
 use mathlib.Core.List.{List, [], _∷_, List·Memᴰ, List·Memᴰ·head, List·Memᴰ·tail, List·Memᴰ·not-nil, List·Memᴰ·cases-cons}
 use lib.ListN.{length, getD, set, length-set}
 use lib.Seq.{getD-set-same, getD-set-other}
-use Rattle.base.specs.Decide.{same-or, le-or}
+use Rattle.base.specs.Decide.{same-or, le-or, zero-or}
 use Rattle.walk.specs.Walk.{Stamps, arrive, leave, edge, edges, enters, starts, fresh}
 use Rattle.walk.specs.Forest.{dis, fin, par, top, Holds, Parted, Above, self, up, Reach, here, on, Top, Under, Forest}
 use Rattle.walk.proofs.Run.{Less, less-refl, less-trans, edge-new, edge-old, edge-cases, edges-less, enters-less, fresh-set}
-
-pub zero-or : (k : ℕ) → (k ≡ 0) ⊎ (0 < k)
-zero-or zero = inl refl
-zero-or (suc k) = inr (omega arith)
 
 pub reach-from : {adj : ℕ → List ℕ} {a b c : ℕ} → List·Memᴰ b (adj a) → Reach adj b c → Reach adj a c
 reach-from m here = on here m

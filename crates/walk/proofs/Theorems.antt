@@ -15,15 +15,15 @@ use mathlib.Core.Path.{_≡_, refl, sym, ap, subst, _∙_}
 use mathlib.Core.Logic.{_⊎_, inl, inr, ⊎-elim, ⊎-map}
 use mathlib.Core.List.{List, [], _∷_, List·Memᴰ, List·Memᴰ·head, List·Memᴰ·tail, List·Memᴰ·not-nil, List·Memᴰ·cases-cons}
 use lib.ListN.{length, getD, replicate, length-replicate}
-use Rattle.walk.specs.Walk.{Stamps, edge, edges, enters, starts, fresh, stampAll}
+use Rattle.base.specs.Decide.{same-or, le-or, zero-or}
 use Rattle.base.specs.Lists.{filter}
+use Rattle.base.proofs.Lists.{mem-filter, getD-zeros, getD-inside}
+use Rattle.walk.specs.Walk.{Stamps, edge, edges, enters, starts, fresh, stampAll}
 use Rattle.walk.specs.Ready.{stamps}
 use Rattle.walk.specs.Forest.{dis, fin, par, top, Holds, Parted, Above, self, up, Reach, here, on, Top, Under, Forest}
 use Rattle.walk.proofs.Run.{Less, less-refl, less-trans, edge-new, edge-old}
 use Rattle.walk.proofs.Drive.{fresh-all, fresh-le}
-use Rattle.base.proofs.Lists.{mem-filter}
-use Rattle.walk.proofs.Steps.{Walked, Sized, sized-less, enters-walked, zero-or, Timely, timely-walked, reach-from}
-use Rattle.base.specs.Decide.{same-or, le-or}
+use Rattle.walk.proofs.Steps.{Walked, Sized, sized-less, enters-walked, Timely, timely-walked, reach-from}
 
 -- after Stamp: a forest, every slot entered, and the time twice their number, so that by `hit` and `times-apart` each time of 1 to 2 * size is once a discovery or a finish
 pub record Stamped (adj : ℕ → List ℕ) (size : ℕ) (σ : Stamps) : Type 0 where
@@ -110,6 +110,22 @@ module _ (adj : ℕ → List ℕ) (σ : Stamps) (F : Forest adj σ) where
   pub reach-entered : {a b : ℕ} → 0 < dis σ a → Reach adj a b → 0 < dis σ b
   reach-entered e here = e
   reach-entered e (on {b = b} {c = c} r m) = F .closed b c (reach-entered e r) m
+
+-- ---- where the discoveries have a place for each slot, what is entered is a slot, and so are its parent and its start
+
+module _ (adj : ℕ → List ℕ) (size : ℕ) (σ : Stamps) (S : Stamped adj size σ) (len : length (σ .disc) ≡ size) where
+  pub entered-below : (q : ℕ) → 0 < dis σ q → q < size
+  entered-below q e = omega (arith, len, getD-inside (σ .disc) q e)
+
+  pub links-below : (q : ℕ) → q < size → (par σ q < size) × (top σ q < size)
+  links-below q lt = (
+    entered-below (par σ q)
+        (⊎-elim
+        (λ (t : Top σ q). subst (λ (k : ℕ). 0 < dis σ k) (sym (t .parent)) (S .all q lt))
+        (λ (u : (p : ℕ) × Under adj σ q p). subst (λ (k : ℕ). 0 < dis σ k) (sym (u .1 .parent)) (u .1 .entered))
+        (S .forest .tree q (S .all q lt))),
+    entered-below (top σ q) (start-top adj σ (S .forest) q (S .all q lt) .0),
+  )
 
 -- ---- cycles: two different slots reach each other exactly when an edge goes back to an interval around it
 
@@ -302,13 +318,8 @@ module _ (adj : ℕ → List ℕ) (size : ℕ) (inside : (s q : ℕ) → s < siz
         λ q m. ⊎-elim (λ (e : q ≡ r). rest .2 q (subst (λ (k : ℕ). 0 < dis τ k) (sym e) (first .3))) (λ t. rest .3 q t) (List·Memᴰ·cases-cons m),
       )
 
-  pub blank : (n q : ℕ) → getD {A = ℕ} (replicate n 0) q 0 ≡ 0
-  blank zero q = refl
-  blank (suc n) zero = refl
-  blank (suc n) (suc q) = blank n q
-
   none : {A : Type 0} (f p s : List ℕ) (q : ℕ) → 0 < dis (stamps 0 (replicate size 0) f p s) q → A
-  none f p s q e = absurd (omega (arith, e, blank size q))
+  none f p s q e = absurd (omega (arith, e, getD-zeros size q))
 
   pub forest-all : (root : ℕ → Bool) (order f p s : List ℕ) → ((q : ℕ) → List·Memᴰ q order → q < size) → length f ≡ size → length p ≡ size → length s ≡ size
       → (Forest adj (stampAll adj root order (stamps 0 (replicate size 0) f p s)))
@@ -350,13 +361,17 @@ module _ (adj : ℕ → List ℕ) (size : ℕ) (inside : (s q : ℕ) → s < siz
       let σ : Stamps = stamps 0 (replicate size 0) f p s in
       let z : Sized size n σ = record { discs = length-replicate size 0; fins = hf; pars = hp; starts = hs; few = omega (arith, fresh-all size) } in
       let F : Forest adj σ = record { spans = λ q e. none f p s q e; past = λ q e. none f p s q e; parted = λ q u e d x. none f p s q e; tree = λ q e. none f p s q e; closed = λ q c e m. none f p s q e; seen = λ q c e m. none f p s q e; hit = λ t x y. absurd (omega arith) } in
-      start-exact n r σ z F lt (blank size r) q (blank size q)
+      start-exact n r σ z F lt (getD-zeros size r) q (getD-zeros size q)
 
 -- ---- paths are implications, and have contrapositives
 
 pub reach-implies : (adj : ℕ → List ℕ) (T : ℕ → Type 0) → ((s c : ℕ) → List·Memᴰ c (adj s) → T s → T c) → {a b : ℕ} → Reach adj a b → T a → T b
 reach-implies adj T step here t = t
 reach-implies adj T step (on {b = b} {c = c} r m) t = step b c m (reach-implies adj T step r t)
+
+-- a path does not leave the slots below size
+pub reach-below : (adj : ℕ → List ℕ) (size : ℕ) → ((s q : ℕ) → s < size → List·Memᴰ q (adj s) → q < size) → {a b : ℕ} → a < size → Reach adj a b → b < size
+reach-below adj size inside lt r = reach-implies adj (λ s. s < size) (λ s q m below. inside s q below m) r lt
 
 pub reach-mirror : (adj : ℕ → List ℕ) (neg : ℕ → ℕ) → ((s c : ℕ) → List·Memᴰ c (adj s) → List·Memᴰ (neg s) (adj (neg c))) → {a b : ℕ} → Reach adj a b → Reach adj (neg b) (neg a)
 reach-mirror adj neg flip here = here

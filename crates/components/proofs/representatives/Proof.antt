@@ -1,5 +1,6 @@
 -- `components::representatives` meets its contract. Assumes nothing.
-use Rattle.components.proofs.Chain.{front-zeros, own-room, own-scratch}
+use Rattle.base.proofs.Lists.{front-zeros}
+use Rattle.components.proofs.Chain.{own-room, own-scratch}
 use native.Mathlib.Omega.{arith}
 use Prim.Native.Nat.{_+_, _*_}
 use mathlib.Core.Path.{sym}

@@ -1,5 +1,5 @@
 -- `load::add_literal` meets its contract: the slots of l and of its complement, then `repeated` or `added`. Assumes nothing.
-use Rattle.load.proofs.Steps.{repeated, added, or-left, or-right}
+use Rattle.load.proofs.Steps.{repeated, added, or-when-true, or-when-false}
 use Prim.Native.Nat.{_<_}
 use native.Mathlib.Omega.{arith}
 use mathlib.Core.Path.{_≡_, _∙_, ap}
@@ -95,7 +95,7 @@ returns-2 : tie.Need-returns-2
 returns-2 c = λ clauses.
     let s = c .before .before .before .before .before .before .before .before in
     added clauses (s .args .literals .now) (s .args .seen .now) (s .args .p) (s .args .l) (slot (c .before .before .before .before .before)) (slot2 (c .before)) (same s) (c .before .before .before .if1 .left)
-    (⊎-elim (λ w. w .1 ∙ or-left _ _ (w .0 .taken)) (λ w. w .2 ∙ or-right _ _ (w .0 .left)) (c .if2 .came))
+    (⊎-elim (λ w. w .1 ∙ or-when-true _ _ (w .0 .taken)) (λ w. w .2 ∙ or-when-false _ _ (w .0 .left)) (c .if2 .came))
 
 pub add-literal-spec : {M : Type 1} → statement M
 add-literal-spec =

@@ -1,5 +1,5 @@
 -- `load::end_clause` meets its contract: what the calls ensure, put together by `ended`. Assumes nothing.
-use Rattle.load.proofs.Steps.{kept-between, ended, or-left, or-right}
+use Rattle.load.proofs.Steps.{kept-between, ended, or-when-true, or-when-false}
 use native.Mathlib.Omega.{arith}
 use borrow.Author.Needs.{needs}
 use Rattle.load.proofs.end_clause.Statement.{statement}
@@ -30,13 +30,13 @@ same-length : tie.Need-same-length
 same-length c = search needs
 
 returns : tie.Need-returns
-returns c = let s = c .before .before .before .before .before .before .before .before in ended (s .args .clauses .now) (s .args .p) (c .before .before .before .before .before .before .kept-end .ensures) (c .before .before .before .before .standing-flag .ensures) (c .before .before .before .put-record .ensures) (or-left _ _ (c .if1 .taken))
+returns c = let s = c .before .before .before .before .before .before .before .before in ended (s .args .clauses .now) (s .args .p) (c .before .before .before .before .before .before .kept-end .ensures) (c .before .before .before .before .standing-flag .ensures) (c .before .before .before .put-record .ensures) (or-when-true _ _ (c .if1 .taken))
 
 same-length-2 : tie.Need-same-length-2
 same-length-2 c = search needs
 
 returns-2 : tie.Need-returns-2
-returns-2 c = let s = c .before .before .before .before .before .before .before .before in ended (s .args .clauses .now) (s .args .p) (c .before .before .before .before .before .before .kept-end .ensures) (c .before .before .before .before .standing-flag .ensures) (c .before .before .before .put-record .ensures) (or-right _ _ (c .if1 .left))
+returns-2 c = let s = c .before .before .before .before .before .before .before .before in ended (s .args .clauses .now) (s .args .p) (c .before .before .before .before .before .before .kept-end .ensures) (c .before .before .before .before .standing-flag .ensures) (c .before .before .before .put-record .ensures) (or-when-false _ _ (c .if1 .left))
 
 pub end-clause-spec : {M : Type 1} → statement M
 end-clause-spec =

@@ -1,7 +1,8 @@
 -- `load::lay` meets its contract: what the calls ensure, put together by `lay-done`. Assumes nothing.
 use Prim.Native.Nat.{ℕ}
 use lib.ListN.{length-replicate}
-use Rattle.load.proofs.Fill.{getD-zeros, lay-done}
+use Rattle.base.proofs.Lists.{getD-zeros}
+use Rattle.load.proofs.Fill.{lay-done}
 use borrow.Author.Needs.{needs}
 use Rattle.load.proofs.lay.Statement.{statement}
 use Rattle.load.proofs.lay.Tie as tie

@@ -1,9 +1,9 @@
 -- `merge::merge_classes` meets its contract. Assumes nothing.
-use Rattle.components.proofs.Chain.{front-zeros}
 use native.Mathlib.Omega.{arith}
 use Prim.Native.Nat.{_*_}
 use mathlib.Core.Path.{sym}
 use borrow.Author.Needs.{needs}
+use Rattle.base.proofs.Lists.{front-zeros}
 use Rattle.merge.proofs.merge_classes.Statement.{statement}
 use Rattle.merge.proofs.merge_classes.Tie as tie
 use Rattle.merge.proofs.merge_classes.Reads as reads

@@ -3,10 +3,10 @@ use Prim.Native.Nat.{_*_}
 use native.Mathlib.Omega.{arith}
 use mathlib.Core.Path.{sym, ap, _∙_}
 use borrow.Author.Needs.{needs}
+use Rattle.base.proofs.Lists.{front-zeros}
 use Rattle.state.specs.declared.Outcome.{Outcome}
 use Rattle.tables.specs.Tables.{Tables, tables}
 use Rattle.tables.specs.Calls.{after}
-use Rattle.components.proofs.Chain.{front-zeros}
 use Rattle.stamp.proofs.Asking.{acyclic-by}
 use Rattle.stamp.proofs.Writing.{own-blank}
 use Rattle.stamp.proofs.stamp_acyclic.Statement.{statement}

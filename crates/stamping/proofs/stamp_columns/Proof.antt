@@ -5,8 +5,8 @@ use mathlib.Core.Path.{sym}
 use mathlib.Core.Bool.{false}
 use lib.ListN.{take, replicate}
 use borrow.Author.Needs.{needs}
-use Rattle.components.proofs.Chain.{front-zeros}
-use Rattle.stamping.proofs.Graphing.{front-flags, own-scratch}
+use Rattle.base.proofs.Lists.{front-zeros, front-filled}
+use Rattle.stamping.proofs.Graphing.{own-scratch}
 use Rattle.stamping.proofs.stamp_columns.Statement.{statement}
 use Rattle.stamping.proofs.stamp_columns.Tie as tie
 
@@ -35,14 +35,14 @@ array-borrow-prefix-root : tie.Need-array-borrow-prefix-root
 array-borrow-prefix-root c = search needs
 
 slice-aggregate-stamp-graph-5 : tie.Need-slice-aggregate-stamp-graph-5
-slice-aggregate-stamp-graph-5 c = sym (front-flags (2 * c .before .before .before .before .before .before .before .before .before .before .before .args .v) 2048 (omega (arith, c .before .before .before .before .before .before .before .before .before .before .before .pre .0 .0 .listed .few)))
+slice-aggregate-stamp-graph-5 c = sym (front-filled (2 * c .before .before .before .before .before .before .before .before .before .before .before .args .v) 2048 false (omega (arith, c .before .before .before .before .before .before .before .before .before .before .before .pre .0 .0 .listed .few)))
 
 slice-aggregate-stamp-graph-6 : tie.Need-slice-aggregate-stamp-graph-6
 slice-aggregate-stamp-graph-6 c = search needs
 
 stamp-graph-requires : tie.Need-stamp-graph-requires
 stamp-graph-requires c κs = let s = c .before .before .before .before .before .before .before .before .before .before .before .before .before .before .before .before in
-    (s .pre .0, (own-scratch (take (2 * s .args .v) (replicate 2048 false)) (s .pre .0 .0) (front-flags (2 * s .args .v) 2048 (omega (arith, s .pre .0 .0 .listed .few))), s .pre .1))
+    (s .pre .0, (own-scratch (take (2 * s .args .v) (replicate 2048 false)) (s .pre .0 .0) (front-filled (2 * s .args .v) 2048 false (omega (arith, s .pre .0 .0 .listed .few))), s .pre .1))
 
 same-length : tie.Need-same-length
 same-length c = search needs

@@ -8,9 +8,8 @@ use mathlib.Core.Path.{_≡_, sym, subst}
 use lib.Seq.{length-take-le}
 use lib.ListN.{length, getD, take}
 use borrow.Author.Needs.{needs}
+use Rattle.base.proofs.Lists.{mem-filter, getD-mem}
 use Rattle.walk.proofs.Drive.{begun, starts-columns}
-use Rattle.base.proofs.Lists.{mem-filter}
-use Rattle.walk.proofs.Cycle.{mem-at}
 use Rattle.walk.proofs.Run.{mem-below}
 use Rattle.walk.specs.Ready.{Graph, Columns, stamps}
 use Rattle.walk.specs.Walk.{Stamps, fresh}
@@ -71,7 +70,7 @@ start-each-requires c κs =
       subst (Graph (a .offsets .now) (a .targets .now)) (sym (blank k .0)) (c .before .before .before .before .before .before .before .before .before .before .before .before .before .before .before .before .before .before .before .before .before .before .pre .0),
       (
         subst (λ (n : ℕ). Columns n (stamps 0 (D k) (a .fin .now) (a .par .now) (a .top .now))) (sym (blank k .0)) (blank k .1),
-        λ i lt. subst (λ (n : ℕ). getD (front k) i 0 < n) (sym (blank k .0)) (front-in k (getD (front k) i 0) (mem-at (front k) 0 i (omega arith) lt)),
+        λ i lt. subst (λ (n : ℕ). getD (front k) i 0 < n) (sym (blank k .0)) (front-in k (getD (front k) i 0) (getD-mem (front k) i 0 lt)),
       ),
     )
 

@@ -5,27 +5,21 @@ use mathlib.Core.List.{List, [], _∷_, _++_}
 use Prim.Native.Nat.{ℕ, zero, suc, _+_, _≤_, _<_}
 use native.Mathlib.Omega.{arith}
 use lib.Dec.{eqb}
-use lib.ListN.{length, length-append}
-use lib.IntN.{ℤ, pos, negsuc, negℤ, natAbs, negℤ-negℤ}
+use lib.ListN.{length, getD, length-append}
+use lib.IntN.{ℤ, pos, negℤ, natAbs, negℤ-negℤ}
 use borrow.Author.Tests.{ne-eqb}
-use Rattle.literal.specs.Literals.{eqZ, slotOf, litAt}
+use Rattle.base.proofs.Booleans.{both-ways}
+use Rattle.literal.specs.Literals.{eqZ}
 use Rattle.literal.specs.Clauses.{has, distinctFrom, distinct, tautology}
 use Rattle.literal.proofs.Signed.{eq-eqZ, eqZ-true}
-use Rattle.literal.proofs.Laws.{lit-slot}
+use Rattle.literal.proofs.Laws.{not-own-complement}
 
--- ---- truth values
 or-swap : (a e t h : Bool) → ((a || e) || (t || h)) ≡ ((a || t) || (e || h))
 or-swap true e t h = refl
 or-swap false true true h = refl
 or-swap false true false h = refl
 or-swap false false true h = refl
 or-swap false false false h = refl
-
--- two Bools that are true in the same cases
-both-ways : (a b : Bool) → (a ≡ true → b ≡ true) → (b ≡ true → a ≡ true) → a ≡ b
-both-ways true b f g = sym (f refl)
-both-ways false true f g = g refl
-both-ways false false f g = refl
 
 -- ---- literals
 
@@ -34,16 +28,6 @@ eqZ-neg x y = both-ways _ _ (turn x y) (turn y x)
   where
     turn : (x y : ℤ) → eqZ x (negℤ y) ≡ true → eqZ y (negℤ x) ≡ true
     turn x y e = eq-eqZ y (negℤ x) (sym (negℤ-negℤ y) ∙ ap negℤ (sym (eqZ-true x (negℤ y) e)))
-
--- the slots of two literals are the same exactly if the literals are
-pub slot-same : (x y : ℤ) → 0 < natAbs x → 0 < natAbs y → slotOf x ≡ slotOf y → x ≡ y
-slot-same x y g h e = sym (lit-slot x g) ∙ ap litAt e ∙ lit-slot y h
-
--- a literal is not its own complement
-pub not-own-complement : (x : ℤ) → 0 < natAbs x → x ≡ negℤ x → ⊥
-not-own-complement (pos zero) h e = absurd (omega arith)
-not-own-complement (pos (suc n)) h e = absurd (let z : _≡_ {A = ℕ} 0 1 = cc in omega arith)
-not-own-complement (negsuc n) h e = absurd (let z : _≡_ {A = ℕ} 0 1 = cc in omega arith)
 
 -- ---- one literal more
 pub has-snoc : (l : ℤ) (xs : List ℤ) (x : ℤ) → has l (xs ++ (x ∷ [])) ≡ (has l xs || eqZ x l)
@@ -54,6 +38,12 @@ pub tautology-snoc : (xs : List ℤ) (x : ℤ) → tautology (xs ++ (x ∷ [])) 
 tautology-snoc [] x = refl
 tautology-snoc (y ∷ xs) x =
     rw (has-snoc (negℤ y) xs x, tautology-snoc xs x, eqZ-neg x y) (or-swap (has (negℤ y) xs) (eqZ y (negℤ x)) (tautology xs) (has (negℤ x) xs))
+
+-- a literal by its place stands in the list
+pub has-at : (l : ℤ) (xs : List ℤ) (j : ℕ) → j < length xs → getD xs j (pos 0) ≡ l → has l xs ≡ true
+has-at l [] j lt e = absurd (omega arith)
+has-at l (x ∷ xs) zero lt e = ap (λ (b : Bool). b || has l xs) (eq-eqZ x l e)
+has-at l (x ∷ xs) (suc j) lt e = ap (λ (b : Bool). eqZ x l || b) (has-at l xs j (omega arith) e) ∙ or-true (eqZ x l)
 
 -- a list that has x and −x is a tautology
 pub has-both : (x : ℤ) (xs : List ℤ) → 0 < natAbs x → has x xs ≡ true → has (negℤ x) xs ≡ true → tautology xs ≡ true
@@ -127,17 +117,19 @@ pub distinct-new : (xs : List ℤ) (x : ℤ) → has x xs ≡ false → distinct
 unfolding added
 distinct-new xs x e = distinct-snoc [] xs x ∙ rw (has-distinct x xs ∙ e)
 
--- ---- an empty clause is one of which nothing is kept
-from-le : (kept xs : List ℤ) → length kept ≤ length (distinctFrom kept xs)
-from-le kept [] = omega arith
-from-le kept (x ∷ xs) = go (has x kept) refl (from-le kept xs) (from-le (kept ++ (x ∷ [])) xs)
-  where
-    go : (t : Bool) → has x kept ≡ t → length kept ≤ length (distinctFrom kept xs) → length (kept ++ (x ∷ [])) ≤ length (distinctFrom (kept ++ (x ∷ [])) xs)
-        → length kept ≤ length (distinctFrom kept (x ∷ xs))
-    go true e a b = rw (e, distinctFrom) a
-    go false e a b = rw (e, distinctFrom) (omega (arith, b, length-append kept (x ∷ [])))
+-- ---- how many literals are kept
 
+pub from-sized : (kept xs : List ℤ) → (length kept ≤ length (distinctFrom kept xs)) × (length (distinctFrom kept xs) ≤ length kept + length xs)
+from-sized kept [] = (omega arith, omega arith)
+from-sized kept (x ∷ xs) = go (has x kept) refl (from-sized kept xs) (from-sized (kept ++ (x ∷ [])) xs)
+  where
+    go : (t : Bool) → has x kept ≡ t → (length kept ≤ length (distinctFrom kept xs)) × (length (distinctFrom kept xs) ≤ length kept + length xs)
+        → (length (kept ++ (x ∷ [])) ≤ length (distinctFrom (kept ++ (x ∷ [])) xs)) × (length (distinctFrom (kept ++ (x ∷ [])) xs) ≤ length (kept ++ (x ∷ [])) + length xs)
+        → (length kept ≤ length (distinctFrom kept (x ∷ xs))) × (length (distinctFrom kept (x ∷ xs)) ≤ length kept + suc (length xs))
+    go true e a b = rw (e, distinctFrom) (a .0, omega (arith, a .1))
+    go false e a b = rw (e, distinctFrom) (omega (arith, b .0, length-append kept (x ∷ [])), omega (arith, b .1, length-append kept (x ∷ [])))
+
+-- an empty clause is one of which nothing is kept
 pub distinct-empty : (xs : List ℤ) → eqb (length (distinct xs)) 0 ≡ eqb (length xs) 0
 distinct-empty [] = refl
-distinct-empty (x ∷ xs) =
-    ne-eqb (length (distinctFrom (x ∷ []) xs)) 0 (λ e. omega (arith, e, from-le (x ∷ []) xs)) ∙ sym (ne-eqb (suc (length xs)) 0 (λ e. omega (arith, e)))
+distinct-empty (x ∷ xs) = ne-eqb (length (distinct (x ∷ xs))) 0 (λ e. omega (arith, e, from-sized (x ∷ []) xs .0)) ∙ sym (ne-eqb (suc (length xs)) 0 (λ e. omega (arith, e)))
