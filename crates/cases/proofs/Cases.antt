@@ -1,10 +1,9 @@
 -- The pallet cases P1 to P11 of document 01 as a single lemma over a list of cases, by computation. Assumes nothing.
 use Prim.Native.Nat.{ℕ}
 use native.Mathlib.Decide.{ℕ-discrete, decLe, decLt}
-use mathlib.Core.Path.{_≡_, refl}
+use mathlib.Core.Path.{refl}
 use mathlib.Core.Bool.{Bool, true, false}
 use mathlib.Core.List.{List, [], _∷_}
-use Prim.Native.String.{String}
 use lib.IntN.{ℤ, pos, negsuc}
 use Rattle.base.specs.Decide.{and?, or?, if?, not?, so?, every?, eqᵇ?, eqℤ?}
 use Rattle.base.specs.Lists.{any, filter, absent, first, anyBelow, allBelow, sameList, numbers, turned, evens, odds, interleave}
@@ -37,8 +36,8 @@ use Rattle.sweep.specs.Sweep.{sweepClause, sweepCall}
 use Rattle.settle.specs.Settle.{settleFor, settle}
 use Rattle.run.specs.Run.{orderOf, follow, round, unchanged, runFrom, runCall}
 use Rattle.unhiding.specs.Texts.{simplifyText, unhideText}
-use Rattle.unhiding.specs.Lists.{Call, propagate, merge, stamp, failed, sweep, stepOn, stepsOn}
-use Rattle.cases.specs.Case.{bytes, Case, calls, prints, Seen, Holds, All}
+use Rattle.unhiding.specs.Lists.{merge, stamp, failed, sweep, stepOn, stepsOn}
+use Rattle.cases.specs.Case.{bytes, Case, calls, prints, Seen, All}
 
 -- what is expected: replies, mark, the fronts of clauses, literals, variables, times and links, and what Write gives
 abbrev sees : List Reply → Bool → List ℕ → List ℤ → List ℤ → List ℕ → List ℤ → List ℕ → Seen

@@ -9,12 +9,11 @@ use mathlib.Core.List.{List, [], _∷_, map}
 use lib.ListN.{length, take}
 use lib.IntN.{ℤ}
 use Rattle.state.specs.Answers.{Reply}
-use Rattle.state.specs.declared.State.{State}
 use Rattle.tables.specs.Calls.{After, emptyState}
 use Rattle.load.specs.Load.{loadCall}
 use Rattle.write.specs.Write.{writeText}
 use Rattle.unhiding.specs.Texts.{emptyTables, unhideText}
-use Rattle.unhiding.specs.Lists.{Call, Lent, Step, Trail, stepsOn}
+use Rattle.unhiding.specs.Lists.{Call, Step, Trail, stepsOn}
 
 abbrev pub bytes : String → List ℕ
 bytes nil = []

@@ -1,20 +1,20 @@
 -- The shape rule and its part for clauses and variables; what it says of one clause's view; and that setting a value keeps it. Assumes nothing.
-use Prim.Native.Nat.{ℕ, zero, suc, _+_, _*_, _-_, _≤_, _<_}
+use Prim.Native.Nat.{ℕ, _+_, _*_, _-_, _≤_, _<_}
 use native.Mathlib.Omega.{arith}
 use mathlib.Core.Path.{_≡_, refl, sym, ap, subst, _∙_}
 use mathlib.Core.Bool.{Bool, true, false}
 use mathlib.Core.List.{List}
 use mathlib.Core.Logic.{⊎-elim}
-use lib.ListN.{length, take, drop, getD, set, length-set}
+use lib.ListN.{length, getD, set, length-set}
 use lib.Seq.{getD-set-same, getD-set-other, set-getD}
 use lib.Dec.{ltb}
-use lib.IntN.{ℤ, pos, negsuc, natAbs}
+use lib.IntN.{ℤ, pos, natAbs}
 use Rattle.base.specs.Decide.{same-or}
 use Rattle.literal.specs.Literals.{Literal}
 use Rattle.state.specs.declared.State.{State}
 use Rattle.tables.specs.Tables.{Tables, startOf, lengthOf, standing, classOf, valueOf}
 use Rattle.tables.specs.Clauses.{literalsOf}
-use Rattle.shape.specs.Shape.{Literals, Clauses, Variable, settledTo, Cursor, Shape}
+use Rattle.shape.specs.Shape.{Variable, settledTo, Cursor, Shape}
 use Rattle.stamps.specs.Fresh.{FreshStamps}
 use Rattle.clauses.specs.Formed.{Variables, Formed, FitClause, EachKnown}
 use Rattle.clauses.proofs.Stores.{fit-view, recorded}

@@ -1,18 +1,18 @@
 -- What is known of a literal of the variables: it is small, its records are in the table, and its class literal is known too, and its own class. Assumes nothing.
-use Prim.Native.Nat.{ℕ, zero, suc, _+_, _*_, _-_, _≤_, _<_}
+use Prim.Native.Nat.{_+_, _*_, _-_, _≤_, _<_}
 use native.Mathlib.Omega.{arith}
 use mathlib.Core.Path.{_≡_, refl, sym, ap, subst, _∙_}
 use mathlib.Core.Bool.{Bool, true, false}
 use mathlib.Core.List.{List}
 use lib.ListN.{length}
-use lib.IntN.{ℤ, pos, negℤ, natAbs}
+use lib.IntN.{ℤ, pos, natAbs}
 use lib.Signed.{nonNeg}
 use Rattle.literal.specs.Literals.{Small, Literal, signBy}
 use Rattle.literal.proofs.Signed.{abs-neg}
 use Rattle.tables.specs.Tables.{classOf, valueOf}
 use Rattle.tables.specs.Values.{classLiteral}
 use Rattle.shape.specs.Shape.{Variable}
-use Rattle.clauses.specs.Formed.{Variables, Known}
+use Rattle.clauses.specs.Formed.{Known}
 
 -- a sign carried through leaves the magnitude
 pub abs-signed : (b : Bool) (x : ℤ) → natAbs (signBy b x) ≡ natAbs x

@@ -1,9 +1,9 @@
 -- Storing a fate at clause i: the records and the view of every clause after it, and that the clauses' part of the shape rule is kept. With these laws no later proof looks at the flat literal table. Assumes nothing.
-use Prim.Native.Nat.{ℕ, zero, suc, _+_, _*_, _-_, _≤_, _<_}
+use Prim.Native.Nat.{ℕ, _+_, _*_, _-_, _≤_, _<_}
 use native.Mathlib.Omega.{arith}
-use mathlib.Core.Path.{_≡_, refl, sym, ap, subst, _∙_}
-use mathlib.Core.Bool.{Bool, true, false}
-use mathlib.Core.List.{List, [], _∷_, _++_}
+use mathlib.Core.Path.{_≡_, sym, ap, subst, _∙_}
+use mathlib.Core.Bool.{Bool, true}
+use mathlib.Core.List.{List}
 use mathlib.Core.Logic.{_⊎_, inl, inr, ⊎-elim}
 use lib.ListN.{length, take, drop, getD, set, length-set, length-drop}
 use lib.Seq.{getD-set-same, getD-set-other, getD-take, getD-drop, length-take-le}
@@ -16,7 +16,7 @@ use Rattle.tables.specs.Clauses.{literalsOf}
 use Rattle.tables.specs.Fates.{putPart}
 use Rattle.shape.specs.Shape.{Parts, Literals, Clauses}
 use Rattle.shape.proofs.Keeping.{parts-shrink, literals-kept}
-use Rattle.clauses.specs.Formed.{Formed, Variables, FitClause}
+use Rattle.clauses.specs.Formed.{Formed, FitClause}
 use Rattle.clauses.proofs.Parts.{put-length, put-before, put-behind, put-at, put-view, put-other}
 
 -- ---- the records after the length m and the flag f of clause i are set

@@ -3,7 +3,6 @@ use state::Counts;
 ghost use mathlib.Core.Path.{_≡_};
 ghost use Prim.Native.Nat.{_*_, _-_, _≤_, min};
 ghost use lib.ListN.{take};
-ghost use lib.IntN.{pos};
 ghost use lib.Signed.{nonNeg};
 ghost use Rattle.literal.specs.Literals.{Small, signBy};
 ghost use Rattle.tables.specs.Values.{classLiteral, ownTruth, truth, isTrue, isFalse, setTrue};

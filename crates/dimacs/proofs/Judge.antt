@@ -1,9 +1,9 @@
 -- One token of the judgement: what the code's token says of the words, and the step that the definition takes. Assumes nothing.
 use mathlib.Core.Path.{_≡_, refl, sym, ap, _∙_, subst}
-use mathlib.Core.Bool.{Bool, true, false, not, _&&_, false≢true}
-use mathlib.Core.List.{List, [], _∷_, _++_}
+use mathlib.Core.Bool.{Bool, true, false, _&&_, false≢true}
+use mathlib.Core.List.{List, [], _∷_}
 use mathlib.Core.Logic.{_⊎_, ⊎-elim, inl, inr}
-use Prim.Native.Nat.{ℕ, zero, suc, _+_, _*_, _-_, _≤_, _<_, min}
+use Prim.Native.Nat.{ℕ, zero, suc, _+_, _-_, _≤_, _<_, min}
 use native.Mathlib.Omega.{arith}
 use lib.ListN.{length, take, drop}
 use lib.Dec.{leb, ltb, eqb}
@@ -19,7 +19,7 @@ use Rattle.state.specs.declared.Refusal.the-variants.{Grammar, Limit}
 use Rattle.dimacs.specs.declared.Piece.{Piece}
 use Rattle.dimacs.specs.declared.Piece.the-variants.{Wrong, Got}
 use Rattle.dimacs.specs.declared.Header.{Header}
-use Rattle.dimacs.specs.declared.Header.the-variants.{NoHeader, Fields}
+use Rattle.dimacs.specs.declared.Header.the-variants.{Fields}
 use Rattle.dimacs.specs.declared.Verdict.{Verdict}
 use Rattle.dimacs.specs.declared.Verdict.the-variants.{Refused, Fits}
 use Rattle.dimacs.proofs.Scan.{Found, view, token-found}

@@ -1,13 +1,12 @@
 -- The lines before the clauses, from left to right: each piece is read at an offset and gives the offset after it, or is refused.
 -- Assumes nothing.
-use Prim.Native.Nat.{ℕ, zero, suc, _+_}
+use Prim.Native.Nat.{ℕ, suc, _+_}
 use mathlib.Core.Bool.{Bool, true, false, not}
 use mathlib.Core.List.{List, [], _∷_}
 use lib.ListN.{length, take, drop}
 use lib.Dec.{leb, eqb}
 use Rattle.dimacs.specs.Words.{isDigit, span}
 use Rattle.dimacs.specs.Tokens.{decimal}
-use Rattle.state.specs.declared.Refusal.{Refusal}
 use Rattle.state.specs.declared.Refusal.the-variants.{Grammar, Limit}
 use Rattle.dimacs.specs.declared.Piece.{Piece}
 use Rattle.dimacs.specs.declared.Piece.the-variants.{Wrong, Got}

@@ -3,12 +3,11 @@ use Prim.Native.Nat.{ℕ, zero, suc, _+_, _-_}
 use mathlib.Core.Bool.{Bool, true, false, _&&_}
 use mathlib.Core.List.{List, [], _∷_, _++_}
 use lib.ListN.{length, drop}
-use lib.Dec.{leb, ltb, eqb}
+use lib.Dec.{leb, ltb}
 use lib.IntN.{ℤ, pos, negℤ}
 use Rattle.dimacs.specs.Words.{Word, wordsAt}
-use Rattle.dimacs.specs.Tokens.{Meaning, bad, nought, literal, meaning}
+use Rattle.dimacs.specs.Tokens.{bad, nought, literal, meaning}
 use Rattle.dimacs.specs.Header.{header}
-use Rattle.state.specs.declared.Refusal.{Refusal}
 use Rattle.state.specs.declared.Refusal.the-variants.{Grammar, Limit}
 use Rattle.dimacs.specs.declared.Header.{Header}
 use Rattle.dimacs.specs.declared.Header.the-variants.{NoHeader, Fields}

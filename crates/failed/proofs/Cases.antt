@@ -1,7 +1,6 @@
 -- Examples by computation, on P6's stamps: 1 is [1,8], 2 [2,5], −1 [3,4], −2 [6,7], all in the tree of 1. Assumes nothing.
-use Prim.Native.Nat.{ℕ}
 use mathlib.Core.Path.{_≡_, refl}
-use mathlib.Core.Bool.{Bool, true, false}
+use mathlib.Core.Bool.{true, false}
 use mathlib.Core.List.{List, [], _∷_}
 use lib.IntN.{ℤ, pos, negsuc}
 use Rattle.base.specs.Lists.{first, anyBelow, evens, odds}

@@ -1,7 +1,6 @@
 -- Examples by computation: "A literal's edges are taken in clause order." Slots 0 .. 5 are 1, -1, 2, -2, 3, -3. Assumes nothing.
-use Prim.Native.Nat.{ℕ}
 use mathlib.Core.Path.{_≡_, refl}
-use mathlib.Core.List.{List, [], _∷_, map}
+use mathlib.Core.List.{[], _∷_, map}
 use Rattle.literal.specs.Literals.{twin}
 use Rattle.graph.specs.Edges.{outs}
 use Rattle.graph.specs.Clauses.{froms, tos, implications}

@@ -1,12 +1,12 @@
 -- The implication graph of the two-literal clauses: taking twins reverses it, and without a variable twice in a clause it has no edge from a slot to itself.
 -- Assumes nothing.
-use Prim.Native.Nat.{ℕ, zero, suc, _+_, _-_, _*_, _/_, _≤_, _<_}
+use Prim.Native.Nat.{ℕ, _-_, _*_, _/_, _<_}
 use native.Mathlib.Omega.{arith}
 use mathlib.Core.Path.{_≡_, refl, sym, ap, subst, _∙_}
-use mathlib.Core.Bool.{Bool, true, false, not}
+use mathlib.Core.Bool.{Bool, true, not}
 use mathlib.Core.Logic.{_⊎_, inl, inr, ⊎-elim}
-use mathlib.Core.List.{List, [], _∷_, _++_, List·Memᴰ, List·Memᴰ·head, List·Memᴰ·tail, List·Memᴰ·not-nil, List·Memᴰ·cases-cons, List·Memᴰ·append-cases}
-use lib.ListN.{length, getD, take}
+use mathlib.Core.List.{List, [], _∷_, List·Memᴰ, List·Memᴰ·head, List·Memᴰ·tail, List·Memᴰ·not-nil, List·Memᴰ·cases-cons, List·Memᴰ·append-cases}
+use lib.ListN.{length, take}
 use Rattle.base.specs.Decide.{same-or}
 use Rattle.base.specs.Lists.{absent}
 use Rattle.base.proofs.Lists.{absent-not, absent-is}
@@ -14,7 +14,7 @@ use Rattle.walk.specs.Ready.{adjOf}
 use Rattle.graph.specs.Skew.{Skew}
 use Rattle.literal.specs.Literals.{twin}
 use Rattle.graph.specs.Edges.{outs, Built}
-use Rattle.graph.specs.Clauses.{clauseFroms, clauseTos, froms, tos, implications, Once, empty, more}
+use Rattle.graph.specs.Clauses.{clauseTos, froms, tos, implications, Once, more}
 use Rattle.literal.proofs.Twins.{twin-twice, twin-below, twin-variable}
 use Rattle.graph.proofs.Csr.{outs-in, outs-out, outs-mem, built-adj}
 

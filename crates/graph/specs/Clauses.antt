@@ -1,6 +1,6 @@
 -- The edges of the two-literal clauses (the binary implication graph), on slots: (a ∨ b) gives twin a → b, then twin b → a, in clause order.
 -- Assumes nothing: these are definitions.
-use Prim.Native.Nat.{ℕ, _/_, _<_}
+use Prim.Native.Nat.{ℕ, _/_}
 use mathlib.Core.Path.{_≡_}
 use mathlib.Core.List.{List, [], _∷_, _++_, List·Memᴰ}
 use Rattle.literal.specs.Literals.{twin}

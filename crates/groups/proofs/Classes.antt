@@ -1,21 +1,21 @@
 -- What Merge needs of the representatives: equal exactly within a group, and the complement's is the complement, unless a slot and its twin share a group.
 -- Assumes nothing.
-use Prim.Native.Nat.{ℕ, zero, suc, _+_, _-_, _*_, _/_, _%_, _≤_, _<_}
+use Prim.Native.Nat.{ℕ, _-_, _/_, _%_, _≤_, _<_}
 use native.Mathlib.Omega.{arith}
-use mathlib.Core.Path.{_≡_, sym, ap, subst, _∙_}
-use mathlib.Core.Logic.{_⊎_, inl, inr, ⊎-elim}
+use mathlib.Core.Path.{_≡_, sym, subst, _∙_}
+use mathlib.Core.Logic.{_⊎_, ⊎-elim}
 use mathlib.Core.List.{List}
 use mathlib.Core.Bool.{Bool, true}
-use Rattle.base.specs.Decide.{same-or, le-or}
+use Rattle.base.specs.Decide.{same-or}
 use Rattle.base.proofs.Booleans.{both-ways, not-itself}
-use Rattle.walk.specs.Forest.{Reach, here, on}
+use Rattle.walk.specs.Forest.{Reach}
 use Rattle.graph.specs.Skew.{Skew}
 use Rattle.literal.specs.Literals.{twin}
 use Rattle.walk.proofs.Theorems.{reach-implies, reach-below}
 use Rattle.graph.specs.Clauses.{implications}
 use Rattle.literal.proofs.Twins.{twin-even, twin-odd}
 use Rattle.graph.proofs.Implications.{Satisfies, edge-true}
-use Rattle.groups.specs.Groups.{leastMutual, Representative}
+use Rattle.groups.specs.Groups.{leastMutual}
 use Rattle.groups.proofs.Kosaraju.{reach-trans, mirror}
 use Rattle.groups.proofs.Least.{least-mutual, representative-is}
 

@@ -2,23 +2,23 @@
 --     last-finish    on a path, the slot that finishes last holds the first
 --     same-start     after the second walk two slots have the same start exactly if they reach each other
 -- Assumes nothing.
-use Prim.Native.Nat.{ℕ, zero, suc, _+_, _*_, _≤_, _<_}
-use native.Mathlib.Nat.{le-refl, le-trans}
+use Prim.Native.Nat.{ℕ, _≤_, _<_}
+use native.Mathlib.Nat.{le-refl}
 use native.Mathlib.Omega.{arith}
 use mathlib.Core.Path.{_≡_, refl, sym, ap, subst, subst₂, _∙_}
 use mathlib.Core.Logic.{_⊎_, inl, inr, ⊎-elim}
 use mathlib.Core.List.{List, [], _∷_, List·Memᴰ, List·Memᴰ·head, List·Memᴰ·tail, List·Memᴰ·not-nil, List·Memᴰ·cases-cons}
-use lib.ListN.{length, getD, replicate, length-replicate}
+use lib.ListN.{length, length-replicate}
 use Rattle.base.specs.Decide.{same-or, le-or, zero-or}
 use Rattle.base.proofs.Lists.{getD-zeros}
-use Rattle.walk.specs.Walk.{Stamps, edge, edges, starts, fresh}
+use Rattle.walk.specs.Walk.{Stamps, edge, edges, starts}
 use Rattle.walk.specs.Forest.{dis, fin, top, Holds, Parted, Reach, here, on, Forest}
 use Rattle.walk.proofs.Run.{Less, less-refl, edge-new, edge-old}
 use Rattle.walk.proofs.Steps.{Walked, Sized, sized-less, reach-from}
 use Rattle.walk.proofs.Drive.{fresh-all}
 use Rattle.walk.proofs.Theorems.{Stamped, holds-reach, start-top, times-apart, reach-entered, reach-below, forest-start, start-walked, forest-edges, fresh-none}
 use Rattle.graph.specs.Skew.{Skew}
-use Rattle.groups.specs.Groups.{blank, walk, Lists, Falls, none, next}
+use Rattle.groups.specs.Groups.{blank, walk, Lists, Falls, next}
 
 pub reach-trans : {adj : ℕ → List ℕ} {a b c : ℕ} → Reach adj a b → Reach adj b c → Reach adj a c
 reach-trans r here = r

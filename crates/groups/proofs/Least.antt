@@ -1,21 +1,19 @@
 -- What `leastMutual` means: the least slot of a group.
 -- Assumes nothing.
 use Prim.Native.Nat.{ℕ, _<_}
-use native.Mathlib.Nat.{le-refl, le-trans}
+use native.Mathlib.Nat.{le-refl}
 use native.Mathlib.Omega.{arith}
-use mathlib.Core.Path.{_≡_, sym, subst}
+use mathlib.Core.Path.{_≡_}
 use mathlib.Core.Bool.{Bool, true}
-use mathlib.Core.Logic.{_⊎_, inl, inr}
-use mathlib.Core.List.{List, [], _∷_, List·Memᴰ}
-use lib.ListN.{length, getD, replicate, length-replicate}
+use mathlib.Core.List.{List, List·Memᴰ}
+use lib.ListN.{length, replicate, length-replicate}
 use borrow.Author.Tests.{ltb-true, lt-ltb}
 use Rattle.base.specs.Lists.{first}
 use Rattle.base.proofs.Booleans.{and-left, and-right, and-both}
 use Rattle.base.proofs.Searches.{first-found}
-use Rattle.walk.specs.Walk.{Stamps, starts}
 use Rattle.walk.specs.Forest.{Reach, here}
 use Rattle.walk.proofs.Theorems.{reach-exact, reach-below}
-use Rattle.groups.specs.Groups.{blank, reaches, connected, leastMutual, Representative}
+use Rattle.groups.specs.Groups.{reaches, connected, leastMutual, Representative}
 
 -- ---- paths, decided
 

@@ -1,7 +1,7 @@
 -- Document 01, Sweep: "The figure 6 scan goes first and .. a yes drops the clause. .. For two, the yes is the scan's with its two exceptions: the positive literal is the complement of the negative one, or has it as parent.
 -- Otherwise figure 5 shortens: first, each literal that holds another literal of the clause goes; then, of the rest, each whose complement is held by another's complement." "Interval p holds interval q when it begins no later and ends no earlier."
 -- The rules for one clause, on the slots of its literals, as functions of the stamps. Assumes nothing: these are definitions.
-use Prim.Native.Nat.{ℕ, zero, suc}
+use Prim.Native.Nat.{ℕ}
 use mathlib.Core.Bool.{Bool, true, false, not, _&&_, _||_}
 use mathlib.Core.List.{List, [], _∷_, map, reverse}
 use lib.ListN.{length}

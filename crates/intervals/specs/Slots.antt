@@ -1,7 +1,7 @@
 -- What the functions on slots ask of the stamp tables. Assumes nothing: these are definitions.
 use Prim.Native.Nat.{ℕ, _+_, _*_, _≤_, _<_}
 use mathlib.Core.List.{List, [], List·Memᴰ}
-use lib.ListN.{length, getD}
+use lib.ListN.{length}
 use lib.IntN.{ℤ}
 use Rattle.literal.specs.Literals.{Literal}
 use Rattle.walk.specs.Forest.{dis, fin, par}

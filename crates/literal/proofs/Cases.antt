@@ -1,10 +1,9 @@
 -- Examples by computation: of repeats the first stays, a clause with v and −v is told, slots and back. Assumes nothing.
 use mathlib.Core.Path.{_≡_, refl}
-use mathlib.Core.Bool.{Bool, true, false}
-use mathlib.Core.List.{List, [], _∷_, map}
-use Prim.Native.Nat.{ℕ}
-use lib.IntN.{ℤ, pos, negsuc}
-use Rattle.literal.specs.Literals.{slotOf, litAt, twin}
+use mathlib.Core.Bool.{true, false}
+use mathlib.Core.List.{[], _∷_, map}
+use lib.IntN.{pos, negsuc}
+use Rattle.literal.specs.Literals.{slotOf, twin}
 use Rattle.literal.specs.Clauses.{distinct, tautology}
 
 firsts-stay : distinct (pos 3 ∷ negsuc 0 ∷ pos 3 ∷ pos 2 ∷ negsuc 0 ∷ []) ≡ pos 3 ∷ negsuc 0 ∷ pos 2 ∷ []

@@ -1,16 +1,16 @@
 -- What a proof over i32 literals needs: bits and back, negation, the tests, the casts. Each lemma has its literal z from a record, `Small z` or `SFits w32 z`, so no caller writes it. Assumes nothing.
-use Prim.Native.Nat.{ℕ, zero, suc, _+_, _*_, _-_, _^_, _<_, _≤_}
+use Prim.Native.Nat.{ℕ, zero, suc, _+_, _-_, _^_, _<_, _≤_}
 use mathlib.Core.Path.{_≡_, refl, sym, ap, _∙_, subst}
-use mathlib.Core.Bool.{Bool, true, false, not}
+use mathlib.Core.Bool.{Bool, true, false}
 use native.Mathlib.Omega.{arith}
 use lib.Dec.{T, ltb, leb, eqb}
 use mathlib.Core.List.{List}
 use lib.ListN.{getD}
-use lib.IntN.{ℤ, pos, negsuc, negℤ, natAbs, _-ℤ_, +ℤ-idl, negℤ-negℤ}
-use lib.Signed.{mag, ltZ, leZ, nonNeg}
-use mir.Syntax.{Width, w16, w32, w64}
-use mir.Val.{Fits, SFits, ofZ, toZ, bits, hbits}
-use mir.Facts.{toZ-ofZ, toZ-pos, sfits-lit}
+use lib.IntN.{ℤ, pos, negsuc, negℤ, natAbs, _-ℤ_, +ℤ-idl}
+use lib.Signed.{mag, ltZ, nonNeg}
+use mir.Syntax.{Width, w32}
+use mir.Val.{Fits, SFits, ofZ, toZ, bits}
+use mir.Facts.{toZ-ofZ, sfits-lit}
 use borrow.Author.Tests.{ltb-true, leb-true, eq-eqb, eqb-true, ne-eqb}
 use borrow.Author.Needs.{needs, fits-under}
 use Rattle.base.proofs.Booleans.{clash, and-left, and-right}

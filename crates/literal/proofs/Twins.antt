@@ -1,13 +1,12 @@
 -- Taking the twin twice is nothing, twins are of one variable, and the slots below an even number are closed under taking the twin.
 -- Assumes nothing.
-use Prim.Native.Nat.{ℕ, _+_, _-_, _*_, _/_, _%_, _≤_, _<_}
+use Prim.Native.Nat.{ℕ, _+_, _-_, _*_, _/_, _%_, _<_}
 use native.Mathlib.Omega.{arith}
-use native.Mathlib.Decide.{ℕ-discrete}
-use mathlib.Core.Path.{_≡_, refl, sym, ap, subst, _∙_}
-use mathlib.Core.Logic.{_⊎_, inl, inr, ⊎-elim}
+use mathlib.Core.Path.{_≡_, sym, ap, _∙_}
+use mathlib.Core.Logic.{_⊎_, ⊎-elim}
 use borrow.Author.Tests.{eq-eqb, ne-eqb}
 use Rattle.base.specs.Decide.{same-or}
-use Rattle.literal.specs.Literals.{twin, twinBy}
+use Rattle.literal.specs.Literals.{twin}
 
 pub twin-even : (s : ℕ) → s % 2 ≡ 0 → twin s ≡ s + 1
 unfolding twin

@@ -1,5 +1,4 @@
 -- Clauses as lists of literals: "remove repeats (the first stays)", "a clause that has v and −v". Assumes nothing: these are definitions.
-use Prim.Native.Nat.{ℕ}
 use mathlib.Core.Bool.{Bool, true, false, _||_}
 use mathlib.Core.List.{List, [], _∷_, _++_}
 use lib.IntN.{ℤ, negℤ}

@@ -1,5 +1,5 @@
 -- The visits of a call, and its answer, put together from them and its two counts. Assumes nothing.
-use Prim.Native.Nat.{ℕ, _+_, _*_, _-_, _≤_, _<_, min}
+use Prim.Native.Nat.{ℕ, _+_, _-_, _≤_, min}
 use native.Mathlib.Omega.{arith}
 use mathlib.Core.Path.{_≡_, refl, sym, ap, subst, _∙_}
 use mathlib.Core.Bool.{Bool}
@@ -8,7 +8,7 @@ use lib.IntN.{ℤ}
 use Rattle.state.specs.declared.State.{State}
 use Rattle.state.specs.declared.Counts.{Counts}
 use Rattle.state.specs.declared.Pass.the-variants.{Merge}
-use Rattle.tables.specs.Tables.{Tables, tables}
+use Rattle.tables.specs.Tables.{tables}
 use Rattle.tables.specs.Clauses.{gone}
 use Rattle.tables.specs.Fates.{visits}
 use Rattle.tables.specs.Calls.{After}

@@ -1,7 +1,7 @@
 -- The answer of a call, put together from its visits and its two counts. Assumes nothing.
 use Prim.Native.Nat.{ℕ}
 use mathlib.Core.Path.{_≡_, refl, sym, ap, subst, _∙_}
-use mathlib.Core.Bool.{Bool, true, false}
+use mathlib.Core.Bool.{Bool}
 use mathlib.Core.List.{List, []}
 use lib.IntN.{ℤ}
 use Rattle.state.specs.declared.State.{State}
@@ -9,9 +9,9 @@ use Rattle.state.specs.declared.Counts.{Counts}
 use Rattle.tables.specs.Tables.{Tables, tables}
 use Rattle.tables.specs.Clauses.{gone}
 use Rattle.tables.specs.Calls.{After}
-use Rattle.clauses.specs.Formed.{Formed, Counted}
+use Rattle.clauses.specs.Formed.{Counted}
 use Rattle.clauses.proofs.Counting.{formed-counted}
-use Rattle.propagate.specs.Propagate.{Progress, going, settled, contradicted, Reached, reached, propagateVisits, propagateFrom, replied}
+use Rattle.propagate.specs.Propagate.{Progress, going, Reached, propagateVisits, propagateFrom, replied}
 use Rattle.propagate.specs.Steps.{progressOf, reachedAs, repliedWith, Ready}
 use Rattle.propagate.specs.declared.Stand.{Stand}
 use Rattle.propagate.specs.declared.Stand.the-variants.{Going, Settled, Contradicted}

@@ -1,16 +1,13 @@
 -- The call: with no clause it is done at once, and each way of its entry is a way of `propagateCall`. Assumes nothing.
-use Prim.Native.Nat.{ℕ, zero, suc, _+_, _*_, _≤_, _<_}
+use Prim.Native.Nat.{ℕ, zero, suc}
 use native.Mathlib.Omega.{arith}
-use mathlib.Core.Path.{_≡_, refl, sym, ap, subst, _∙_}
-use mathlib.Core.Bool.{Bool, true, false}
-use mathlib.Core.List.{List, []}
-use lib.IntN.{ℤ}
+use mathlib.Core.Path.{_≡_, refl, sym, ap, _∙_}
+use mathlib.Core.Bool.{false}
 use Rattle.state.specs.declared.State.{State}
 use Rattle.state.specs.declared.Counts.{Counts}
 use Rattle.state.specs.declared.Refusal.{Refusal}
-use Rattle.tables.specs.Tables.{Tables, tables}
-use Rattle.tables.specs.Clauses.{gone}
-use Rattle.tables.specs.Calls.{After, refuse}
+use Rattle.tables.specs.Tables.{Tables}
+use Rattle.tables.specs.Calls.{refuse}
 use Rattle.shape.specs.Entry.{entryOf}
 use Rattle.shape.specs.declared.Entry.{Entry}
 use Rattle.shape.specs.declared.Entry.the-variants.{No, Opens, Resumes}

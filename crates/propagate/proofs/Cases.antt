@@ -1,12 +1,11 @@
 -- Examples by computation: the fate of a clause, and the visits of a whole pass. Assumes nothing.
-use Prim.Native.Nat.{ℕ}
 use mathlib.Core.Path.{_≡_, refl}
-use mathlib.Core.Bool.{Bool, true, false}
-use mathlib.Core.List.{List, [], _∷_, map}
+use mathlib.Core.Bool.{true, false}
+use mathlib.Core.List.{List, [], _∷_}
 use lib.IntN.{ℤ, pos, negsuc}
 use Rattle.base.specs.Lists.{any, filter}
 use Rattle.tables.specs.Tables.{Tables, tables}
-use Rattle.tables.specs.Fates.{Fate, kept, left, dropped, unit, conflict, shortened, droppedAt, fateAt}
+use Rattle.tables.specs.Fates.{left, dropped, unit, conflict, shortened, droppedAt, fateAt}
 use Rattle.propagate.specs.Propagate.{propagateClause, propagateVisit, propagateVisits, going, settled, contradicted, begin, reached}
 
 -- 1 is true, 2 is false, 3 and 4 have no value

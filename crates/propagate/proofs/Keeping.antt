@@ -1,5 +1,5 @@
 -- A visit keeps the tables formed, unless it finds the empty clause; and it leaves every class as it was. Assumes nothing.
-use Prim.Native.Nat.{ℕ, _≤_, _<_}
+use Prim.Native.Nat.{ℕ, _<_}
 use native.Mathlib.Omega.{arith}
 use mathlib.Core.Path.{_≡_, refl, sym, ap, subst, _∙_}
 use mathlib.Core.Bool.{Bool, true, false, not}
@@ -8,7 +8,7 @@ use lib.ListN.{length}
 use lib.Dec.{ltb}
 use lib.IntN.{ℤ}
 use Rattle.literal.specs.Literals.{Literal}
-use Rattle.base.specs.Lists.{any, filter}
+use Rattle.base.specs.Lists.{any}
 use Rattle.tables.specs.Tables.{Tables, standing, classOf}
 use Rattle.tables.specs.Values.{isTrue, isFalse, setTrue}
 use Rattle.tables.specs.Clauses.{literalsOf}

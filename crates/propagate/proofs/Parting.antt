@@ -1,6 +1,5 @@
 -- The returns of a visit to a part: which fate the tests have shown, and what then stands in the part. Assumes nothing.
 use Prim.Native.Nat.{ℕ, zero, suc, _+_, _-_, _≤_, _<_}
-use native.Mathlib.Numerals.{add-one}
 use native.Mathlib.Omega.{arith}
 use mathlib.Core.Path.{_≡_, refl, sym, ap, subst, _∙_}
 use mathlib.Core.Bool.{Bool, true, false, not}
@@ -9,12 +8,12 @@ use lib.ListN.{length, take, getD, set, replicate}
 use lib.IntN.{ℤ, pos}
 use Rattle.base.specs.Lists.{any, filter}
 use Rattle.tables.specs.Values.{isTrue, isFalse, setTrue}
-use Rattle.tables.specs.Fates.{Fate, kept, left, dropped, unit, conflict}
+use Rattle.tables.specs.Fates.{Fate, left, dropped, unit, conflict}
 use Rattle.clauses.specs.Formed.{Known, EachKnown}
 use Rattle.clauses.specs.Holding.{holding}
 use Rattle.clauses.proofs.Fitting.{filter-shorter}
 use Rattle.propagate.specs.Propagate.{notFalse, remaining, propagateClause}
-use Rattle.propagate.specs.Visits.{Part, partOf, partAfter}
+use Rattle.propagate.specs.Visits.{partOf, partAfter}
 use Rattle.propagate.specs.declared.Visited.the-variants.{Left, Dropped, Unit1, Conflict}
 
 -- a true literal drops the clause; else what is left decides

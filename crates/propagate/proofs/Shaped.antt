@@ -1,5 +1,5 @@
 -- Propagate keeps the shape rule, wherever it stops. Assumes nothing.
-use Prim.Native.Nat.{ℕ, zero, suc, _+_, _*_, _≤_, _<_}
+use Prim.Native.Nat.{ℕ, zero, suc, _<_}
 use native.Mathlib.Omega.{arith}
 use mathlib.Core.Path.{_≡_, refl, sym, subst, _∙_}
 use mathlib.Core.Bool.{Bool, true, false, _||_, false≢true}
@@ -15,7 +15,7 @@ use Rattle.shape.specs.Shape.{Cursor, Shape}
 use Rattle.shape.specs.Entry.{entryOf}
 use Rattle.shape.specs.declared.Entry.{Entry}
 use Rattle.shape.specs.declared.Entry.the-variants.{No, Opens, Resumes}
-use Rattle.shape.proofs.Entering.{Entered, opens-entered, resumes-entered}
+use Rattle.shape.proofs.Entering.{opens-entered, resumes-entered}
 use Rattle.clauses.proofs.Visiting.{SameStamps, stamps-same, stamps-join, store-stamps}
 use Rattle.clauses.proofs.Keeping.{FormedIn, formed-shape-as}
 use Rattle.clauses.proofs.Entered.{entered-formed, entered-cursor}

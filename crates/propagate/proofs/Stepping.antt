@@ -12,11 +12,10 @@ use borrow.Author.Tests.{ltb-true, lt-ltb, le-ltb}
 use Rattle.tables.specs.Tables.{Tables, tables, lengthOf, standing}
 use Rattle.tables.specs.Fates.{Fate, kept, left, dropped, unit, conflict, store, fateAt}
 use Rattle.clauses.specs.Formed.{Formed}
-use Rattle.propagate.specs.Propagate.{Progress, going, settled, contradicted, onward, changes, visited, propagateClause, propagateVisit, propagateVisits, Reached, reached}
-use Rattle.propagate.specs.Visits.{visitedAs, Visit, visitOf, visitBy, visitAt, Visitable}
-use Rattle.propagate.specs.Steps.{progressOf, reachedAs, standAfter, Ready}
+use Rattle.propagate.specs.Propagate.{Progress, going, settled, contradicted, onward, changes, visited, propagateClause, propagateVisit, propagateVisits, reached}
+use Rattle.propagate.specs.Visits.{visitedAs, Visit, visitOf, visitAt, Visitable}
+use Rattle.propagate.specs.Steps.{progressOf, standAfter, Ready}
 use Rattle.propagate.specs.declared.Visited.{Visited}
-use Rattle.propagate.specs.declared.Visited.the-variants.{Kept, Left, Dropped, Unit1, Conflict}
 use Rattle.propagate.specs.declared.Stand.{Stand}
 use Rattle.propagate.specs.declared.Stand.the-variants.{Going, Settled, Contradicted}
 use Rattle.clauses.proofs.Keeping.{FormedIn}

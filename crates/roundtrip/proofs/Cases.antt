@@ -1,7 +1,7 @@
 -- Worked cases of Write as one lemma over a list, by computation: P1 and the input of document 01 written back alike, values and classes, an exact fit, refusal 10 with its length, the mark, refusal 1. Assumes nothing.
 use native.Mathlib.Decide.{ℕ-discrete, decLe, decLt}
 use mathlib.Core.Path.{refl}
-use mathlib.Core.Bool.{true, false}
+use mathlib.Core.Bool.{false}
 use mathlib.Core.List.{List, [], _∷_}
 use lib.IntN.{pos, negsuc}
 use Rattle.base.specs.Decide.{and?, or?, if?, not?, so?, every?, eqᵇ?, eqℤ?}

@@ -1,11 +1,11 @@
 -- A run's Stamp is never refused: what Settle leaves without the mark has no clause that refusal 6 names and no cycle for refusal 7, and the order of a round has no entry for refusal 8. Assumes nothing.
-use Prim.Native.Nat.{ℕ, _+_, _*_, _≤_, _<_}
+use Prim.Native.Nat.{ℕ, _+_, _*_, _≤_}
 use native.Mathlib.Omega.{arith}
-use mathlib.Core.Path.{_≡_, refl, sym, ap, subst, _∙_}
+use mathlib.Core.Path.{_≡_, sym, ap, subst, _∙_}
 use mathlib.Core.Bool.{Bool, true, false}
 use mathlib.Core.List.{List}
 use lib.ListN.{length}
-use lib.Dec.{ltb, eqb}
+use lib.Dec.{ltb}
 use lib.IntN.{ℤ}
 use borrow.Author.Tests.{eq-eqb, le-ltb}
 use Rattle.state.specs.declared.State.{State}
@@ -17,8 +17,7 @@ use Rattle.groups.specs.Groups.{cyclic}
 use Rattle.merge.specs.Merge.{edgesOf}
 use Rattle.stamp.specs.Stamp.{firstBad, stampFresh, stampAcyclic, stampSettled, stampOrdered}
 use Rattle.settle.specs.Settle.{Standing, settle}
-use Rattle.settle.specs.Steps.{standingIn}
-use Rattle.settle.proofs.Acyclic.{Quiet, settle-quiet}
+use Rattle.settle.proofs.Acyclic.{settle-quiet}
 use Rattle.run.specs.Run.{orderOf}
 use Rattle.run.specs.Steps.{Runs}
 use Rattle.run.proofs.Orders.{order-length}

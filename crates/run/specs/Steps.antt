@@ -5,9 +5,8 @@ use mathlib.Core.Bool.{false}
 use mathlib.Core.List.{List}
 use lib.ListN.{length, take}
 use lib.IntN.{ℤ}
-use Rattle.state.specs.declared.State.{State}
 use Rattle.state.specs.declared.Pass.the-variants.{Idle}
-use Rattle.tables.specs.Tables.{Tables, startOf, lengthOf}
+use Rattle.tables.specs.Tables.{startOf, lengthOf}
 use Rattle.shape.specs.Shape.{Shape}
 use Rattle.settle.specs.Settle.{Standing}
 

@@ -1,5 +1,5 @@
 -- What Settle leaves without the mark: tables that a Stamp takes. No clause is unsettled, and no two different literals reach each other. Assumes nothing.
-use Prim.Native.Nat.{ℕ, zero, suc, _+_, _≤_, _<_}
+use Prim.Native.Nat.{ℕ, zero, suc, _+_, _<_}
 use native.Mathlib.Omega.{arith}
 use mathlib.Core.Path.{_≡_, refl, sym, ap, subst, _∙_}
 use mathlib.Core.Bool.{Bool, true, false, false≢true}
@@ -8,7 +8,7 @@ use Rattle.tables.specs.Tables.{Tables}
 use Rattle.tables.specs.Passes.{firstUnsettled}
 use Rattle.clauses.proofs.Keeping.{FormedTo}
 use Rattle.settle.specs.Settle.{Standing, propagated, merged, grouped, settleFor, settle}
-use Rattle.settle.specs.Steps.{standingIn, Passed, passed, afterMerge, afterPropagate, bothPasses}
+use Rattle.settle.specs.Steps.{standingIn, Passed, afterMerge, afterPropagate, bothPasses}
 use Rattle.settle.specs.Own.{owns}
 use Rattle.settle.proofs.Owning.{owns-within}
 use Rattle.settle.proofs.Merging.{ended}

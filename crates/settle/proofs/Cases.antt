@@ -1,8 +1,8 @@
 -- Examples by computation: P9 and P8 of document 01 through Settle, and the variables that are their own class. Assumes nothing.
 use mathlib.Core.Path.{_≡_, refl}
 use mathlib.Core.Bool.{true, false}
-use mathlib.Core.List.{List, [], _∷_}
-use lib.IntN.{ℤ, pos, negsuc}
+use mathlib.Core.List.{[], _∷_}
+use lib.IntN.{pos, negsuc}
 use Rattle.base.specs.Lists.{any, filter, first, anyBelow}
 use Rattle.literal.specs.Literals.{twin}
 use Rattle.walk.specs.Walk.{arrive, leave, edge, edges, enters, starts}

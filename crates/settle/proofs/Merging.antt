@@ -1,5 +1,4 @@
 -- A whole Merge: where v and −v share a group it only sets the mark; else it makes all its visits and is done, with the tables formed. Assumes nothing.
-use Prim.Native.Nat.{ℕ}
 use native.Mathlib.Omega.{arith}
 use mathlib.Core.Path.{_≡_, refl, ap, _∙_}
 use mathlib.Core.Bool.{true, false}

@@ -1,21 +1,18 @@
 -- Looking for the first unsettled clause: a literal with a valued variable, a clause, and the search. Assumes nothing.
-use Prim.Native.Nat.{ℕ, zero, suc, _+_, _*_, _-_, _≤_, _<_}
+use Prim.Native.Nat.{ℕ, suc, _+_, _-_, _≤_, _<_}
 use native.Mathlib.Numerals.{add-one}
 use native.Mathlib.Omega.{arith}
-use mathlib.Core.Path.{_≡_, refl, sym, ap, subst, _∙_}
-use mathlib.Core.Bool.{Bool, true, false, not, _&&_, _||_}
-use mathlib.Core.List.{List, [], _∷_}
-use lib.ListN.{length, drop, getD}
-use lib.Seq.{drop-cons, drop-length}
-use lib.IntN.{ℤ, pos, natAbs}
+use mathlib.Core.Path.{_≡_, sym, ap, _∙_}
+use mathlib.Core.Bool.{Bool, true, false, _&&_, _||_}
+use mathlib.Core.List.{List}
+use lib.IntN.{ℤ}
 use lib.Dec.{eqb}
 use borrow.Author.Tests.{eq-eqb, ne-eqb}
 use Rattle.base.specs.Lists.{any, first}
-use Rattle.base.proofs.Lists.{any-here, any-next}
 use Rattle.tables.specs.Tables.{Tables, lengthOf, standing}
 use Rattle.tables.specs.Clauses.{literalsOf}
 use Rattle.tables.specs.Passes.{valued, unsettled, firstUnsettled}
-use Rattle.clauses.specs.Formed.{Formed, Known, EachKnown}
+use Rattle.clauses.specs.Formed.{Formed}
 use Rattle.clauses.proofs.Forming.{part-inside, clause-fits, record-inside}
 use Rattle.settled.specs.Settled.{Asked}
 

@@ -1,9 +1,7 @@
 // Refusal 6: the first standing clause of one literal, or with a valued variable.
 ghost use mathlib.Core.Path.{_≡_};
-ghost use mathlib.Core.Bool.{Bool};
 ghost use mathlib.Core.List.{List};
 ghost use Prim.Native.Nat.{ℕ, _+_, _*_, _≤_, _<_};
-ghost use lib.ListN.{length};
 ghost use lib.IntN.{ℤ};
 ghost use Rattle.base.specs.Lists.{any};
 ghost use Rattle.tables.specs.Tables.{tables};

@@ -10,7 +10,7 @@ use lib.Dec.{ltb}
 use lib.IntN.{ℤ, pos, natAbs}
 use Rattle.base.specs.Decide.{Decides, does, does-exact, agrees, and?, if?, not?, so?, eqᵇ?, eqℤ?, every?}
 use Rattle.stamps.specs.Decision.{literal?, fresh?}
-use Rattle.tables.specs.Long.{Long, long?}
+use Rattle.tables.specs.Long.{long?}
 use Rattle.tables.specs.Tables.{Tables, startOf, lengthOf, standing, variableAt, classOf, valueOf}
 use Rattle.shape.specs.Shape.{Parts, Literals, Variable, settledTo, Cursor, Clauses, Shape}
 use Rattle.state.specs.declared.State.{State}

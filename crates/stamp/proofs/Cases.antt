@@ -1,16 +1,15 @@
 -- Examples by computation: the first wrong entry of a list, and the records of P6 with those past them. Assumes nothing.
-use Prim.Native.Nat.{ℕ}
 use mathlib.Core.Path.{_≡_, refl}
-use mathlib.Core.Bool.{Bool, true, false}
-use mathlib.Core.List.{List, [], _∷_, map}
-use lib.IntN.{ℤ, pos, negsuc}
+use mathlib.Core.Bool.{true, false}
+use mathlib.Core.List.{[], _∷_}
+use lib.IntN.{pos, negsuc}
 use Rattle.base.specs.Lists.{filter, absent, first, anyBelow, interleave}
 use Rattle.literal.specs.Literals.{twin}
 use Rattle.walk.specs.Walk.{arrive, leave, edge, edges, enters, starts, stampAll}
 use Rattle.graph.specs.Edges.{outs}
 use Rattle.graph.specs.Clauses.{froms, tos, implications}
 use Rattle.groups.specs.Groups.{reaches, connected, cyclic}
-use Rattle.tables.specs.Tables.{Tables, tables}
+use Rattle.tables.specs.Tables.{tables}
 use Rattle.stamp.specs.Stamp.{firstBad, stampsOf, stampedTables}
 
 entries : (firstBad 2 (pos 1 ∷ negsuc 1 ∷ pos 2 ∷ negsuc 0 ∷ []) ≡ 4) × (firstBad 2 (pos 1 ∷ pos 0 ∷ pos 2 ∷ negsuc 0 ∷ []) ≡ 1) × (firstBad 2 (pos 1 ∷ negsuc 1 ∷ negsuc 2 ∷ pos 3 ∷ []) ≡ 2)

@@ -1,11 +1,11 @@
 -- The ten numbers of document 01's table written out, and the places: what pins the definitions of Answers.antt. Assumes nothing.
 use Prim.Native.Nat.{ℕ}
 use mathlib.Core.Path.{_≡_, refl}
-use mathlib.Core.List.{List, [], _∷_}
+use mathlib.Core.List.{[], _∷_}
 use Rattle.state.specs.Answers.{refusalNumber, refusalPlace, reply, replyOf}
 use Rattle.state.specs.declared.Refusal.the-variants.{Shape, Grammar, Limit, OtherPass, Marked, Unsettled, Cyclic, Order, Stale, Short}
 use Rattle.state.specs.declared.Counts.{Counts}
-use Rattle.state.specs.declared.Answer.the-variants.{Refused, Loaded, Open, Done, Stamped, Failed, Ran, Written}
+use Rattle.state.specs.declared.Answer.the-variants.{Refused, Open, Done, Failed, Ran, Written}
 
 pub refusal-numbers : (p : ℕ) → refusalNumber Shape ∷ refusalNumber (Grammar p) ∷ refusalNumber (Limit p) ∷ refusalNumber OtherPass ∷ refusalNumber Marked ∷ refusalNumber (Unsettled p)
     ∷ refusalNumber Cyclic ∷ refusalNumber (Order p) ∷ refusalNumber Stale ∷ refusalNumber (Short p) ∷ []

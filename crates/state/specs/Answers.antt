@@ -4,7 +4,6 @@ use Prim.Native.Nat.{ℕ}
 use mathlib.Core.List.{List, [], _∷_}
 use Rattle.state.specs.declared.Refusal.{Refusal}
 use Rattle.state.specs.declared.Refusal.the-variants.{Shape, Grammar, Limit, OtherPass, Marked, Unsettled, Cyclic, Order, Stale, Short}
-use Rattle.state.specs.declared.Counts.{Counts}
 use Rattle.state.specs.declared.Answer.{Answer}
 use Rattle.state.specs.declared.Answer.the-variants.{Refused, Loaded, Open, Done, Stamped, Failed, Ran, Written}
 

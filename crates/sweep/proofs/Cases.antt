@@ -1,8 +1,7 @@
 -- Examples by computation, on P2's stamps: 1 is [1,6], 2 [2,5], 3 [3,4], −3 [7,12], −2 [8,11], −1 [9,10], 4 [13,14], −4 [15,16]. Assumes nothing.
-use Prim.Native.Nat.{ℕ}
 use mathlib.Core.Path.{_≡_, refl}
-use mathlib.Core.List.{List, [], _∷_}
-use lib.IntN.{ℤ, pos, negsuc}
+use mathlib.Core.List.{[], _∷_}
+use lib.IntN.{pos, negsuc}
 use Rattle.base.specs.Lists.{any, filter, evens, odds}
 use Rattle.literal.specs.Literals.{twin}
 use Rattle.walk.specs.Walk.{Stamps}

@@ -1,7 +1,5 @@
 -- Examples by computation: truth through a class, a value set at the class literal, what each fate leaves in the tables, counts. Assumes nothing.
-use Prim.Native.Nat.{ℕ}
 use mathlib.Core.Path.{_≡_, refl}
-use mathlib.Core.Bool.{Bool, true, false}
 use mathlib.Core.List.{List, [], _∷_, map}
 use lib.IntN.{ℤ, pos, negsuc}
 use Rattle.base.specs.Lists.{any, first}

@@ -6,7 +6,7 @@ use lib.ListN.{take, drop}
 use lib.IntN.{ℤ}
 use Rattle.literal.specs.Literals.{slotOf}
 use Rattle.state.specs.declared.Counts.{Counts}
-use Rattle.tables.specs.Tables.{Tables, startOf, lengthOf}
+use Rattle.tables.specs.Tables.{startOf, lengthOf}
 
 -- the literals of the clause with record i; a dropped clause has none, since its length is 0
 abbrev pub literalsOf : List ℕ → List ℤ → ℕ → List ℤ

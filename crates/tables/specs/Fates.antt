@@ -1,7 +1,6 @@
 -- Document 01: "a shortened clause keeps the others in their old order at the front of that part. A dropped clause keeps its start and has length 0. Literal places that a clause gives up become 0".
 -- What a visit finds for a clause is data, and one function stores it. Assumes nothing: these are definitions.
 use Prim.Native.Nat.{ℕ, zero, suc, _+_, _*_, _-_}
-use mathlib.Core.Bool.{Bool, true, false}
 use mathlib.Core.List.{List, [], _++_}
 use lib.ListN.{length, take, drop, replicate, set}
 use lib.IntN.{ℤ, pos}

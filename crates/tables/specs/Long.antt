@@ -1,5 +1,5 @@
 -- Document 01: "a table is shorter than stated (extra places stay)". Assumes nothing: these are definitions.
-use Prim.Native.Nat.{ℕ, _≤_}
+use Prim.Native.Nat.{_≤_}
 use native.Mathlib.Decide.{decLe}
 use mathlib.Core.Bool.{Bool}
 use lib.ListN.{length}

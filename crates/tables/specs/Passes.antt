@@ -1,6 +1,6 @@
 -- Document 01: "Propagate, Merge and Sweep take a step count n .. and visit clauses in rising number .. A call makes n visits, or as many as the pass has left. It answers Open exactly if visits are left, else Done;
 -- with it come the visits made, the clauses gone and the literals gone". The passes that go through the clauses once: Merge and Sweep. And refusal 6, which Merge and Stamp share. Assumes nothing: these are definitions.
-use Prim.Native.Nat.{ℕ, suc, _+_, _-_, min}
+use Prim.Native.Nat.{ℕ, _+_, _-_, min}
 use mathlib.Core.Bool.{Bool, true, false, not, _&&_, _||_}
 use mathlib.Core.List.{List}
 use lib.Dec.{ltb, eqb}

@@ -1,6 +1,6 @@
 -- Document 01: "The class literal of v is its class, of −v the complement of that. .. A literal is true or false as the value of its class literal says, and a value is set there."
 -- Assumes nothing: these are definitions.
-use Prim.Native.Nat.{ℕ, _*_, _-_}
+use Prim.Native.Nat.{_*_, _-_}
 use mathlib.Core.Bool.{Bool}
 use mathlib.Core.List.{List}
 use lib.ListN.{set}

@@ -2,7 +2,6 @@
 use Prim.Native.Nat.{ℕ}
 use mathlib.Core.Path.{_≡_, refl}
 use mathlib.Core.List.{List, [], _∷_}
-use mathlib.Core.Bool.{Bool}
 use lib.ListN.{length, replicate}
 use Rattle.walk.specs.Walk.{Stamps, arrive, leave, edge, edges, enters, starts, stampAll}
 use Rattle.base.specs.Lists.{absent, filter}

@@ -1,18 +1,18 @@
 -- The search for an edge that goes back, and what a start on cleared columns says.
 -- Assumes nothing.
-use Prim.Native.Nat.{ℕ, zero, suc, _+_, _≤_, _<_, suc-le-suc}
-use native.Mathlib.Nat.{le-refl, le-trans, le-of-suc-le-suc, not-suc-le-zero}
+use Prim.Native.Nat.{ℕ, zero, suc, _+_, _≤_, _<_}
+use native.Mathlib.Nat.{le-refl, le-of-suc-le-suc, not-suc-le-zero}
 use native.Mathlib.Numerals.{add-one}
 use native.Mathlib.Omega.{arith}
 use mathlib.Core.Path.{_≡_, refl, sym, ap, subst, _∙_}
-use mathlib.Core.Logic.{_⊎_, inl, inr, ⊎-elim}
+use mathlib.Core.Logic.{_⊎_, ⊎-elim}
 use mathlib.Core.List.{List, [], _∷_, List·Memᴰ, List·Memᴰ·head, List·Memᴰ·tail, List·Memᴰ·not-nil, List·Memᴰ·cases-cons}
 use lib.ListN.{length, getD, take, drop, replicate}
 use lib.Seq.{slice, slice-cons, slice-empty, getD-take, length-take-le}
 use Rattle.base.proofs.Lists.{getD-zeros}
 use Rattle.walk.specs.Walk.{Stamps, edge, starts, fresh}
 use Rattle.walk.specs.Ready.{Graph, adjOf, stamps}
-use Rattle.walk.specs.Forest.{dis, fin, Reach, Back, BackAny, Forest}
+use Rattle.walk.specs.Forest.{dis, fin, Reach, Back, BackAny}
 use Rattle.walk.proofs.Run.{edge-new, graph-inside}
 use Rattle.walk.proofs.Theorems.{Stamped, reach-exact, back-cycle, acyclic}
 

@@ -1,18 +1,13 @@
 -- The laws of the driver: a search for a slot among the targets, and a loop that starts at each slot of a list.
 -- Assumes nothing.
-use Prim.Native.Nat.{ℕ, zero, suc, _*_, _≤_, _<_}
+use Prim.Native.Nat.{ℕ, zero, suc, _≤_, _<_}
 use native.Mathlib.Nat.{le-refl, le-trans}
 use native.Mathlib.Omega.{arith}
-use mathlib.Core.Bool.{Bool, true, false}
 use mathlib.Core.Path.{_≡_, refl, sym, ap, subst, _∙_}
-use mathlib.Core.List.{List, [], _∷_, _++_, append-nil, List·Memᴰ, List·Memᴰ·head, List·Memᴰ·tail, List·Memᴰ·not-nil, List·Memᴰ·cases-cons}
-use mathlib.Core.Logic.{⊎-elim}
-use lib.ListN.{length, set, drop, replicate, length-replicate}
-use lib.Dec.{eqb}
-use borrow.Author.Tests.{eq-eqb, ne-eqb}
-use Rattle.base.specs.Lists.{absent, filter}
+use mathlib.Core.List.{List, [], _∷_, _++_, append-nil, List·Memᴰ}
+use lib.ListN.{length, drop, replicate, length-replicate}
 use Rattle.base.proofs.Lists.{drop-done}
-use Rattle.walk.specs.Walk.{Stamps, edge, edges, enters, starts, fresh, stampAll}
+use Rattle.walk.specs.Walk.{Stamps, edge, edges, starts, fresh}
 use Rattle.walk.specs.Ready.{Graph, Columns, adjOf, stamps}
 use Rattle.walk.proofs.Run.{Less, less-refl, columns-less, edge-cases, edges-less, enters-less, graph-inside}
 

@@ -1,18 +1,17 @@
 -- What one walk adds to the stamps, over any graph: the new intervals come after the old, are nested or apart, and hang under their parents.
 -- Assumes nothing.
-use Prim.Native.Nat.{ℕ, zero, suc, _+_, _*_, _≤_, _<_}
+use Prim.Native.Nat.{ℕ, zero, suc, _+_, _≤_, _<_}
 use native.Mathlib.Nat.{le-refl, le-trans}
-use native.Mathlib.Decide.{ℕ-discrete, decLe}
 use native.Mathlib.Omega.{arith}
 use mathlib.Core.Path.{_≡_, refl, sym, ap, subst, _∙_}
 use mathlib.Core.Logic.{_⊎_, inl, inr, ⊎-elim, ⊎-map}
 use mathlib.Core.List.{List, [], _∷_, List·Memᴰ, List·Memᴰ·head, List·Memᴰ·tail, List·Memᴰ·not-nil, List·Memᴰ·cases-cons}
-use lib.ListN.{length, getD, set, length-set}
+use lib.ListN.{length, length-set}
 use lib.Seq.{getD-set-same, getD-set-other}
 use Rattle.base.specs.Decide.{same-or, le-or, zero-or}
 use Rattle.walk.specs.Walk.{Stamps, arrive, leave, edge, edges, enters, starts, fresh}
-use Rattle.walk.specs.Forest.{dis, fin, par, top, Holds, Parted, Above, self, up, Reach, here, on, Top, Under, Forest}
-use Rattle.walk.proofs.Run.{Less, less-refl, less-trans, edge-new, edge-old, edge-cases, edges-less, enters-less, fresh-set}
+use Rattle.walk.specs.Forest.{dis, fin, par, top, Holds, Parted, Reach, here, on}
+use Rattle.walk.proofs.Run.{Less, less-refl, less-trans, edge-new, edge-old, enters-less, fresh-set}
 
 pub reach-from : {adj : ℕ → List ℕ} {a b c : ℕ} → List·Memᴰ b (adj a) → Reach adj b c → Reach adj a c
 reach-from m here = on here m

@@ -18,12 +18,12 @@ use lib.ListN.{length, getD, replicate, length-replicate}
 use Rattle.base.specs.Decide.{same-or, le-or, zero-or}
 use Rattle.base.specs.Lists.{filter}
 use Rattle.base.proofs.Lists.{mem-filter, getD-zeros, getD-inside}
-use Rattle.walk.specs.Walk.{Stamps, edge, edges, enters, starts, fresh, stampAll}
+use Rattle.walk.specs.Walk.{Stamps, edge, edges, starts, fresh, stampAll}
 use Rattle.walk.specs.Ready.{stamps}
 use Rattle.walk.specs.Forest.{dis, fin, par, top, Holds, Parted, Above, self, up, Reach, here, on, Top, Under, Forest}
 use Rattle.walk.proofs.Run.{Less, less-refl, less-trans, edge-new, edge-old}
 use Rattle.walk.proofs.Drive.{fresh-all, fresh-le}
-use Rattle.walk.proofs.Steps.{Walked, Sized, sized-less, enters-walked, Timely, timely-walked, reach-from}
+use Rattle.walk.proofs.Steps.{Walked, Sized, sized-less, enters-walked, Timely, reach-from}
 
 -- after Stamp: a forest, every slot entered, and the time twice their number, so that by `hit` and `times-apart` each time of 1 to 2 * size is once a discovery or a finish
 pub record Stamped (adj : ℕ → List ℕ) (size : ℕ) (σ : Stamps) : Type 0 where

@@ -1,9 +1,9 @@
 -- What the core's calls ask of their slices, and how a graph in compressed form is read.
 -- Assumes nothing: these are definitions.
-use Prim.Native.Nat.{ℕ, _+_, _*_, _≤_, _<_, _^_}
+use Prim.Native.Nat.{ℕ, _+_, _*_, _≤_, _<_}
 use mathlib.Core.Path.{_≡_}
-use mathlib.Core.List.{List, _++_}
-use lib.ListN.{length, getD, take, drop}
+use mathlib.Core.List.{List}
+use lib.ListN.{length, getD}
 use lib.Seq.{slice}
 use Rattle.walk.specs.Walk.{Stamps, fresh}
 

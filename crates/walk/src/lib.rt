@@ -1,6 +1,6 @@
 // Stamp: a depth-first walk of a graph in compressed form, as two functions in a cycle.
 ghost use mathlib.Core.Path.{_≡_};
-ghost use Prim.Native.Nat.{ℕ, _+_, _*_, _<_, _≤_};
+ghost use Prim.Native.Nat.{ℕ, _+_, _<_, _≤_};
 ghost use lib.ListN.{length, getD, replicate};
 ghost use Rattle.walk.specs.Walk.{enters, starts, edge, edges, fresh};
 ghost use mathlib.Core.Bool.{true, false};

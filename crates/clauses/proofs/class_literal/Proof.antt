@@ -1,15 +1,13 @@
 -- `clauses::class_literal` meets its contract. Assumes nothing.
-use Prim.Native.Nat.{ℕ, _*_, _-_, _<_}
+use Prim.Native.Nat.{_*_, _-_, _<_}
 use native.Mathlib.Omega.{arith}
-use mathlib.Core.Path.{_≡_, ap, _∙_}
-use mir.Syntax.{w32}
+use mathlib.Core.Path.{_≡_}
 use mir.Facts.{toZ-ofZ}
 use lib.ListN.{length, getD}
-use lib.IntN.{ℤ, pos, natAbs}
-use lib.Signed.{nonNeg}
-use Rattle.literal.specs.Literals.{Small, signBy}
+use lib.IntN.{pos, natAbs}
+use Rattle.literal.specs.Literals.{Small}
 use Rattle.literal.proofs.Signed.{back}
-use Rattle.clauses.proofs.Known.{known-small, known-place, known-above, known-row, class-small}
+use Rattle.clauses.proofs.Known.{known-small, known-place, known-above, class-small}
 use borrow.Author.Needs.{sfits-of}
 use borrow.Author.Needs.{needs}
 use Rattle.clauses.proofs.class_literal.Statement.{statement}

@@ -2,9 +2,8 @@
 use Rattle.tables.specs.Tables.{lengthOf}
 use Prim.Native.Nat.{_≤_, _<_}
 -- `clauses::count_standing` meets its contract. Assumes nothing.
-use Prim.Native.Nat.{ℕ, _-_, _+_, _*_}
+use Prim.Native.Nat.{_-_, _+_}
 use native.Mathlib.Omega.{arith}
-use mathlib.Core.Path.{_≡_}
 use Rattle.clauses.proofs.Counting.{Counting, counting-none, counting-dropped, counting-standing, counting-done}
 use borrow.Author.Needs.{needs}
 use Rattle.clauses.proofs.count_standing.Statement.{statement}

@@ -1,9 +1,9 @@
 -- `clauses::is_false` meets its contract. Assumes nothing.
-use mathlib.Core.Path.{_≡_, ap, _∙_}
+use mathlib.Core.Path.{ap, _∙_}
 use mir.Syntax.{w32}
 use mir.Facts.{toZ-ofZ, sfits-lit}
 use borrow.Author.Needs.{sfits-of}
-use lib.IntN.{ℤ, pos, negsuc}
+use lib.IntN.{ℤ, negsuc}
 use Rattle.literal.specs.Literals.{eqZ}
 use Rattle.literal.proofs.Signed.{eqb-bits}
 use borrow.Author.Needs.{needs}

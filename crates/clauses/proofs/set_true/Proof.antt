@@ -1,13 +1,11 @@
 -- `clauses::set_true` meets its contract. Assumes nothing.
-use Prim.Native.Nat.{ℕ, _*_, _-_, _<_}
+use Prim.Native.Nat.{_*_, _-_, _<_}
 use native.Mathlib.Omega.{arith}
-use mathlib.Core.Path.{_≡_, ap, subst, sym, _∙_}
+use mathlib.Core.Path.{_≡_}
 use mir.Facts.{toZ-ofZ}
 use borrow.Author.Needs.{sfits-of}
-use lib.ListN.{length, set}
-use lib.IntN.{ℤ, pos, natAbs}
-use lib.Signed.{nonNeg}
-use Rattle.literal.specs.Literals.{Small, signBy}
+use lib.ListN.{length}
+use lib.IntN.{natAbs}
 use Rattle.tables.specs.Values.{classLiteral}
 use Rattle.clauses.specs.Formed.{Known}
 use Rattle.clauses.proofs.Known.{known-class, known-small, known-above, known-place}

@@ -1,6 +1,5 @@
 -- `clauses::signed_by` meets its contract. Assumes nothing.
 use Rattle.literal.proofs.Signed.{neg-fits, neg-is, back, tested-neg, tested-pos}
-use borrow.Author.Needs.{needs}
 use Rattle.clauses.proofs.signed_by.Statement.{statement}
 use Rattle.clauses.proofs.signed_by.Tie as tie
 use Rattle.clauses.proofs.signed_by.Reads as reads

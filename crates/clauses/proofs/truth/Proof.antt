@@ -1,10 +1,8 @@
 -- `clauses::truth` meets its contract. Assumes nothing.
-use mathlib.Core.Path.{_≡_, ap, subst, sym, _∙_}
+use mathlib.Core.Path.{_≡_, ap, _∙_}
 use mir.Facts.{toZ-ofZ}
 use borrow.Author.Needs.{sfits-of}
-use lib.IntN.{ℤ}
 use Rattle.tables.specs.Values.{classLiteral, ownTruth}
-use Rattle.clauses.specs.Formed.{Known}
 use Rattle.clauses.proofs.Known.{known-class}
 use borrow.Author.Needs.{needs}
 use Rattle.clauses.proofs.truth.Statement.{statement}

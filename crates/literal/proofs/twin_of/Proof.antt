@@ -1,6 +1,6 @@
 -- `literal::twin_of` meets its contract. Assumes nothing.
 use Rattle.literal.proofs.Twins.{twin-even, twin-odd}
-use mathlib.Core.Path.{_≡_, sym}
+use mathlib.Core.Path.{sym}
 use borrow.Author.Needs.{needs}
 use Rattle.literal.proofs.twin_of.Statement.{statement}
 use Rattle.literal.proofs.twin_of.Tie as tie

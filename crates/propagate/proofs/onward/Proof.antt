@@ -1,7 +1,6 @@
 -- `propagate::onward` meets its contract. Assumes nothing.
 use Rattle.propagate.proofs.Stepping.{onward-more, onward-again, onward-ends}
 -- `propagate::onward` meets its contract. Assumes nothing.
-use borrow.Author.Needs.{needs}
 use Rattle.propagate.proofs.onward.Statement.{statement}
 use Rattle.propagate.proofs.onward.Tie as tie
 use Rattle.propagate.proofs.onward.Reads as reads

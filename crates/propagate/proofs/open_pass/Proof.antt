@@ -1,6 +1,6 @@
 -- `propagate::open_pass` meets its contract. Assumes nothing.
 use native.Mathlib.Omega.{arith}
-use mathlib.Core.Path.{_≡_, ap, _∙_}
+use mathlib.Core.Path.{ap, _∙_}
 use mathlib.Core.Bool.{false}
 use Rattle.tables.specs.Tables.{tables}
 use Rattle.propagate.specs.Propagate.{Progress, propagateFrom}

@@ -1,5 +1,5 @@
 -- `propagate::propagate` meets its contract: the call is its definition. Assumes nothing.
-use mathlib.Core.Path.{_≡_, sym, _∙_}
+use mathlib.Core.Path.{sym, _∙_}
 use Rattle.tables.specs.Tables.{Tables, tables}
 use Rattle.propagate.proofs.Calling.{call-refused, call-opens, call-resumes, opens-formed, resumes-resumable}
 use borrow.Author.Needs.{needs}

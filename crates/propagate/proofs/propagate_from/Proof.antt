@@ -1,8 +1,4 @@
 -- `propagate::propagate_from` meets its contract. Assumes nothing.
-use Prim.Native.Nat.{ℕ}
-use mathlib.Core.Path.{_≡_}
-use mathlib.Core.List.{List}
-use lib.IntN.{ℤ}
 use Rattle.tables.specs.Tables.{tables}
 use Rattle.tables.specs.Calls.{after}
 use Rattle.propagate.specs.Propagate.{going}

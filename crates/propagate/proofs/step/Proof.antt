@@ -1,8 +1,8 @@
 -- `propagate::step` meets its contract. Assumes nothing.
 use Prim.Native.Nat.{ℕ, suc, _+_}
 use native.Mathlib.Numerals.{add-one}
-use mathlib.Core.Path.{_≡_, refl, sym, ap, _∙_}
-use mathlib.Core.Bool.{Bool, true, false, _||_}
+use mathlib.Core.Path.{_≡_, refl, ap, _∙_}
+use mathlib.Core.Bool.{Bool, true, _||_}
 use mathlib.Core.List.{List}
 use lib.Dec.{ltb}
 use lib.IntN.{ℤ}
@@ -10,7 +10,7 @@ use Rattle.tables.specs.Tables.{Tables, tables, lengthOf}
 use Rattle.propagate.specs.Propagate.{onward}
 use Rattle.propagate.specs.declared.Stand.the-variants.{Contradicted}
 use Rattle.propagate.specs.declared.Visited.the-variants.{Kept, Left, Dropped, Unit1, Conflict}
-use Rattle.propagate.proofs.Stepping.{visit-onward, ready-visitable}
+use Rattle.propagate.proofs.Stepping.{visit-onward}
 use borrow.Author.Needs.{needs}
 use Rattle.propagate.proofs.step.Statement.{statement}
 use Rattle.propagate.proofs.step.Tie as tie

@@ -1,13 +1,9 @@
 -- `propagate::visit_part` meets its contract: each return is one of the fates. Assumes nothing.
-use Prim.Native.Nat.{ℕ, _-_, _≤_, _<_}
+use Prim.Native.Nat.{_-_, _<_}
 use native.Mathlib.Omega.{arith}
 use mathlib.Core.Path.{_≡_, sym, _∙_}
 use mathlib.Core.Bool.{false}
-use mathlib.Core.List.{_++_}
-use lib.ListN.{length, replicate}
-use lib.IntN.{pos}
-use mir.Facts.{toZ-ofZ}
-use borrow.Author.Needs.{sfits-of}
+use lib.ListN.{length}
 use Rattle.base.specs.Lists.{any}
 use Rattle.literal.proofs.Signed.{read}
 use Rattle.tables.specs.Values.{isTrue}

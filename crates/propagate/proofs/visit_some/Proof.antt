@@ -1,10 +1,10 @@
 -- `propagate::visit_some` meets its contract. Assumes nothing.
 use mathlib.Core.Path.{_∙_}
-use Rattle.propagate.specs.declared.Stand.the-variants.{Going, Settled, Contradicted}
+use Rattle.propagate.specs.declared.Stand.the-variants.{Settled, Contradicted}
 -- `propagate::visit_some` meets its contract. Assumes nothing.
 use Prim.Native.Nat.{ℕ, _-_}
 use native.Mathlib.Omega.{arith}
-use mathlib.Core.Path.{_≡_, refl}
+use mathlib.Core.Path.{_≡_}
 use Rattle.propagate.proofs.Stepping.{Making, making-none, making-goes, making-ends, making-done}
 use borrow.Author.Needs.{needs}
 use Rattle.propagate.proofs.visit_some.Statement.{statement}

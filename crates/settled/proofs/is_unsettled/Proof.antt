@@ -1,6 +1,5 @@
 -- `settled::is_unsettled` meets its contract. Assumes nothing.
-use mathlib.Core.Path.{_≡_, sym, _∙_}
-use native.Mathlib.Omega.{arith}
+use mathlib.Core.Path.{_∙_}
 use Rattle.literal.proofs.Zeros.{mid}
 use Rattle.tables.specs.Tables.{tables, startOf, lengthOf}
 use Rattle.settled.proofs.Looking.{dropped-settled, unit-unsettled, valued-unsettled}

@@ -2,12 +2,12 @@
 use Prim.Native.Nat.{ℕ, _*_, _-_, _<_}
 use native.Mathlib.Omega.{arith}
 use mathlib.Core.Path.{_≡_, ap, _∙_}
-use mathlib.Core.Bool.{Bool, not}
+use mathlib.Core.Bool.{not}
 use mir.Syntax.{w32}
 use mir.Facts.{toZ-ofZ, sfits-lit}
 use borrow.Author.Needs.{sfits-of}
 use lib.ListN.{length, getD}
-use lib.IntN.{ℤ, pos, natAbs}
+use lib.IntN.{pos, natAbs}
 use Rattle.literal.specs.Literals.{eqZ}
 use Rattle.literal.proofs.Signed.{eqb-bits}
 use Rattle.clauses.proofs.Known.{known-small, known-place, known-above}

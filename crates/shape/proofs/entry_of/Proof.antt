@@ -1,5 +1,5 @@
 -- `shape::entry_of` meets its contract: each return is a case of `entryOf`. Assumes nothing.
-use mathlib.Core.Path.{_≡_, sym, _∙_}
+use mathlib.Core.Path.{sym, _∙_}
 use mathlib.Core.Bool.{true, false}
 use Rattle.tables.specs.Tables.{Tables, tables}
 use Rattle.shape.proofs.Entering.{entry-misshapen, entry-idle, entry-other, entry-own}

@@ -1,12 +1,12 @@
 -- `walk::enter` and `walk::walk_edges`, which call each other, meet their contracts. Assumes nothing.
-use Prim.Native.Nat.{ℕ, zero, suc, _<_, _≤_, _*_, _+_, _-_}
-use mathlib.Core.Path.{_≡_, refl, sym, ap, subst, _∙_}
+use Prim.Native.Nat.{ℕ, _<_, _*_, _+_, _-_}
+use mathlib.Core.Path.{refl, sym, subst, _∙_}
 use native.Mathlib.Omega.{arith}
 use lib.ListN.{length, getD, set, length-set}
 use borrow.Author.Needs.{needs}
-use Rattle.walk.specs.Walk.{Stamps, arrive, leave, edge, edges, enters, fresh}
+use Rattle.walk.specs.Walk.{enters, fresh}
 use Rattle.walk.specs.Ready.{Graph, Columns, adjOf, stamps}
-use Rattle.walk.proofs.Run.{Going, Less, fresh-set, arrived, walked, finished, going-step, going-done, edge-new, edge-old, stamps-eq}
+use Rattle.walk.proofs.Run.{Going, fresh-set, arrived, walked, finished, going-step, going-done, edge-new, edge-old, stamps-eq}
 use native.Mathlib.Nat.{le-refl, le-trans}
 use mathlib.Core.Logic.{⊎-elim}
 use borrow.Fn.Kinds.{In}

@@ -1,13 +1,13 @@
 -- `walk::any_back` meets its contract. Assumes nothing.
-use Prim.Native.Nat.{ℕ, _≤_, _<_, _-_, _+_}
-use mathlib.Core.Path.{_≡_, refl, sym, ap, subst, _∙_}
-use mathlib.Core.Bool.{Bool, true, false}
+use Prim.Native.Nat.{ℕ, _≤_, _<_, _-_}
+use mathlib.Core.Path.{_≡_, sym}
+use mathlib.Core.Bool.{true, false}
 use native.Mathlib.Omega.{arith}
-use lib.ListN.{length, getD}
+use lib.ListN.{length}
 use borrow.Author.Needs.{needs}
-use borrow.Author.Count.{below-more, below-none}
-use Rattle.walk.specs.Ready.{Graph, adjOf}
-use Rattle.walk.specs.Forest.{Back, BackFrom, BackAny}
+use borrow.Author.Count.{below-more}
+use Rattle.walk.specs.Ready.{adjOf}
+use Rattle.walk.specs.Forest.{BackFrom}
 use Rattle.walk.proofs.any_back.Statement.{statement}
 use Rattle.walk.proofs.any_back.Tie as tie
 use Rattle.walk.proofs.any_back.Reads as reads

@@ -1,13 +1,10 @@
 -- `walk::goes_back` meets its contract. Assumes nothing.
-use Prim.Native.Nat.{ℕ, _≤_, _<_, _-_, _+_}
-use mathlib.Core.Path.{_≡_, refl, sym, ap, subst, _∙_}
+use Prim.Native.Nat.{ℕ, _-_, _+_}
+use mathlib.Core.Path.{_≡_, sym}
 use mathlib.Core.Logic.{⊎-elim}
-use mathlib.Core.Bool.{Bool, true, false}
+use mathlib.Core.Bool.{true, false}
 use native.Mathlib.Omega.{arith}
-use lib.ListN.{length, getD}
 use borrow.Author.Needs.{needs}
-use Rattle.walk.specs.Ready.{Graph, adjOf}
-use Rattle.walk.specs.Forest.{Back}
 use Rattle.walk.proofs.Cycle.{Seeking, seeking-none, seeking-step, seeking-done, found-back}
 use Rattle.walk.proofs.goes_back.Statement.{statement}
 use Rattle.walk.proofs.goes_back.Tie as tie

@@ -1,11 +1,11 @@
 -- `walk::reach_from` meets its contract. Assumes nothing.
-use Prim.Native.Nat.{ℕ, _≤_, _<_, _-_, _+_}
-use mathlib.Core.Path.{_≡_, refl, sym, ap, subst, _∙_}
+use Prim.Native.Nat.{ℕ, _≤_, _<_, _-_}
+use mathlib.Core.Path.{sym, subst}
 use mathlib.Core.List.{List}
 use native.Mathlib.Omega.{arith}
-use lib.ListN.{length, getD}
-use Rattle.walk.specs.Walk.{Stamps, fresh}
-use Rattle.walk.specs.Ready.{Graph, Columns, adjOf, stamps}
+use lib.ListN.{length}
+use Rattle.walk.specs.Walk.{fresh}
+use Rattle.walk.specs.Ready.{Graph, Columns, stamps}
 use Rattle.walk.proofs.Drive.{begun, fresh-le}
 use Rattle.walk.proofs.Cycle.{reached}
 use borrow.Author.Needs.{needs}

@@ -1,10 +1,8 @@
 -- `walk::start_at` meets its contract. Assumes nothing.
-use Prim.Native.Nat.{ℕ, _≤_, _<_, _-_, _+_}
-use mathlib.Core.Path.{_≡_, refl, sym, ap, subst, _∙_}
-use native.Mathlib.Omega.{arith}
-use lib.ListN.{length, getD, drop}
-use Rattle.walk.specs.Walk.{Stamps, edge, edges, starts, fresh}
-use Rattle.walk.specs.Ready.{Graph, Columns, adjOf, stamps}
+use Prim.Native.Nat.{_-_}
+use mathlib.Core.Path.{sym, _∙_}
+use Rattle.walk.specs.Walk.{starts}
+use Rattle.walk.specs.Ready.{adjOf, stamps}
 use Rattle.walk.proofs.Run.{edge-new, edge-old}
 use borrow.Author.Needs.{needs}
 use Rattle.walk.proofs.start_at.Statement.{statement}

@@ -1,14 +1,12 @@
 -- `walk::start_each` meets its contract. Assumes nothing.
 use Prim.Native.Nat.{ℕ, _≤_, _<_, _-_, _+_}
-use mathlib.Core.Path.{_≡_, refl, sym, ap, subst, _∙_}
+use mathlib.Core.Path.{sym, subst}
 use native.Mathlib.Omega.{arith}
-use native.Mathlib.Nat.{le-refl, le-trans}
 use lib.ListN.{length, getD, drop}
 use borrow.Author.Needs.{needs}
 use Rattle.base.proofs.Lists.{drop-step, drop-done}
-use Rattle.walk.specs.Walk.{Stamps, edge, edges, starts, fresh}
-use Rattle.walk.specs.Ready.{Graph, Columns, adjOf, stamps}
-use Rattle.walk.proofs.Drive.{Starting, starting-none, starting-as, starting-step, starting-done}
+use Rattle.walk.specs.Ready.{Graph, Columns, stamps}
+use Rattle.walk.proofs.Drive.{Starting, starting-as, starting-step, starting-done}
 use Rattle.walk.proofs.start_each.Statement.{statement}
 use Rattle.walk.proofs.start_each.Tie as tie
 use Rattle.walk.proofs.start_each.Reads as reads
