@@ -17,7 +17,7 @@ use Rattle.shape.specs.Entry.{entryOf}
 use Rattle.shape.specs.declared.Entry.{Entry}
 use Rattle.shape.specs.declared.Entry.the-variants.{No, Opens, Resumes}
 use Rattle.propagate.specs.Propagate.{Progress, going, settled, contradicted, onward, visited, changes, propagateClause, propagateVisit, propagateVisits, begin, replied, propagateFrom}
-use Rattle.propagate.proofs.Shaped.{tablesAt}
+use Rattle.propagate.proofs.Shaped.{tablesAt, begin-tables, replied-tables}
 use Rattle.merge.specs.Merge.{edgesOf, clashes, mergedClasses, mergeClause, mergeOpen}
 use Rattle.stamp.specs.Stamp.{stampOrdered}
 use Rattle.failed.specs.Failed.{failedFresh}
@@ -89,15 +89,6 @@ progress-many n zero made p = same (tablesAt p)
 progress-many n (suc m) made (going i changed t) = on (visit-many n i changed t) (progress-many n m (suc made) (propagateVisit n i changed t))
 progress-many n (suc m) made (settled t) = same t
 progress-many n (suc m) made (contradicted t) = same t
-
-replied-tables : (fresh : Bool) (before : List ℕ) (st : State) (m : ℕ) (p : Progress) → replied fresh before st m p .tables ≡ tablesAt p
-replied-tables fresh before st m (going i changed t) = refl
-replied-tables fresh before st m (settled t) = refl
-replied-tables fresh before st m (contradicted t) = refl
-
-begin-tables : (n : ℕ) (t : Tables) → tablesAt (begin n t) ≡ t
-begin-tables zero t = refl
-begin-tables (suc n) t = refl
 
 propagate-many : (fresh : Bool) (steps : ℕ) (t : Tables) (st : State) → AsMany t (propagateFrom fresh steps (begin (st .n) t) t st .tables)
 unfolding propagateFrom
