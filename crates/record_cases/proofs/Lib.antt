@@ -1,2 +1,2 @@
-pub mod First
 pub mod Lent
+pub mod Quiet

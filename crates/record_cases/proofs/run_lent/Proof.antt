@@ -26,9 +26,9 @@ use denote.RattleType.{owns}
 use denote.Laws.{Is, shows}
 use denote.Array.{array-vals, array-tells}
 use denote.Plain.{uint-vals, uint-tells}
-use denote.Builtin.{u8, u16, u32, i32, usize, SliceRefOf, ArrayOf}
+use denote.Builtin.{u16, u32, i32, usize, ArrayOf}
 use denote.Ref.{RefT}
-use denote.Slice.{sliceVal, MutSlice, ShrSlice, Room, finally, slice-vals, mut-slice-tells, shr-slice-tells}
+use denote.Slice.{sliceVal, MutSlice, Room, finally, slice-vals, mut-slice-tells}
 use denote.Signature.{plain}
 use denote.Steps.{nothing, owned, peeks}
 use denote.Struct.Laws as LL
@@ -53,7 +53,7 @@ use Rattle.calls.proofs.run as ca
 use Rattle.calls.proofs.run.Symbol as ca-def
 use Rattle.calls.proofs.run.Symbol.{name as #ca}
 use Rattle.calls.proofs.run.Met as ca-thm
-use Rattle.record_cases.proofs.First.{only-last, silently}
+use Rattle.record_cases.proofs.Quiet.{only-last, silently}
 use Rattle.record_cases.proofs.Lent.{R, Rs, mirRs, rows, Known, rows-lawful, lent, Lender, back, lends-records, records-back, made, is-made}
 use Rattle.record_cases.proofs.Recorded as D
 use Rattle.record_cases.proofs.Recorded.Laws as D′
