@@ -2,12 +2,15 @@
 use Prim.Native.Nat.{ℕ, _*_, _≤_, _<_}
 use native.Mathlib.Nat.{min-le-left, min-le-right}
 use native.Mathlib.Omega.{arith}
-use mathlib.Core.Path.{_≡_, refl, sym, subst}
+use mathlib.Core.Path.{_≡_, refl, sym, _∙_, subst}
 use mathlib.Core.Bool.{Bool, true, false}
 use mathlib.Core.List.{List}
 use lib.IntN.{ℤ}
-use lib.ListN.{length, take, length-take}
+use lib.ListN.{length, take, length-take, length-map}
 use lib.Seq.{take-all}
+use mir.Val.{Val}
+use denote.Laws.{Is}
+use denote.Struct.Laws as LL
 use Rattle.base.specs.Decide.{does-exact}
 use Rattle.state.specs.declared.State.{State}
 use Rattle.state.specs.declared.Refusal.the-variants.{Shape}
@@ -15,6 +18,8 @@ use Rattle.records.specs.declared.Columns.{Columns}
 use Rattle.records.specs.declared.StampRecord.{StampRecord}
 use Rattle.records.specs.Records.{timesOf, linksOf, heldTimes, heldLinks}
 use Rattle.records.proofs.Over.{length-pairs}
+use Rattle.records.proofs.Columns as K
+use Rattle.records.proofs.Columns.Laws as K′
 use Rattle.tables.specs.Tables.{Tables}
 use Rattle.tables.specs.Long.{long?, longOk}
 use Rattle.shape.specs.Decision.{shapeOk}
@@ -54,6 +59,12 @@ few-lent stamps few =
     omega (arith, few, length-pairs (λ (r : StampRecord). r .discovery) (λ (r : StampRecord). r .finish) (take 2048 stamps), length-take 2048 stamps, min-le-right 2048 (length stamps))
 
 -- ---- whole columns
+
+-- columns by value have all their places
+pub full : (c : Columns) (vs : List Val) → Is K.the-row c vs → (length (c .times) ≡ 4096) × (length (c .links) ≡ 4096)
+full c vs is =
+    let fields = LL.owed K.the-type K′.the-laws c vs is in
+    (sym (length-map (c .times) (λ (n : ℕ). n)) ∙ fields .0 .1 .0 .1, sym (length-map (c .links) (λ (z : ℤ). z)) ∙ fields .1 .0 .1 .0 .1)
 
 -- what is said of the arrays is said of what they hold
 pub whole : (c : Columns) → 2048 ≤ c .count → length (c .times) ≡ 4096 → length (c .links) ≡ 4096 → (P : List ℕ → List ℤ → Type 0) → P (c .times) (c .links) → P (heldTimes c) (heldLinks c)

@@ -1,4 +1,4 @@
--- A local array that is lent whole as a `&mut [T]` for a lifetime κ of a call, and comes back. It says nothing of the crate, and can be copied as it stands. n is a variable, so a proof that cites it does not unfold n elements.
+-- A local array that is lent whole as a `&mut [T]` for a lifetime κ of a call, and comes back. It says nothing of the crate. n is a variable, so a proof that cites it does not unfold n elements.
 --     is-repeat        `[v; n]`: n times x at n times its machine value
 --     lends-array      the local's cell, with the fact of its value  ⊢ ⇛ ∃ γ. own (the `&κ mut [T]` ((l, 0), γ, xs)) ∗ the lender's part
 --     shares-array, shared-back     the same of a `&[T]`
@@ -27,12 +27,12 @@ use denote.Laws.{Is, Tells, Makes, shows}
 use denote.Memory.{cellAt, partAt, partOf, mem, shares, lone}
 use denote.Array.{Array, each, arrayVal, array-vals, array-tells, array-makes}
 use denote.ArrayMemory.{Single, array-apart, array-whole}
-use denote.Ref.{RefT}
 use denote.Slice.{sliceVal, MutSlice, ShrSlice, Room, finally}
 use denote.Lend.{Held, lends-slice, slice-back, lends-shr-slice}
 use denote.Index.{row, whole-out, whole-in}
 use denote.Steps.{owned, facts}
 use denote.Struct.Steps.{spelt}
+use Rattle.records.proofs.Again.{at-list}
 
 abbrev pub only : List Val → Val
 only [] = vunit
@@ -50,20 +50,17 @@ module _ (R : RattleType) where
     abbrev τ : Ty
     τ = tyArray (lone (R .mir)) n
 
-    abbrev at-list : GName → List (R .Denot) → RefT (List (R .Denot))
-    at-list γ ys = record { ptr = (l, 0); name = γ; now = ys }
-
     pub lends-array : Makes 𝓤 H A R (Is R) → (ℓ : Lifetime) (xs : List (R .Denot)) (v : Val) → length xs ≡ n → Room R n → Is (Array R n) xs (v ∷ [])
-        → ent 𝓤 (H .at fullShare τ l 0 v) (H .⇛ (ex 𝓤 (λ (γ : GName). sep 𝓤 (sem 𝓤 H A (MutSlice ℓ κ R .own (at-list γ xs) (sliceVal (l, 0) n ∷ []))) (A .lent κ (Held R n l 0 γ)))))
+        → ent 𝓤 (H .at fullShare τ l 0 v) (H .⇛ (ex 𝓤 (λ (γ : GName). sep 𝓤 (sem 𝓤 H A (MutSlice ℓ κ R .own (at-list l 0 γ xs) (sliceVal (l, 0) n ∷ []))) (A .lent κ (Held R n l 0 γ)))))
     unfolding partOf
     lends-array mk ℓ xs v e room is =
         qed W (‵ (fat fullShare τ l 0 v) ∷ []) ∵ updating ! $ use1 W (‵ (cellAt fullShare (τ ∷ []) (v ∷ []) l 0)) (W .laws .at-raw fullShare τ l 0 v) $
         owned ! (Array R n) (Is (Array R n)) (array-makes 𝓤 H A W R mk n) xs (v ∷ []) is $ move ! (1 ∷ 0 ∷ []) $ fjoin ! $
         fpack ! (List Val) (λ vs. fsep (cellAt fullShare (τ ∷ []) vs l 0) (Array R n .own xs vs)) (v ∷ []) $
         use1 W (‵ (arr-parts (shares R) n .part fullShare xs l 0)) (array-apart 𝓤 H A W R fullShare single n xs l 0) $ fsplit ! $ drop ! $ use1 W (‵ (cells (mem R) xs l 0)) (whole-in 𝓤 H A W R xs l 0) $
-        use1 W (later (some (λ (γ : GName). ‵ (MutSlice ℓ κ R .own (at-list γ xs) (sliceVal (l, 0) (length xs) ∷ [])) ⊛ ‵ (flent κ (Held R (length xs) l 0 γ))))) (lends-slice 𝓤 H A W R ℓ κ xs l 0 (subst (Room R) (sym e) room)) $ await ! tt $ pick ! (λ γ. split ! $
-        rewrite ! 0 (λ (m : ℕ). ‵ (MutSlice ℓ κ R .own (at-list γ xs) (sliceVal (l, 0) m ∷ []))) e refl $ rewrite ! 1 (λ (m : ℕ). ‵ (flent κ (Held R m l 0 γ))) e refl $
-        at-once ! $ show ! (λ (γ : GName). sep 𝓤 (sem 𝓤 H A (MutSlice ℓ κ R .own (at-list γ xs) (sliceVal (l, 0) n ∷ []))) (A .lent κ (Held R n l 0 γ))) γ $ frame ! $ done !)
+        use1 W (later (some (λ (γ : GName). ‵ (MutSlice ℓ κ R .own (at-list l 0 γ xs) (sliceVal (l, 0) (length xs) ∷ [])) ⊛ ‵ (flent κ (Held R (length xs) l 0 γ))))) (lends-slice 𝓤 H A W R ℓ κ xs l 0 (subst (Room R) (sym e) room)) $ await ! tt $ pick ! (λ γ. split ! $
+        rewrite ! 0 (λ (m : ℕ). ‵ (MutSlice ℓ κ R .own (at-list l 0 γ xs) (sliceVal (l, 0) m ∷ []))) e refl $ rewrite ! 1 (λ (m : ℕ). ‵ (flent κ (Held R m l 0 γ))) e refl $
+        at-once ! $ show ! (λ (γ : GName). sep 𝓤 (sem 𝓤 H A (MutSlice ℓ κ R .own (at-list l 0 γ xs) (sliceVal (l, 0) n ∷ []))) (A .lent κ (Held R n l 0 γ))) γ $ frame ! $ done !)
 
     -- the machine value of a list
     abbrev pub one : List (R .Denot) → Val
@@ -81,7 +78,7 @@ module _ (R : RattleType) where
         use1 W (‵ (fat fullShare τ l 0 (one zs))) (W .laws .raw-at fullShare τ l 0 (one zs)) $ at-once ! $ check ! is $ done !))
 
     pub shares-array : Makes 𝓤 H A R (Is R) → (ℓ : Lifetime) (xs : List (R .Denot)) (v : Val) → length xs ≡ n → Room R n → Is (Array R n) xs (v ∷ [])
-        → ent 𝓤 (H .at fullShare τ l 0 v) (H .⇛ (ex 𝓤 (λ (γ : GName). sep 𝓤 (sem 𝓤 H A (ShrSlice ℓ κ R .own (at-list γ xs) (sliceVal (l, 0) n ∷ []))) (A .lent κ (arr-parts (shares R) n .part fullShare xs l 0)))))
+        → ent 𝓤 (H .at fullShare τ l 0 v) (H .⇛ (ex 𝓤 (λ (γ : GName). sep 𝓤 (sem 𝓤 H A (ShrSlice ℓ κ R .own (at-list l 0 γ xs) (sliceVal (l, 0) n ∷ []))) (A .lent κ (arr-parts (shares R) n .part fullShare xs l 0)))))
     unfolding partOf
     shares-array mk ℓ xs v e room is =
         qed W (‵ (fat fullShare τ l 0 v) ∷ []) ∵ updating ! $ use1 W (‵ (cellAt fullShare (τ ∷ []) (v ∷ []) l 0)) (W .laws .at-raw fullShare τ l 0 v) $
@@ -89,9 +86,9 @@ module _ (R : RattleType) where
         fpack ! (List Val) (λ vs. fsep (cellAt fullShare (τ ∷ []) vs l 0) (Array R n .own xs vs)) (v ∷ []) $
         use1 W (‵ (arr-parts (shares R) n .part fullShare xs l 0)) (array-apart 𝓤 H A W R fullShare single n xs l 0) $
         rewrite ! 0 (λ (m : ℕ). ‵ (arr-parts (shares R) m .part fullShare xs l 0)) (sym e) refl $
-        use1 W (later (some (λ (γ : GName). ‵ (ShrSlice ℓ κ R .own (at-list γ xs) (sliceVal (l, 0) (length xs) ∷ [])) ⊛ ‵ (flent κ (arr-parts (shares R) (length xs) .part fullShare xs l 0))))) (lends-shr-slice 𝓤 H A W R ℓ κ fullShare xs l 0 (subst (Room R) (sym e) room)) $ await ! tt $ pick ! (λ γ. split ! $
-        rewrite ! 0 (λ (m : ℕ). ‵ (ShrSlice ℓ κ R .own (at-list γ xs) (sliceVal (l, 0) m ∷ []))) e refl $ rewrite ! 1 (λ (m : ℕ). ‵ (flent κ (arr-parts (shares R) m .part fullShare xs l 0))) e refl $
-        at-once ! $ show ! (λ (γ : GName). sep 𝓤 (sem 𝓤 H A (ShrSlice ℓ κ R .own (at-list γ xs) (sliceVal (l, 0) n ∷ []))) (A .lent κ (arr-parts (shares R) n .part fullShare xs l 0))) γ $ frame ! $ done !)
+        use1 W (later (some (λ (γ : GName). ‵ (ShrSlice ℓ κ R .own (at-list l 0 γ xs) (sliceVal (l, 0) (length xs) ∷ [])) ⊛ ‵ (flent κ (arr-parts (shares R) (length xs) .part fullShare xs l 0))))) (lends-shr-slice 𝓤 H A W R ℓ κ fullShare xs l 0 (subst (Room R) (sym e) room)) $ await ! tt $ pick ! (λ γ. split ! $
+        rewrite ! 0 (λ (m : ℕ). ‵ (ShrSlice ℓ κ R .own (at-list l 0 γ xs) (sliceVal (l, 0) m ∷ []))) e refl $ rewrite ! 1 (λ (m : ℕ). ‵ (flent κ (arr-parts (shares R) m .part fullShare xs l 0))) e refl $
+        at-once ! $ show ! (λ (γ : GName). sep 𝓤 (sem 𝓤 H A (ShrSlice ℓ κ R .own (at-list l 0 γ xs) (sliceVal (l, 0) n ∷ []))) (A .lent κ (arr-parts (shares R) n .part fullShare xs l 0))) γ $ frame ! $ done !)
 
     pub shared-back : (zs : List (R .Denot)) → ent 𝓤 (sep 𝓤 (A .dead κ) (A .lent κ (arr-parts (shares R) n .part fullShare zs l 0))) (H .⇛ (guard 𝓤 (Is (Array R n) zs (one zs ∷ [])) (H .at fullShare τ l 0 (one zs))))
     unfolding partOf

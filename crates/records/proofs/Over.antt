@@ -47,6 +47,21 @@ module _ {A : Type 0} where
 pub two-more : (i : ℕ) → 2 * suc i ≡ suc (suc (2 * i))
 two-more i = omega arith
 
+-- two and one, in either order
+pub two-and-one : (n : ℕ) → suc (suc n) + 1 ≡ suc (suc (n + 1))
+two-and-one n = omega arith
+
+-- the place after a record's first number, in a list that is shorter by one record, and in a list too short for any
+pub fewer : (i n : ℕ) → 2 * suc i + 1 < suc (suc n) → 2 * i + 1 < n
+fewer i n h = omega arith
+
+pub too-few : (i n : ℕ) → 2 * i + 1 < n → n ≤ 1 → ⊥
+too-few i n h k = omega arith
+
+-- a list of one or none holds no record's numbers
+short-of-two : (i n : ℕ) → 2 * suc i ≤ n → n ≤ 1 → ⊥
+short-of-two i n h k = omega arith
+
 module _ {X : Type 0} (p q : StampRecord → X) where
   pub length-pairs : (rs : List StampRecord) → length (pairsIn p q rs) ≡ 2 * length rs
   unfolding pairsIn
@@ -54,25 +69,16 @@ module _ {X : Type 0} (p q : StampRecord → X) where
   length-pairs (r ∷ rs) = ap (λ (n : ℕ). suc (suc n)) (length-pairs rs) ∙ sym (two-more (length rs))
 
   put2-more : (a b : X) (l : List X) (i : ℕ) (x y : X) → put2 (a ∷ b ∷ l) (suc i) x y ≡ a ∷ b ∷ put2 l i x y
-  put2-more a b l i x y = ap (λ (n : ℕ). set (set (a ∷ b ∷ l) n x) (n + 1) y) (two-more i) ∙ ap (λ (n : ℕ). set (a ∷ b ∷ set l (2 * i) x) n y) plus
-    where
-      plus : suc (suc (2 * i)) + 1 ≡ suc (suc (2 * i + 1))
-      plus = omega arith
+  put2-more a b l i x y = ap (λ (n : ℕ). set (set (a ∷ b ∷ l) n x) (n + 1) y) (two-more i) ∙ ap (λ (n : ℕ). set (a ∷ b ∷ set l (2 * i) x) n y) (two-and-one (2 * i))
 
   pairs-more : (i : ℕ) (rs : List StampRecord) (l : List X) (d : StampRecord) → i < length rs → 2 * i + 1 < length l → over (pairsIn p q (take (suc i) rs)) l ≡ put2 (over (pairsIn p q (take i rs)) l) i (p (getD rs i d)) (q (getD rs i d))
   unfolding over pairsIn
   pairs-more zero (r ∷ rs) (a ∷ b ∷ l) d h k = refl
   pairs-more (suc i) (r ∷ rs) (a ∷ b ∷ l) d h k =
       ap (λ (m : List X). p r ∷ q r ∷ m) (pairs-more i rs l d (le-of-suc-le-suc h) (fewer i (length l) k)) ∙ sym (put2-more (p r) (q r) (over (pairsIn p q (take i rs)) l) i (p (getD rs i d)) (q (getD rs i d)))
-    where
-      fewer : (i n : ℕ) → 2 * suc i + 1 < suc (suc n) → 2 * i + 1 < n
-      fewer i n h = omega arith
   pairs-more i [] l d h k = absurd (not-suc-le-zero h)
   pairs-more i (r ∷ rs) [] d h k = absurd (not-suc-le-zero k)
-  pairs-more i (r ∷ rs) (a ∷ []) d h k = absurd (short i k)
-    where
-      short : (i : ℕ) → 2 * i + 1 < 1 → ⊥
-      short i h = omega arith
+  pairs-more i (r ∷ rs) (a ∷ []) d h k = absurd (too-few i 1 k (omega arith))
 
   pub pairs-next : (i : ℕ) (rs : List StampRecord) (l : List X) (d : StampRecord) → i < length rs → 2 * i + 1 < length l → over (pairsIn p q (take (i + 1) rs)) l ≡ put2 (over (pairsIn p q (take i rs)) l) i (p (getD rs i d)) (q (getD rs i d))
   pairs-next i rs l d h k = ap (λ (n : ℕ). over (pairsIn p q (take n rs)) l) (add-one i) ∙ pairs-more i rs l d h k
@@ -85,18 +91,12 @@ module _ {X : Type 0} (p q : StampRecord → X) where
   pub pairs-held : (rs : List StampRecord) (l : List X) → 2 * length rs ≤ length l → take (2 * length rs) (over (pairsIn p q rs) l) ≡ pairsIn p q rs
   unfolding over pairsIn
   pairs-held [] l h = refl
-  pairs-held (r ∷ rs) (a ∷ b ∷ l) h = ap (λ (n : ℕ). take n (p r ∷ q r ∷ over (pairsIn p q rs) l)) (two-more (length rs)) ∙ ap (λ (m : List X). p r ∷ q r ∷ m) (pairs-held rs l (fewer (length rs) (length l) h))
+  pairs-held (r ∷ rs) (a ∷ b ∷ l) h = ap (λ (n : ℕ). take n (p r ∷ q r ∷ over (pairsIn p q rs) l)) (two-more (length rs)) ∙ ap (λ (m : List X). p r ∷ q r ∷ m) (pairs-held rs l (without (length rs) (length l) h))
     where
-      fewer : (i n : ℕ) → 2 * suc i ≤ suc (suc n) → 2 * i ≤ n
-      fewer i n h = omega arith
-  pairs-held (r ∷ rs) [] h = absurd (short (length rs) 0 h (omega arith))
-    where
-      short : (i n : ℕ) → 2 * suc i ≤ n → n ≤ 1 → ⊥
-      short i n h k = omega arith
-  pairs-held (r ∷ rs) (a ∷ []) h = absurd (short (length rs) h)
-    where
-      short : (i : ℕ) → 2 * suc i ≤ 1 → ⊥
-      short i h = omega arith
+      without : (i n : ℕ) → 2 * suc i ≤ suc (suc n) → 2 * i ≤ n
+      without i n h = omega arith
+  pairs-held (r ∷ rs) [] h = absurd (short-of-two (length rs) 0 h (omega arith))
+  pairs-held (r ∷ rs) (a ∷ []) h = absurd (short-of-two (length rs) 1 h (omega arith))
 
   -- of a lent slice, the first 2,048 records are used, or all if there are fewer; the columns of those hold the slice's columns
   pub pairs-lent : (k : ℕ) (rs : List StampRecord) (l : List X) → k ≡ min 2048 (length rs) → 4096 ≤ length l → take (2 * k) (over (pairsIn p q (take k rs)) l) ≡ pairsIn p q (take 2048 rs)

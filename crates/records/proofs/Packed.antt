@@ -8,37 +8,28 @@ use lib.IntN.{ℤ, pos}
 use lib.ListN.{length, getD, set, take, drop}
 use Rattle.records.specs.declared.StampRecord.{StampRecord}
 use Rattle.records.specs.Records.{noStamp, stampRecord, pairsIn, timesIn, linksIn, recordsIn, over, packed, recordAt, timesOf, linksOf}
-use Rattle.records.proofs.Over.{over-next, over-own, two-more}
+use Rattle.records.proofs.Over.{over-next, over-own, two-more, two-and-one, fewer, too-few}
 
 -- both columns reach past record i
 abbrev Past : ℕ → List ℕ → List ℤ → Type 0
 Past i ts ls = (2 * i + 1 < length ts) × (2 * i + 1 < length ls)
 
-less : (i n : ℕ) → 2 * suc i + 1 < suc (suc n) → 2 * i + 1 < n
-less i n h = omega arith
-
-few : (i n : ℕ) → 2 * i + 1 < n → n ≤ 1 → ⊥
-few i n h k = omega arith
-
 -- the record at the next place of longer columns
 record-more : (d f : ℕ) (ts : List ℕ) (p s : ℤ) (ls : List ℤ) (i : ℕ) → recordAt ts ls i ≡ recordAt (d ∷ f ∷ ts) (p ∷ s ∷ ls) (suc i)
 record-more d f ts p s ls i =
-    ap (λ (n : ℕ). stampRecord (getD ts (2 * i) 0) (getD (d ∷ f ∷ ts) n 0) (getD ls (2 * i) (pos 0)) (getD (p ∷ s ∷ ls) n (pos 0))) (sym plus)
+    ap (λ (n : ℕ). stampRecord (getD ts (2 * i) 0) (getD (d ∷ f ∷ ts) n 0) (getD ls (2 * i) (pos 0)) (getD (p ∷ s ∷ ls) n (pos 0))) (sym (two-and-one (2 * i)))
     ∙ ap (λ (n : ℕ). stampRecord (getD (d ∷ f ∷ ts) n 0) (getD (d ∷ f ∷ ts) (n + 1) 0) (getD (p ∷ s ∷ ls) n (pos 0)) (getD (p ∷ s ∷ ls) (n + 1) (pos 0))) (sym (two-more i))
-  where
-    plus : suc (suc (2 * i)) + 1 ≡ suc (suc (2 * i + 1))
-    plus = omega arith
 
 pub records-at : (i : ℕ) (ts : List ℕ) (ls : List ℤ) → Past i ts ls → (i < length (recordsIn ts ls)) × (getD (recordsIn ts ls) i noStamp ≡ recordAt ts ls i)
 unfolding recordsIn
 records-at zero (d ∷ f ∷ ts) (p ∷ s ∷ ls) h = (omega arith, refl)
 records-at (suc i) (d ∷ f ∷ ts) (p ∷ s ∷ ls) h =
-    let below = records-at i ts ls (less i (length ts) (h .0), less i (length ls) (h .1)) in
+    let below = records-at i ts ls (fewer i (length ts) (h .0), fewer i (length ls) (h .1)) in
     (omega (arith, below .0), below .1 ∙ record-more d f ts p s ls i)
 records-at i [] ls h = absurd (not-suc-le-zero (h .0))
-records-at i (d ∷ []) ls h = absurd (few i 1 (h .0) (omega arith))
+records-at i (d ∷ []) ls h = absurd (too-few i 1 (h .0) (omega arith))
 records-at i (d ∷ f ∷ ts) [] h = absurd (not-suc-le-zero (h .1))
-records-at i (d ∷ f ∷ ts) (p ∷ []) h = absurd (few i 1 (h .1) (omega arith))
+records-at i (d ∷ f ∷ ts) (p ∷ []) h = absurd (too-few i 1 (h .1) (omega arith))
 
 -- one turn more of `pack`
 pub pack-next : (i : ℕ) (ts : List ℕ) (ls : List ℤ) (rs : List StampRecord) → Past i ts ls → i < length rs → over (take (i + 1) (recordsIn ts ls)) rs ≡ set (over (take i (recordsIn ts ls)) rs) i (recordAt ts ls i)
@@ -77,11 +68,11 @@ pub columns-records : (k : ℕ) (ts : List ℕ) (ls : List ℤ) → length ts �
 unfolding recordsIn pairsIn
 columns-records zero [] [] h g = (refl, refl, refl)
 columns-records (suc k) (d ∷ f ∷ ts) (p ∷ s ∷ ls) h g =
-    let below = columns-records k ts ls (fewer (length ts) h) (fewer (length ls) g) in
+    let below = columns-records k ts ls (without (length ts) h) (without (length ls) g) in
     (ap (λ (l : List ℕ). d ∷ f ∷ l) (below .0), ap (λ (l : List ℤ). p ∷ s ∷ l) (below .1), ap suc (below .2))
   where
-    fewer : (n : ℕ) → suc (suc n) ≡ 2 * suc k → n ≡ 2 * k
-    fewer n h = omega arith
+    without : (n : ℕ) → suc (suc n) ≡ 2 * suc k → n ≡ 2 * k
+    without n h = omega arith
 columns-records zero (d ∷ ts) ls h g = absurd (none (length ts) h)
 columns-records zero [] (p ∷ ls) h g = absurd (none (length ls) g)
 columns-records (suc k) [] ls h g = absurd (some k 0 h (omega arith))

@@ -7,7 +7,7 @@ use Rattle.tables.specs.Tables.{tables}
 use Rattle.tables.specs.Calls.{after}
 use Rattle.failed.specs.Failed.{failedCall}
 use Rattle.calls.specs.Calls.{held}
-use Rattle.calls.proofs.Short.{few-held, whole}
+use Rattle.calls.proofs.Short.{few-held, full, whole}
 use Rattle.calls.proofs.Refused.{failed-short}
 use borrow.Author.Needs.{needs}
 use Rattle.calls.proofs.failed_columns.Statement.{statement}
@@ -29,10 +29,10 @@ failed-requires : tie.Need-failed-requires
 failed-requires c κs = search needs
 
 same-length : tie.Need-same-length
-same-length c = search needs
+same-length c = c .before .failed .kept .1 .1 .0
 
 returns-2 : tie.Need-returns-2
-returns-2 c = let a = c .before .before .before .before .before .before .before .before .before .before .args in whole (a .c) (c .before .before .before .before .before .before .before .if1 .left) (search needs) (search needs) (λ (ts : List ℕ) (ls : List ℤ). after (c .before .failed .result) (tables (a .clauses .now) (a .literals .now) (c .before .failed .last .1 .1 .0) ts ls) ≡ failedCall (tables (a .clauses .now) (a .literals .now) (a .variables .now) ts ls) (a .st)) (c .before .failed .ensures)
+returns-2 c = let s = c .before .before .before .before .before .before .before .before .before .before in let a = s .args in whole (a .c) (c .before .before .before .before .before .before .before .if1 .left) (full (a .c) _ (s .good .1 .1 .1 .0) .0) (full (a .c) _ (s .good .1 .1 .1 .0) .1) (λ (ts : List ℕ) (ls : List ℤ). after (c .before .failed .result) (tables (a .clauses .now) (a .literals .now) (c .before .failed .last .1 .1 .0) ts ls) ≡ failedCall (tables (a .clauses .now) (a .literals .now) (a .variables .now) ts ls) (a .st)) (c .before .failed .ensures)
 
 pub failed-columns-spec : {M : Type 1} → statement M
 failed-columns-spec =

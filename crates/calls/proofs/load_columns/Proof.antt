@@ -7,7 +7,7 @@ use Rattle.tables.specs.Tables.{tables}
 use Rattle.tables.specs.Calls.{after}
 use Rattle.load.specs.Load.{loadCall}
 use Rattle.calls.specs.Calls.{held}
-use Rattle.calls.proofs.Short.{few-held, whole}
+use Rattle.calls.proofs.Short.{few-held, full, whole}
 use Rattle.calls.proofs.Refused.{load-short}
 use borrow.Author.Needs.{needs}
 use Rattle.calls.proofs.load_columns.Statement.{statement}
@@ -29,16 +29,16 @@ load-requires : tie.Need-load-requires
 load-requires c κs = search needs
 
 same-length : tie.Need-same-length
-same-length c = search needs
+same-length c = c .before .before .before .before .load .kept .1 .0
 
 same-length-2 : tie.Need-same-length-2
-same-length-2 c = search needs
+same-length-2 c = c .before .before .before .before .load .kept .1 .1 .0
 
 same-length-3 : tie.Need-same-length-3
-same-length-3 c = search needs
+same-length-3 c = c .before .before .before .before .load .kept .1 .1 .1 .0
 
 returns-2 : tie.Need-returns-2
-returns-2 c = let a = c .before .before .before .before .before .before .before .before .before .before .before .before .before .before .before .before .args in whole (a .c) (c .before .before .before .before .before .before .before .before .before .before .before .before .if1 .left) (search (needs, c .before .before .before .before .before .before .before .before .before .before .before .before .before .before .before .before .good .1 .1 .1 .1 .0)) (search (needs, c .before .before .before .before .before .before .before .before .before .before .before .before .before .before .before .before .good .1 .1 .1 .1 .0)) (λ (ts : List ℕ) (ls : List ℤ). after (c .before .before .before .before .load .result) (tables (c .before .before .before .before .load .last .1 .0) (c .before .before .before .before .load .last .1 .1 .0) (c .before .before .before .before .load .last .1 .1 .1 .0) ts ls) ≡ loadCall (a .text .now) (tables (a .clauses .now) (a .literals .now) (a .variables .now) ts ls) (a .st)) (c .before .before .before .before .load .ensures)
+returns-2 c = let s = c .before .before .before .before .before .before .before .before .before .before .before .before .before .before .before .before in let a = s .args in whole (a .c) (c .before .before .before .before .before .before .before .before .before .before .before .before .if1 .left) (full (a .c) _ (s .good .1 .1 .1 .1 .0) .0) (full (a .c) _ (s .good .1 .1 .1 .1 .0) .1) (λ (ts : List ℕ) (ls : List ℤ). after (c .before .before .before .before .load .result) (tables (c .before .before .before .before .load .last .1 .0) (c .before .before .before .before .load .last .1 .1 .0) (c .before .before .before .before .load .last .1 .1 .1 .0) ts ls) ≡ loadCall (a .text .now) (tables (a .clauses .now) (a .literals .now) (a .variables .now) ts ls) (a .st)) (c .before .before .before .before .load .ensures)
 
 pub load-columns-spec : {M : Type 1} → statement M
 load-columns-spec =

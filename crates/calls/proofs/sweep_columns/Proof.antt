@@ -7,7 +7,7 @@ use Rattle.tables.specs.Tables.{tables}
 use Rattle.tables.specs.Calls.{after}
 use Rattle.sweep.specs.Sweep.{sweepCall}
 use Rattle.calls.specs.Calls.{held}
-use Rattle.calls.proofs.Short.{few-held, whole}
+use Rattle.calls.proofs.Short.{few-held, full, whole}
 use Rattle.calls.proofs.Refused.{sweep-short}
 use borrow.Author.Needs.{needs}
 use Rattle.calls.proofs.sweep_columns.Statement.{statement}
@@ -29,13 +29,13 @@ sweep-requires : tie.Need-sweep-requires
 sweep-requires c κs = search needs
 
 same-length : tie.Need-same-length
-same-length c = search needs
+same-length c = c .before .before .before .sweep .kept .0
 
 same-length-2 : tie.Need-same-length-2
-same-length-2 c = search needs
+same-length-2 c = c .before .before .before .sweep .kept .1 .0
 
 returns-2 : tie.Need-returns-2
-returns-2 c = let s = c .before .before .before .before .before .before .before .before .before .before .before .before .before in whole (s .args .c) (c .before .before .before .before .before .before .before .before .before .before .if1 .left) (search needs) (search needs) (λ (ts : List ℕ) (ls : List ℤ). after (c .before .before .before .sweep .result) (tables (c .before .before .before .sweep .last .0) (c .before .before .before .sweep .last .1 .0) (s .args .variables .now) ts ls) ≡ sweepCall (s .args .n) (tables (s .args .clauses .now) (s .args .literals .now) (s .args .variables .now) ts ls) (s .args .st)) (c .before .before .before .sweep .ensures)
+returns-2 c = let s = c .before .before .before .before .before .before .before .before .before .before .before .before .before in whole (s .args .c) (c .before .before .before .before .before .before .before .before .before .before .if1 .left) (full (s .args .c) _ (s .good .1 .1 .1 .0) .0) (full (s .args .c) _ (s .good .1 .1 .1 .0) .1) (λ (ts : List ℕ) (ls : List ℤ). after (c .before .before .before .sweep .result) (tables (c .before .before .before .sweep .last .0) (c .before .before .before .sweep .last .1 .0) (s .args .variables .now) ts ls) ≡ sweepCall (s .args .n) (tables (s .args .clauses .now) (s .args .literals .now) (s .args .variables .now) ts ls) (s .args .st)) (c .before .before .before .sweep .ensures)
 
 pub sweep-columns-spec : {M : Type 1} → statement M
 sweep-columns-spec =

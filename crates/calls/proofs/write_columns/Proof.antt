@@ -6,7 +6,7 @@ use lib.IntN.{ℤ}
 use Rattle.tables.specs.Tables.{tables}
 use Rattle.write.specs.Write.{afterWrite, writeCall}
 use Rattle.calls.specs.Calls.{held}
-use Rattle.calls.proofs.Short.{few-held, whole}
+use Rattle.calls.proofs.Short.{few-held, full, whole}
 use Rattle.calls.proofs.Refused.{write-short}
 use borrow.Author.Needs.{needs}
 use Rattle.calls.proofs.write_columns.Statement.{statement}
@@ -25,10 +25,10 @@ write-requires : tie.Need-write-requires
 write-requires c κs = search needs
 
 same-length : tie.Need-same-length
-same-length c = search needs
+same-length c = c .before .before .write .kept .1 .1 .1 .1 .1 .1 .0
 
 returns-2 : tie.Need-returns-2
-returns-2 c = let a = c .before .before .before .before .before .before .before .before .before .before .before .before .args in whole (a .c) (c .before .before .before .before .before .before .before .before .if1 .left) (search needs) (search needs) (λ (ts : List ℕ) (ls : List ℤ). afterWrite (c .before .before .write .result) (c .before .before .write .last .1 .1 .1 .1 .1 .1 .0) ≡ writeCall (tables (a .clauses .now) (a .literals .now) (a .variables .now) ts ls) (a .st) (a .out .now)) (c .before .before .write .ensures)
+returns-2 c = let s = c .before .before .before .before .before .before .before .before .before .before .before .before in let a = s .args in whole (a .c) (c .before .before .before .before .before .before .before .before .if1 .left) (full (a .c) _ (s .good .1 .1 .1 .0) .0) (full (a .c) _ (s .good .1 .1 .1 .0) .1) (λ (ts : List ℕ) (ls : List ℤ). afterWrite (c .before .before .write .result) (c .before .before .write .last .1 .1 .1 .1 .1 .1 .0) ≡ writeCall (tables (a .clauses .now) (a .literals .now) (a .variables .now) ts ls) (a .st) (a .out .now)) (c .before .before .write .ensures)
 
 pub write-columns-spec : {M : Type 1} → statement M
 write-columns-spec =
