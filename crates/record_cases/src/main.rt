@@ -1,6 +1,6 @@
-// The calls over stamp records, run on the code: P2 stamped and swept, P6 in a run, each with one record more than stated; and every call with one record less.
+// Stamp and Sweep over stamp records, run on the code: P2 stamped and swept with one record more than stated, and with one less.
 // All records are filled with 7s before, so that those that stayed are seen. The records are passed by value, with the number of them that is lent:
-// only the functions `.._lent` make a loan of records, and each of them makes one call.
+// only `stamp_lent` and `sweep_lent` make a loan of records, and each of them makes one call.
 ghost use Prim.Native.Nat.{_≤_};
 use records::StampRecord;
 use reporting::end_line;
@@ -8,71 +8,14 @@ use reporting::print;
 use reporting::print_answer;
 use state::Answer;
 use state::Outcome;
-use state::Pass;
 use state::State;
 
-// ---- each call, with the first records lent
+// ---- the calls, with the first records lent
 
-// What Stamp and Run leave: all records, and the outcome.
+// What Stamp leaves: all records, and the outcome.
 struct Recorded {
     records: [StampRecord; 2049],
     outcome: Outcome,
-}
-
-fn load_lent(
-    text: &[u8],
-    clauses: &mut [u32],
-    literals: &mut [i32],
-    variables: &mut [i32],
-    records: [StampRecord; 2049],
-    lent: usize,
-    st: State,
-) -> Outcome
-    requires { ⌜ lent ≤ 2049 ⌝ }
-{
-    calls::load(text, clauses, literals, variables, &records[..lent], st)
-}
-
-fn write_lent(
-    clauses: &[u32],
-    literals: &[i32],
-    variables: &[i32],
-    records: [StampRecord; 2049],
-    lent: usize,
-    st: State,
-    out: &mut [u8],
-) -> Answer
-    requires { ⌜ lent ≤ 2049 ⌝ }
-{
-    calls::write(clauses, literals, variables, &records[..lent], st, out)
-}
-
-fn propagate_lent(
-    clauses: &mut [u32],
-    literals: &mut [i32],
-    variables: &mut [i32],
-    records: [StampRecord; 2049],
-    lent: usize,
-    st: State,
-    n: u16,
-) -> Outcome
-    requires { ⌜ lent ≤ 2049 ⌝ }
-{
-    calls::propagate(clauses, literals, variables, &records[..lent], st, n)
-}
-
-fn merge_lent(
-    clauses: &mut [u32],
-    literals: &mut [i32],
-    variables: &mut [i32],
-    records: [StampRecord; 2049],
-    lent: usize,
-    st: State,
-    n: u16,
-) -> Outcome
-    requires { ⌜ lent ≤ 2049 ⌝ }
-{
-    calls::merge(clauses, literals, variables, &records[..lent], st, n)
 }
 
 fn stamp_lent(
@@ -98,19 +41,6 @@ fn stamp_lent(
     Recorded { records, outcome }
 }
 
-fn failed_lent(
-    clauses: &[u32],
-    literals: &[i32],
-    variables: &mut [i32],
-    records: [StampRecord; 2049],
-    lent: usize,
-    st: State,
-) -> Outcome
-    requires { ⌜ lent ≤ 2049 ⌝ }
-{
-    calls::failed(clauses, literals, variables, &records[..lent], st)
-}
-
 fn sweep_lent(
     clauses: &mut [u32],
     literals: &mut [i32],
@@ -123,22 +53,6 @@ fn sweep_lent(
     requires { ⌜ lent ≤ 2049 ⌝ }
 {
     calls::sweep(clauses, literals, variables, &records[..lent], st, n)
-}
-
-fn run_lent(
-    clauses: &mut [u32],
-    literals: &mut [i32],
-    variables: &mut [i32],
-    records: [StampRecord; 2049],
-    lent: usize,
-    st: State,
-    n: u16,
-) -> Recorded
-    requires { ⌜ lent ≤ 2049 ⌝ }
-{
-    let mut records = records;
-    let outcome = calls::run(clauses, literals, variables, &mut records[..lent], st, n);
-    Recorded { records, outcome }
 }
 
 // ---- what is printed
@@ -189,17 +103,7 @@ fn print_written(answer: Answer, out: &[u8]) {
     }
 }
 
-// ---- the cases
-
-fn empty_state() -> State {
-    State {
-        v: 0,
-        n: 0,
-        pass: Pass::Idle,
-        fresh: false,
-        mark: false,
-    }
-}
+// ---- the case
 
 fn filled() -> [StampRecord; 2049] {
     let r = StampRecord {
@@ -209,19 +113,6 @@ fn filled() -> [StampRecord; 2049] {
         start: 7,
     };
     [r; 2049]
-}
-
-fn load_reported(
-    text: &[u8],
-    lent: usize,
-    clauses: &mut [u32],
-    literals: &mut [i32],
-    variables: &mut [i32],
-) -> State
-    requires { ⌜ lent ≤ 2049 ⌝ }
-{
-    let empty = empty_state();
-    report(load_lent(text, clauses, literals, variables, filled(), lent, empty))
 }
 
 // Stamp, whose records are printed.
@@ -243,148 +134,76 @@ fn stamp_reported(
     stamped
 }
 
-// Run of one round, whose records are printed.
-fn run_reported(
-    lent: usize,
-    clauses: &mut [u32],
-    literals: &mut [i32],
-    variables: &mut [i32],
-    st: State,
-) -> Recorded
-    requires { ⌜ lent ≤ 2049 ⌝ }
-{
-    let ran = run_lent(clauses, literals, variables, filled(), lent, st, 1);
-    let outcome = ran.outcome;
-    report(outcome);
-    let records = ran.records;
-    print_records(records);
-    ran
-}
-
-fn write_printed(
-    records: [StampRecord; 2049],
-    lent: usize,
-    clauses: &[u32],
-    literals: &[i32],
-    variables: &[i32],
-    st: State,
-    out: &mut [u8],
-)
-    requires { ⌜ lent ≤ 2049 ⌝ }
-{
-    let written = write_lent(clauses, literals, variables, records, lent, st, out);
-    print_written(written, out);
-}
-
-// Failed and the whole of Sweep.
-fn use_stamps(
-    records: [StampRecord; 2049],
-    lent: usize,
-    clauses: &mut [u32],
-    literals: &mut [i32],
-    variables: &mut [i32],
-    st: State,
-) -> State
-    requires { ⌜ lent ≤ 2049 ⌝ }
-{
-    let tried = report(failed_lent(clauses, literals, variables, records, lent, st));
-    report(sweep_lent(clauses, literals, variables, records, lent, tried, 65535))
-}
-
-// The whole of Propagate and of Merge.
-fn settle_again(
-    records: [StampRecord; 2049],
-    lent: usize,
-    clauses: &mut [u32],
-    literals: &mut [i32],
-    variables: &mut [i32],
-    st: State,
-) -> State
-    requires { ⌜ lent ≤ 2049 ⌝ }
-{
-    let propagated = report(propagate_lent(clauses, literals, variables, records, lent, st, 65535));
-    report(merge_lent(
-        clauses,
-        literals,
-        variables,
-        records,
-        lent,
-        propagated,
-        65535,
-    ))
-}
-
-// Stamp, Failed, Sweep and Write.
-fn stamp_case(
+// Stamp and the whole of Sweep.
+fn simplify(
     order: &[i32],
     lent: usize,
     clauses: &mut [u32],
     literals: &mut [i32],
-    variables: &mut [i32],
+    variables: &[i32],
     st: State,
-    out: &mut [u8],
-)
+) -> State
     requires { ⌜ lent ≤ 2049 ⌝ }
 {
     let stamped = stamp_reported(order, lent, clauses, literals, variables, st);
     let records = stamped.records;
     let outcome = stamped.outcome;
-    let swept = use_stamps(records, lent, clauses, literals, variables, outcome.state);
-    write_printed(records, lent, clauses, literals, variables, swept, out);
+    report(sweep_lent(
+        clauses,
+        literals,
+        variables,
+        records,
+        lent,
+        outcome.state,
+        65535,
+    ))
 }
 
-// Run, Propagate, Merge and Write.
-fn run_case(
-    lent: usize,
-    clauses: &mut [u32],
-    literals: &mut [i32],
-    variables: &mut [i32],
-    st: State,
-    out: &mut [u8],
-)
-    requires { ⌜ lent ≤ 2049 ⌝ }
-{
-    let ran = run_reported(lent, clauses, literals, variables, st);
-    let records = ran.records;
-    let outcome = ran.outcome;
-    let settled = settle_again(records, lent, clauses, literals, variables, outcome.state);
-    write_printed(records, lent, clauses, literals, variables, settled, out);
-}
-
-fn p2(lent: usize, clauses: &mut [u32], literals: &mut [i32], variables: &mut [i32], out: &mut [u8])
-    requires { ⌜ lent ≤ 2049 ⌝ }
-{
-    print(b"P2\n");
-    let text = b"p cnf 4 3\n-1 2 0\n-2 3 0\n1 3 4 0\n";
-    let order: [i32; 8] = [1, -1, 2, -2, 3, -3, 4, -4];
-    let loaded = load_reported(text, lent, clauses, literals, variables);
-    stamp_case(&order, lent, clauses, literals, variables, loaded, out);
-}
-
-fn p6(lent: usize, clauses: &mut [u32], literals: &mut [i32], variables: &mut [i32], out: &mut [u8])
-    requires { ⌜ lent ≤ 2049 ⌝ }
-{
-    print(b"P6\n");
-    let text = b"p cnf 2 2\n-1 2 0\n-1 -2 0\n";
-    let loaded = load_reported(text, lent, clauses, literals, variables);
-    run_case(lent, clauses, literals, variables, loaded, out);
-}
-
-// Both cases, on tables of the stated sizes but for the stamp records.
-fn cases(name: &[u8], lent: usize)
+// P2 with so many records lent. Load and Write do not look at stamps that are spent: they get columns of 0.
+fn case(name: &[u8], lent: usize)
     requires { ⌜ lent ≤ 2049 ⌝ }
 {
     let mut clauses: [u32; 12288] = [0; 12288];
     let mut literals: [i32; 16384] = [0; 16384];
     let mut variables: [i32; 2048] = [0; 2048];
+    let times: [u32; 4096] = [0; 4096];
+    let links: [i32; 4096] = [0; 4096];
     let mut out = [b'.'; 256];
+    let text = b"p cnf 4 3\n-1 2 0\n-2 3 0\n1 3 4 0\n";
+    let order: [i32; 8] = [1, -1, 2, -2, 3, -3, 4, -4];
     print(name);
     end_line();
-    p2(lent, &mut clauses, &mut literals, &mut variables, &mut out);
-    p6(lent, &mut clauses, &mut literals, &mut variables, &mut out);
+    let empty = tables::empty_state();
+    let loaded = report(load::load(
+        text,
+        &mut clauses,
+        &mut literals,
+        &mut variables,
+        &times,
+        &links,
+        empty,
+    ));
+    let swept = simplify(
+        &order,
+        lent,
+        &mut clauses,
+        &mut literals,
+        &variables,
+        loaded,
+    );
+    let written = write::write(
+        &clauses,
+        &literals,
+        &variables,
+        &times,
+        &links,
+        swept,
+        &mut out,
+    );
+    print_written(written, &out);
 }
 
 fn main() {
-    cases(b"2,049 records", 2049);
-    cases(b"2,047 records", 2047);
+    case(b"2,049 records", 2049);
+    case(b"2,047 records", 2047);
 }
