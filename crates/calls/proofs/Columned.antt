@@ -50,7 +50,7 @@ module _ {M : Type 1} (𝓤 : URA M) (H : Heap 𝓤) (A : Atoms 𝓤) (W : Given
   pub asks-co : ent 𝓤 (onEntry 𝓤 H A co.signature (κ, tt) (q, tt) (r, tt) (v ∷ [], tt)) (Co 𝓤 H A mem run .pre to-co)
   asks-co = qed W ((‵ (flft κ q) ⊛ ‵ ftrue) ∷ ‵ (owns (ShrSlice (named 0) κ R ∷ []) (r, tt) (v ∷ [], tt)) ∷ []) ∵ join ! $ frame ! $ done !
 
-  pub says-co : (c : Columns) → ent 𝓤 (ensured 𝓤 H A co.ended (co.clauses 𝓤 H A mem run) (κ, tt) (r, tt) tt c) (fact 𝓤 (Columned (r .now) c))
+  says-co : (c : Columns) → ent 𝓤 (ensured 𝓤 H A co.ended (co.clauses 𝓤 H A mem run) (κ, tt) (r, tt) tt c) (fact 𝓤 (Columned (r .now) c))
   says-co c = exE 𝓤 _ (λ ws. snd∗ 𝓤 (sem 𝓤 H A (lasts co.ended (κ, tt) (r, tt) ws)) (fact 𝓤 (Columned (r .now) c)))
 
   -- so that of what the callee gives back only the columns, with what is known of them, and the token are left
