@@ -1,6 +1,7 @@
 -- The stamps that Stamp's walk leaves are fresh: the walk's forest, slot by slot, is what the scan of the shape rule asks of a slot that is entered and left.
 --     stamped-fresh   records that hold the columns of a walk's stamps are fresh stamps
 --     records-fresh   so are those of `stampedTables`
+--     entries-below   every parent and every start in the columns is a slot
 -- Assumes nothing.
 use Prim.Native.Nat.{ℕ, zero, suc, _+_, _*_, _/_, _-_, _≤_, _<_}
 use native.Mathlib.Omega.{arith}
@@ -18,13 +19,13 @@ use Rattle.stamps.proofs.Local.{Around, Under, Entered, Left, fresh-from}
 use Rattle.walk.specs.Walk.{Stamps}
 use Rattle.walk.specs.Forest.{dis, fin, par, top, Holds, Parted, Forest, Top}
 use Rattle.walk.proofs.Run.{Less}
-use Rattle.walk.proofs.Theorems.{Stamped, times-apart, entered-below}
+use Rattle.walk.proofs.Theorems.{Stamped, times-apart, entered-below, links-below}
 use Rattle.graph.specs.Clauses.{implications}
 use Rattle.groups.specs.Groups.{blank}
 use Rattle.tables.specs.Tables.{Tables}
 use Rattle.tables.specs.Clauses.{slotsFrom}
 use Rattle.pairs.proofs.Listing.{slots-in}
-use Rattle.stamping.specs.Stamping.{Proper}
+use Rattle.stamping.specs.Stamping.{Holding, Proper}
 use Rattle.stamping.proofs.Copying.{many-records}
 use Rattle.stamp.specs.Stamp.{stampsOf, stampedTables}
 use Rattle.stamp.specs.Asking.{Full}
@@ -200,6 +201,17 @@ module _ {v n : ℕ} {cs : List ℕ} {ls : List ℤ} {order : List ℤ} (P : Pro
   pub top-size : length (σ .start) ≡ 2 * v
   top-size = less .starts ∙ length-replicate (2 * v) 0
 
+  stamped : Stamped (implications clauses) (2 * v) σ
+  stamped = stamps-stamped clauses v (slots-in (P .listed)) slots (full-lists F)
+
+  -- every link that the walk leaves is a slot
+  pub entries-below : {d′ f′ p′ s′ : List ℕ} → Holding σ d′ f′ p′ s′ → (q : ℕ) → q < 2 * v → (getD p′ q 0 < 2048) × (getD s′ q 0 < 2048)
+  entries-below H q lt =
+      let k = links-below (implications clauses) (2 * v) σ stamped disc-size q lt in (
+        omega (arith, k .0, P .listed .few, ap (λ (l : List ℕ). getD l q 0) (H .pars)),
+        omega (arith, k .1, P .listed .few, ap (λ (l : List ℕ). getD l q 0) (H .tops)),
+      )
+
   module _ (t : Tables) where
     abbrev t′ : Tables
     t′ = stampedTables v σ t
@@ -221,7 +233,7 @@ module _ {v n : ℕ} {cs : List ℕ} {ls : List ℤ} {order : List ℤ} (P : Pro
         }
 
     pub records-fresh : FreshStamps v (t′ .times) (t′ .links)
-    records-fresh = stamped-fresh v (implications clauses) σ (t′ .times) (t′ .links) (stamps-stamped clauses v (slots-in (P .listed)) slots (full-lists F)) disc-size laid
+    records-fresh = stamped-fresh v (implications clauses) σ (t′ .times) (t′ .links) stamped disc-size laid
 
     -- no table changes its length
     pub times-long : 4 * v ≤ length (t .times) → length (t′ .times) ≡ length (t .times)

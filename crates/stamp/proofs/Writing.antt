@@ -1,7 +1,7 @@
--- What is written: the columns that the walk leaves have a slot in every link, and the records made of them are the definition's. Assumes nothing.
-use Prim.Native.Nat.{ℕ, _+_, _*_, _≤_, _<_}
+-- What is written: the walk from blank columns is the definition's, and so are the records made of the columns that it leaves. Assumes nothing.
+use Prim.Native.Nat.{ℕ, _+_, _*_, _≤_}
 use native.Mathlib.Omega.{arith}
-use mathlib.Core.Path.{_≡_, sym, ap, subst, _∙_}
+use mathlib.Core.Path.{_≡_, ap, subst, _∙_}
 use mathlib.Core.List.{List, _++_, map}
 use lib.ListN.{length, getD, take, drop, replicate, length-replicate, length-map}
 use lib.IntN.{ℤ, pos}
@@ -10,16 +10,14 @@ use Rattle.base.proofs.Lists.{take-zeros, front-zeros}
 use Rattle.literal.specs.Literals.{slotOf, litAt}
 use Rattle.literal.proofs.Laws.{slot-below}
 use Rattle.walk.specs.Walk.{Stamps, stampAll}
-use Rattle.walk.proofs.Theorems.{links-below}
 use Rattle.graph.specs.Clauses.{tos, implications}
 use Rattle.groups.specs.Groups.{blank, Lists}
 use Rattle.tables.specs.Tables.{tables}
 use Rattle.tables.specs.Clauses.{slotsFrom}
-use Rattle.pairs.proofs.Listing.{mem-map, slots-in}
+use Rattle.pairs.proofs.Listing.{mem-map}
 use Rattle.stamping.specs.Stamping.{Holding, Columned, Proper, Ordered, Literals}
 use Rattle.stamp.specs.Stamp.{stampsOf, stampedTables}
 use Rattle.stamp.specs.Asking.{Full, Blank}
-use Rattle.stamp.proofs.Stamped.{stamps-stamped}
 
 -- ---- the order
 
@@ -65,14 +63,6 @@ module _ {v n : ℕ} {cs : List ℕ} {ls : List ℤ} {order : List ℤ} (P : Pro
       (subst (λ (x : List ℕ). Holding (walk x f p s) d′ f′ p′ s′) e H)))
 
   module _ {d′ f′ p′ s′ : List ℕ} (H : Holding σ d′ f′ p′ s′) (len : length d′ ≡ 2 * v) where
-    pub entries-below : (q : ℕ) → q < 2 * v → (getD p′ q 0 < 2048) × (getD s′ q 0 < 2048)
-    entries-below q lt =
-        let h : length (σ .disc) ≡ 2 * v = ap length (sym (H .discs)) ∙ len in
-        let k = links-below (implications clauses) (2 * v) σ (stamps-stamped clauses v (slots-in (P .listed)) (map slotOf order) (full-lists F)) h q lt in (
-          omega (arith, k .0, P .listed .few, ap (λ (l : List ℕ). getD l q 0) (H .pars)),
-          omega (arith, k .1, P .listed .few, ap (λ (l : List ℕ). getD l q 0) (H .tops)),
-        )
-
     -- the records of the columns are the definition's
     pub records-are : length p′ ≡ 2 * v → (variables : List ℤ) (times times′ : List ℕ) (links links′ : List ℤ) → times′ ≡ interleave d′ f′ ++ drop (2 * length d′) times
         → links′ ≡ interleave (map litAt p′) (map litAt s′) ++ drop (2 * length p′) links

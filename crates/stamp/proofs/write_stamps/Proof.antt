@@ -9,7 +9,8 @@ use Rattle.literal.specs.Literals.{slotOf}
 use Rattle.tables.specs.Clauses.{slotsFrom}
 use Rattle.stamping.specs.Stamping.{Holding, Ordered}
 use Rattle.stamp.specs.Stamp.{stampsOf}
-use Rattle.stamp.proofs.Writing.{full-ordered, full-literals, blank-columned, blank-walk, entries-below, records-are}
+use Rattle.stamp.proofs.Writing.{full-ordered, full-literals, blank-columned, blank-walk, records-are}
+use Rattle.stamp.proofs.Freshness.{entries-below}
 use Rattle.stamp.proofs.write_stamps.Statement.{statement}
 use Rattle.stamp.proofs.write_stamps.Tie as tie
 
@@ -79,7 +80,7 @@ copy-times-requires c κs = (fin-long (c .before .before .before .before .before
 
 copy-links-requires : tie.Need-copy-links-requires
 copy-links-requires c κs = let s = c .before .before .before .before .before .before .before .before .before .before .before .before .before .before .before .before .before .before .before .before .before .before .before .before .before .before .before .before .before .before .before .before .before .before .before in let w = c .before .before .before .before .before .before .before .before .before .before .before .before .before .before .before .before .before .before in
-    ((top-long w ∙ sym (par-long w), omega (arith, par-long w, s .pre .1 .1 .second)), λ q lt. entries-below (s .pre .0 .0) (s .pre .0 .1) (s .pre .1 .0) (held w) (disc-long w) q (omega (arith, lt, par-long w)))
+    ((top-long w ∙ sym (par-long w), omega (arith, par-long w, s .pre .1 .1 .second)), λ q lt. entries-below (s .pre .0 .0) (s .pre .0 .1) (held w) q (omega (arith, lt, par-long w)))
 
 same-length-6 : tie.Need-same-length-6
 same-length-6 c = search needs
