@@ -16,7 +16,7 @@ use Rattle.tables.specs.Calls.{After}
 use Rattle.shape.specs.Entry.{entryOf}
 use Rattle.shape.specs.declared.Entry.{Entry}
 use Rattle.shape.specs.declared.Entry.the-variants.{No, Opens, Resumes}
-use Rattle.propagate.specs.Propagate.{Progress, going, settled, contradicted, onward, visited, changes, propagateClause, propagateVisit, propagateVisits, begin, replied, propagateFrom}
+use Rattle.propagate.specs.Propagate.{Progress, going, settled, contradicted, onward, visited, changes, propagateClause, propagateVisit, propagateVisits, begin, propagateFrom}
 use Rattle.propagate.proofs.Shaped.{tablesAt, begin-tables, replied-tables}
 use Rattle.merge.specs.Merge.{edgesOf, clashes, mergedClasses, mergeClause, mergeOpen}
 use Rattle.stamp.specs.Stamp.{stampOrdered}

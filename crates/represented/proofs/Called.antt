@@ -1,9 +1,9 @@
 -- Propagate and Merge as their user sees them, refused calls included: what stands after the call is reached by moves from what stood before. Assumes nothing.
-use Prim.Native.Nat.{ℕ, zero, suc, _+_, _-_, _≤_, _<_, min}
+use Prim.Native.Nat.{ℕ, _-_, _≤_, min}
 use native.Mathlib.Nat.{min-le-right}
 use native.Mathlib.Omega.{arith}
-use mathlib.Core.Path.{_≡_, refl, sym, ap, subst, _∙_}
-use mathlib.Core.Bool.{Bool, true, false}
+use mathlib.Core.Path.{_≡_, refl, subst}
+use mathlib.Core.Bool.{Bool, false}
 use mathlib.Core.List.{List}
 use Rattle.state.specs.declared.State.{State}
 use Rattle.state.specs.declared.Pass.the-variants.{Merge}
@@ -18,7 +18,7 @@ use Rattle.clauses.proofs.Entered.{entered-formed, entered-cursor}
 use Rattle.clauses.proofs.Keeping.{FormedTo}
 use Rattle.clauses.proofs.Advancing.{advance-cases}
 use Rattle.propagate.specs.Propagate.{Progress, going, settled, contradicted, begin, resumed, propagateVisits, propagateFrom, replied, propagateBy, propagateCall}
-use Rattle.propagate.proofs.Stepping.{Good, visits-good}
+use Rattle.propagate.proofs.Stepping.{Good}
 use Rattle.propagate.proofs.Shaped.{begin-good, resumed-good}
 use Rattle.merge.specs.Merge.{mergedClasses, mergeClause, mergeFrom, mergeOpen, mergeCursor, mergeBy, mergeCall}
 use Rattle.merge.proofs.Merged.{classes-formed}

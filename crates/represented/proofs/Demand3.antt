@@ -1,12 +1,12 @@
 -- DEMAND 3, over the calls as their users see them. After an accepted load and any list of Propagate, Merge, Stamp, Failed and Sweep calls, refused ones included, with any orders and step counts and any parts of the tables lent,
 -- an assignment satisfies what stands exactly if it satisfies the loaded formula (`demand-3`), and every standing clause is the loaded one of its number with literals left out, class literals put in on both sides (`left-out`).
 -- Assumes nothing.
-use Prim.Native.Nat.{ℕ, zero, suc, _+_, _*_, _-_, _≤_, _<_, min}
+use Prim.Native.Nat.{ℕ, suc, _+_, _*_, _-_, _≤_, _<_}
 use native.Mathlib.Nat.{min-le-left}
 use native.Mathlib.Omega.{arith}
 use mathlib.Core.Path.{_≡_, refl, sym, ap, subst, subst₂, _∙_}
 use mathlib.Core.Bool.{Bool, true, false}
-use mathlib.Core.Logic.{_⊎_, ⊎-elim, _↔_, Iff·trans}
+use mathlib.Core.Logic.{_↔_, Iff·trans}
 use mathlib.Core.List.{List, [], _∷_, _++_, map, List·Memᴰ, List·Memᴰ·head, List·Memᴰ·tail, Sublistᴰ}
 use lib.ListN.{length, getD, drop, take, length-take, length-append, take-append-drop, List·getD-append}
 use lib.Seq.{getD-take}
@@ -25,12 +25,9 @@ use Rattle.tables.specs.Stands as stands
 use Rattle.tables.specs.Calls.{After, refuse}
 use Rattle.shape.specs.Shape.{Shape, settledTo}
 use Rattle.shape.specs.Decision.{shapeOk}
-use Rattle.shape.specs.Entry.{entryOf}
 use Rattle.shape.specs.declared.Entry.{Entry}
-use Rattle.shape.specs.declared.Entry.the-variants.{No}
 use Rattle.shape.proofs.Reading.{shaped}
 use Rattle.shape.proofs.Entering.{entry-misshapen}
-use Rattle.clauses.specs.Formed.{Formed}
 use Rattle.clauses.proofs.Forming.{shape-formed, clause-fits}
 use Rattle.dimacs.specs.Text.{judgeText, textClauses}
 use Rattle.dimacs.specs.declared.Verdict.the-variants.{Fits}
@@ -41,7 +38,7 @@ use Rattle.stamp.specs.Stamp.{stampBy, stampCall}
 use Rattle.failed.specs.Failed.{failedBy, failedCall}
 use Rattle.sweep.specs.Sweep.{sweepBy, sweepCall}
 use Rattle.unhiding.specs.Lists.{Call, propagate, merge, stamp, failed, sweep, Lent, lend, giveBack, callOn, Step, stepOn, stepsOn}
-use Rattle.sound.specs.Formula.{Clause, dropped, standing, Models}
+use Rattle.sound.specs.Formula.{Clause, dropped, standing}
 use Rattle.demand.specs.Core as core
 use Rattle.demand.proofs.Keeps as keeps
 use Rattle.demand.proofs.Traced.{only-left-out}

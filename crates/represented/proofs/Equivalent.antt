@@ -1,17 +1,16 @@
 -- THE TIE: an assignment satisfies what stands in the tables exactly if it satisfies what stands over slots. And Propagate's theorem: at every stopping point what stands has the same satisfying assignments. Assumes nothing.
-use Prim.Native.Nat.{ℕ, zero, suc, _+_, _*_, _-_, _/_, _%_, _≤_, _<_}
+use Prim.Native.Nat.{ℕ, suc, _+_, _*_, _-_, _≤_, _<_}
 use native.Mathlib.Omega.{arith}
 use native.Mathlib.Numerals.{add-one}
-use mathlib.Core.Path.{_≡_, refl, sym, ap, subst, _∙_}
-use mathlib.Core.Bool.{Bool, true, false, not, false≢true, Bool·not-not}
-use mathlib.Core.Logic.{_⊎_, inl, inr, ⊎-elim}
+use mathlib.Core.Path.{_≡_, sym, ap, subst, _∙_}
+use mathlib.Core.Bool.{Bool, true, not, false≢true, Bool·not-not}
+use mathlib.Core.Logic.{_⊎_, ⊎-elim}
 use mathlib.Core.List.{List, map, List·Memᴰ}
-use lib.ListN.{length, getD}
 use lib.IntN.{ℤ, pos, negsuc, negℤ, natAbs}
 use Rattle.base.specs.Decide.{le-or}
 use Rattle.literal.specs.Literals.{Literal, slotOf, litAt, eqZ}
-use Rattle.literal.specs.Assignments.{Assignment, holds, someHolds}
-use Rattle.literal.proofs.Laws.{slot-lit, lit-slot, slot-below, lit-var}
+use Rattle.literal.specs.Assignments.{Assignment, holds}
+use Rattle.literal.proofs.Laws.{lit-slot, slot-below, lit-var}
 use Rattle.literal.proofs.Signed.{eqZ-true}
 use Rattle.state.specs.declared.State.{State}
 use Rattle.tables.specs.Tables.{Tables, classOf, valueOf}
@@ -19,13 +18,13 @@ use Rattle.tables.specs.Tables as T
 use Rattle.tables.specs.Stands as stands
 use Rattle.tables.specs.Values.{classLiteral, ownTruth}
 use Rattle.tables.specs.Clauses.{literalsOf}
-use Rattle.clauses.specs.Formed.{Formed, Variables}
+use Rattle.clauses.specs.Formed.{Formed}
 use Rattle.clauses.proofs.Forming.{clause-fits}
-use Rattle.sound.specs.Formula.{Clause, dropped, standing, value, Sat, Models}
+use Rattle.sound.specs.Formula.{Clause, value, Sat}
 use Rattle.demand.specs.Core as core
 use Rattle.sound.proofs.Truth.{value-slot}
-use Rattle.represented.specs.Represented.{clauseOf, Represented}
-use Rattle.represented.proofs.Propagated.{mem-map, map-mem, mem-at}
+use Rattle.represented.specs.Represented.{Represented}
+use Rattle.represented.proofs.Propagated.{mem-at}
 use Rattle.represented.proofs.Literals.{class-is, class-lit}
 use Rattle.represented.proofs.Standing.{Real, sat-slots, slots-sat, mem-number, number-mem, clause-stands, stands-clause, class-holds, fact-holds}
 

@@ -1,11 +1,10 @@
 -- A table is its first stated places: tables that agree on them keep the invariant alike, whatever stands beyond. Assumes nothing.
 use Prim.Native.Nat.{ℕ, zero, suc, _+_, _*_, _-_, _≤_, _<_}
 use native.Mathlib.Omega.{arith}
-use mathlib.Core.Path.{_≡_, refl, sym, ap, subst, subst₂, _∙_}
-use mathlib.Core.Bool.{Bool, true, false}
-use mathlib.Core.Logic.{_⊎_, inl, inr, ⊎-elim}
+use mathlib.Core.Path.{_≡_, refl, sym, ap, subst, _∙_}
+use mathlib.Core.Logic.{inl, inr}
 use mathlib.Core.List.{List, [], _∷_, map}
-use lib.ListN.{length, getD, drop, take, length-drop}
+use lib.ListN.{length, getD, drop, length-drop}
 use lib.Seq.{getD-take, getD-drop, length-take-le}
 use lib.Dec.{ltb}
 use lib.IntN.{ℤ, pos, natAbs}
@@ -14,16 +13,16 @@ use Rattle.literal.specs.Literals.{Literal, slotOf, litAt, eqZ, signBy}
 use Rattle.literal.proofs.Laws.{slot-below}
 use Rattle.walk.specs.Walk.{Stamps}
 use Rattle.stamps.specs.Columns.{columns}
-use Rattle.stamps.specs.Fresh.{discovery, finish, parentOf, Holds, Times, NestedOrApart, Parent, Start, FreshStamps}
+use Rattle.stamps.specs.Fresh.{discovery, finish, parentOf, Holds, NestedOrApart, Parent, Start, FreshStamps}
 use Rattle.stamps.specs.Fresh as stamps
 use Rattle.hidden.proofs.Agree.{Agree}
 use Rattle.hidden.proofs.Columns.{column-dis, column-fin, column-par, column-top}
 use Rattle.state.specs.declared.State.{State}
-use Rattle.tables.specs.Tables.{Tables, startOf, lengthOf, variableAt, classOf, valueOf}
+use Rattle.tables.specs.Tables.{Tables, startOf, lengthOf, classOf, valueOf}
 use Rattle.tables.specs.Tables as T
 use Rattle.tables.specs.Long.{Long}
 use Rattle.tables.specs.Clauses.{literalsOf}
-use Rattle.shape.specs.Shape.{Parts, Literals, Variable, Clauses, Shape, settledTo}
+use Rattle.shape.specs.Shape.{Literals, Variable, Shape, settledTo}
 use Rattle.sound.specs.Formula.{Clause, dropped, standing}
 use Rattle.demand.specs.Moves.{Freshness}
 use Rattle.represented.specs.Represented.{clauseOf, Represented}

@@ -1,8 +1,8 @@
 -- The invariant of a list of calls after a load of the clauses f: what stands is reached by moves from f, the tables hold it and keep the shape rule, and fresh stamps are those of the last Stamp.
 -- Propagate and Merge keep it. Assumes nothing.
-use Prim.Native.Nat.{ℕ, zero, suc, _+_, _-_, _*_, _≤_, _<_, min}
+use Prim.Native.Nat.{ℕ, _+_, _-_, _*_, _<_, min}
 use native.Mathlib.Omega.{arith}
-use mathlib.Core.Path.{_≡_, refl, sym, ap, subst, subst₂, _∙_}
+use mathlib.Core.Path.{_≡_, refl, sym, subst, subst₂}
 use mathlib.Core.Bool.{Bool, true, false}
 use mathlib.Core.Logic.{_⊎_, inl, inr, ⊎-elim}
 use mathlib.Core.List.{List, List·Memᴰ}
@@ -31,7 +31,7 @@ use Rattle.merge.specs.Merge.{edgesOf, clashes, mergedClasses, mergeClause, mer
 use Rattle.merge.proofs.Shaped.{merge-shaped}
 use Rattle.sound.specs.Formula.{Clause, standing}
 use Rattle.demand.specs.Core.{Core, load}
-use Rattle.demand.specs.Moves.{Freshness, spent, fresh, Move, spend, Moves, stay, go}
+use Rattle.demand.specs.Moves.{Freshness, spent, fresh, spend, Moves, go}
 use Rattle.represented.specs.Represented.{Represented}
 use Rattle.represented.proofs.Propagation.{moves-join}
 use Rattle.represented.proofs.Called.{Reached, propagate-reached, merge-reached}

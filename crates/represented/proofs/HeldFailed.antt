@@ -14,16 +14,16 @@ use Rattle.hidden.specs.Failed.{sameStart, failedSlot}
 use Rattle.hidden.proofs.Agree.{Agree, same-agree, failed-agree}
 use Rattle.state.specs.declared.State.{State}
 use Rattle.state.specs.declared.Pass.{Pass}
-use Rattle.state.specs.declared.Pass.the-variants.{Idle, Propagate, Merge, Sweep}
+use Rattle.state.specs.declared.Pass.the-variants.{Idle, Sweep}
 use Rattle.tables.specs.Tables.{Tables}
 use Rattle.tables.specs.Values as values
-use Rattle.tables.specs.Calls.{After, marked, state}
+use Rattle.tables.specs.Calls.{marked, state}
 use Rattle.shape.specs.Shape.{Shape}
 use Rattle.shape.specs.Entry.{entryOf, passNumber}
 use Rattle.shape.specs.declared.Entry.{Entry}
 use Rattle.shape.specs.declared.Entry.the-variants.{No, Opens, Resumes}
 use Rattle.shape.proofs.Entering.{Entered, opens-entered, resumes-entered}
-use Rattle.clauses.specs.Formed.{Formed, Variables}
+use Rattle.clauses.specs.Formed.{Variables}
 use Rattle.clauses.proofs.Entered.{entered-formed}
 use Rattle.failed.specs.Failed.{Found, found, assert, failedAt, failedFrom, withVariables, failedReply, failedFresh, unlessStale, failedBy, failedCall}
 use Rattle.failed.specs.Steps.{Stamped}

@@ -1,5 +1,5 @@
 -- Stamp keeps the invariant of a list of calls: its records are the stamps of what stands. Assumes nothing.
-use Prim.Native.Nat.{ℕ, _+_, _*_, _≤_, _<_}
+use Prim.Native.Nat.{ℕ, _*_}
 use mathlib.Core.Path.{_≡_, refl, sym, ap, subst, _∙_}
 use mathlib.Core.Bool.{Bool, true, false}
 use mathlib.Core.List.{List, map}
@@ -10,14 +10,12 @@ use Rattle.graph.specs.Clauses.{implications}
 use Rattle.groups.specs.Groups.{Lists, cyclic}
 use Rattle.state.specs.declared.State.{State}
 use Rattle.state.specs.declared.Pass.{Pass}
-use Rattle.state.specs.declared.Pass.the-variants.{Idle}
 use Rattle.tables.specs.Tables.{Tables}
 use Rattle.tables.specs.Clauses.{slotsFrom}
-use Rattle.tables.specs.Calls.{After, refuse, state}
-use Rattle.shape.specs.Shape.{Shape, settledTo}
+use Rattle.tables.specs.Calls.{After, state}
+use Rattle.shape.specs.Shape.{settledTo}
 use Rattle.clauses.specs.Formed.{Formed}
 use Rattle.clauses.proofs.Forming.{shape-formed}
-use Rattle.stamping.specs.Stamping.{Ordered}
 use Rattle.stamp.specs.Stamp.{stampsOf, stampedTables, stampFresh, stampAcyclic, stampCall}
 use Rattle.stamp.specs.Asking.{askOf}
 use Rattle.stamp.specs.declared.Ruling.{Ruling}
@@ -26,13 +24,13 @@ use Rattle.stamp.proofs.Asking.{Known, fit-known, known-proper, call-refused, c
 use Rattle.stamp.proofs.Writing.{full-ordered}
 use Rattle.stamp.proofs.Freshness.{disc-size, fin-size, par-size, top-size}
 use Rattle.stamp.proofs.Shaped.{fresh-shaped}
-use Rattle.sound.specs.Formula.{Clause, literalsIn, graph, formulaStamps}
+use Rattle.sound.specs.Formula.{Clause, formulaStamps}
 use Rattle.demand.specs.Core.{load}
 use Rattle.demand.specs.Moves.{spent, fresh, stamp, Moves, go}
 use Rattle.demand.proofs.Records.{stamped-agree}
 use Rattle.represented.specs.Represented.{Represented}
 use Rattle.represented.proofs.Shaping.{shaped-of, graph-of, slots-of}
-use Rattle.represented.proofs.Held.{StampsOf, from, Held}
+use Rattle.represented.proofs.Held.{from, Held}
 
 -- a call that finds nothing to refuse
 module _ {f : List Clause} {order : List ℤ} {t : Tables} {st : State} (H : Held f t st) (K : Known order t st) where

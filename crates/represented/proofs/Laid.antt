@@ -2,14 +2,13 @@
 use Prim.Native.Nat.{ℕ, zero, suc, _+_, _*_, _-_, _≤_, _<_}
 use native.Mathlib.Omega.{arith}
 use native.Mathlib.Nat.{add-zero}
-use native.Mathlib.Numerals.{add-one}
-use mathlib.Core.Path.{_≡_, refl, sym, ap, subst, _∙_}
-use mathlib.Core.Bool.{Bool, true, false}
+use mathlib.Core.Path.{_≡_, refl, sym, ap, _∙_}
+use mathlib.Core.Bool.{true, false}
 use mathlib.Core.List.{List, [], _∷_, _++_, append-assoc}
 use lib.ListN.{length, getD, length-append}
 use lib.IntN.{ℤ, pos}
-use Rattle.literal.specs.Clauses.{distinct, tautology}
-use Rattle.tables.specs.Tables.{startOf, lengthOf, classOf, valueOf}
+use Rattle.literal.specs.Clauses.{tautology}
+use Rattle.tables.specs.Tables.{startOf, lengthOf}
 use Rattle.tables.specs.Tables as T
 use Rattle.load.specs.Load.{keptOf, clauseRecords, literalPlaces, variableRecords}
 

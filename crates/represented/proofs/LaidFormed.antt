@@ -2,21 +2,19 @@
 use Prim.Native.Nat.{ℕ, zero, suc, _+_, _*_, _-_, _≤_, _<_}
 use native.Mathlib.Omega.{arith}
 use native.Mathlib.Nat.{le-refl}
-use native.Mathlib.Numerals.{add-one}
 use mathlib.Core.Path.{_≡_, refl, sym, ap, subst, _∙_}
-use mathlib.Core.Bool.{Bool, true, false, _||_, false≢true}
-use mathlib.Core.List.{List, [], _∷_, _++_, map, append-assoc}
-use lib.ListN.{length, getD, drop, take, replicate, length-append, length-replicate, length-drop}
+use mathlib.Core.Bool.{Bool, true, false, _||_}
+use mathlib.Core.List.{List, [], _∷_, _++_}
+use lib.ListN.{length, getD, drop, replicate, length-append, length-replicate}
 use lib.Dec.{ltb, eqb}
 use lib.IntN.{ℤ, pos, natAbs}
 use borrow.Author.Tests.{eq-eqb}
-use Rattle.literal.specs.Literals.{Literal, slotOf}
+use Rattle.literal.specs.Literals.{Literal}
 use Rattle.literal.specs.Clauses.{distinct, tautology}
-use Rattle.tables.specs.Tables.{Tables, startOf, lengthOf, variableAt, classOf, valueOf}
+use Rattle.tables.specs.Tables.{Tables, startOf, lengthOf, classOf, valueOf}
 use Rattle.tables.specs.Tables as T
-use Rattle.tables.specs.Long.{Long}
-use Rattle.shape.specs.Shape.{Parts, Literals, Variable, Clauses}
-use Rattle.clauses.specs.Formed.{Formed, Variables, FitClause}
+use Rattle.shape.specs.Shape.{Parts, Literals, Variable}
+use Rattle.clauses.specs.Formed.{Formed, FitClause}
 use Rattle.clauses.proofs.Fitting.{fit-none}
 use Rattle.merge.proofs.Repeats.{All, Own, distinct-short, distinct-none, distinct-all, distinct-once, once-fits}
 use Rattle.write.specs.Writable.{InClause, InClauses, total}

@@ -1,11 +1,11 @@
 -- A literal of the tables and its slot: class, truth and falsehood are the same on both sides. Assumes nothing.
-use Prim.Native.Nat.{ℕ, zero, suc, _+_, _*_, _-_, _≤_, _<_}
+use Prim.Native.Nat.{ℕ, zero, suc, _*_, _-_, _≤_, _<_}
 use native.Mathlib.Omega.{arith}
-use mathlib.Core.Path.{_≡_, refl, sym, ap, subst, _∙_}
-use mathlib.Core.Bool.{Bool, true, false, not, _||_}
+use mathlib.Core.Path.{_≡_, refl, sym, ap, _∙_}
+use mathlib.Core.Bool.{Bool, false, _||_}
 use mathlib.Core.Logic.{_⊎_, inl, inr, ⊎-elim}
 use mathlib.Core.List.{List}
-use lib.ListN.{length, getD, set}
+use lib.ListN.{length}
 use lib.Seq.{getD-set-same, getD-set-other}
 use lib.Dec.{eqb}
 use borrow.Author.Tests.{eq-eqb, ne-eqb}
@@ -15,10 +15,10 @@ use Rattle.base.specs.Decide.{same-or}
 use Rattle.literal.specs.Literals.{Literal, slotOf, litAt, twin, eqZ, signBy}
 use Rattle.literal.proofs.Laws.{lit-slot, slot-lit, slot-below, slot-twin, lit-var}
 use Rattle.literal.proofs.Signed.{abs-neg}
-use Rattle.tables.specs.Tables.{Tables, valueOf, classOf}
+use Rattle.tables.specs.Tables.{Tables, valueOf}
 use Rattle.tables.specs.Values.{classLiteral, ownTruth, isTrue, isFalse, setOwn}
 use Rattle.clauses.specs.Formed.{Variables, Known}
-use Rattle.clauses.proofs.Known.{class-ranged, known-row, known-place}
+use Rattle.clauses.proofs.Known.{class-ranged}
 use Rattle.demand.specs.Core as core
 use Rattle.represented.specs.Represented.{Represented}
 

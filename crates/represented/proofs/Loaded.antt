@@ -3,7 +3,7 @@ use Prim.Native.Nat.{ℕ, zero, suc, _+_, _*_, _-_, _≤_, _<_}
 use native.Mathlib.Omega.{arith}
 use mathlib.Core.Path.{_≡_, refl, sym, ap, subst, _∙_}
 use mathlib.Core.Bool.{Bool, true, false, _||_, false≢true}
-use mathlib.Core.Logic.{_⊎_, inl, inr, ⊎-elim, _↔_}
+use mathlib.Core.Logic.{_⊎_, ⊎-elim}
 use mathlib.Core.List.{List, [], _∷_, _++_, map, List·Memᴰ, List·Memᴰ·head, List·Memᴰ·tail, List·Memᴰ·not-nil, List·Memᴰ·cases-cons, append-assoc}
 use lib.ListN.{length, getD, drop, take, replicate, length-map}
 use lib.Dec.{eqb}
@@ -12,17 +12,15 @@ use lib.Signed.{nonNeg}
 use borrow.Author.Tests.{eqb-true}
 use Rattle.literal.specs.Literals.{Literal, slotOf, litAt, eqZ, signBy}
 use Rattle.literal.specs.Clauses.{distinct, tautology}
-use Rattle.literal.specs.Assignments.{Assignment, holds, someHolds, Satisfies}
+use Rattle.literal.specs.Assignments.{Assignment, someHolds, Satisfies}
 use Rattle.literal.proofs.Laws.{slot-lit, slot-below}
 use Rattle.state.specs.declared.State.{State}
 use Rattle.state.specs.declared.Pass.the-variants.{Idle}
-use Rattle.state.specs.declared.Answer.the-variants.{Loaded}
-use Rattle.tables.specs.Tables.{Tables, valueOf}
+use Rattle.tables.specs.Tables.{Tables}
 use Rattle.tables.specs.Tables as T
 use Rattle.tables.specs.Long.{Long}
-use Rattle.tables.specs.Values.{classLiteral, ownTruth}
 use Rattle.tables.specs.Clauses.{literalsOf}
-use Rattle.tables.specs.Calls.{After, answered, state}
+use Rattle.tables.specs.Calls.{After, state}
 use Rattle.clauses.specs.Formed.{Formed}
 use Rattle.clauses.proofs.Forming.{formed-shape}
 use Rattle.dimacs.specs.Text.{judgeText, textClauses}
@@ -30,20 +28,20 @@ use Rattle.dimacs.specs.declared.Verdict.the-variants.{Fits}
 use Rattle.write.specs.Writable.{InClause, InClauses, total}
 use Rattle.roundtrip.proofs.Accepted.{text-within}
 use Rattle.roundtrip.proofs.Reread.{text-loads}
-use Rattle.load.specs.Load.{keptOf, clauseRecords, literalPlaces, anyEmpty, laid, loadCall}
+use Rattle.load.specs.Load.{keptOf, literalPlaces, anyEmpty, laid, loadCall}
 use Rattle.merge.proofs.Truth.{some-distinct, tautology-true}
 use Rattle.merge.proofs.Repeats.{All, distinct-all}
 use Rattle.sound.specs.Formula.{Clause, dropped, standing, Sat, Models}
-use Rattle.demand.specs.Core.{Core, load, marked}
-use Rattle.demand.specs.Moves.{spent, conflict, change, Moves, stay, go}
+use Rattle.demand.specs.Core.{load, marked}
+use Rattle.demand.specs.Moves.{spent, conflict, change, stay, go}
 use Rattle.represented.specs.Represented.{clauseOf, Represented}
 use Rattle.represented.proofs.Propagated.{mark-represented, mem-map}
 use Rattle.represented.proofs.Equivalent.{slot-literal}
 use Rattle.represented.proofs.Standing.{Real, sat-slots, slots-sat}
 use Rattle.represented.proofs.Shaping.{own-literal}
 use Rattle.represented.proofs.Held.{stale, Held}
-use Rattle.represented.proofs.Laid.{nth, before, flagged, Recorded}
-use Rattle.represented.proofs.LaidFormed.{rec, laid-class, laid-value, laid-formed, in-nth}
+use Rattle.represented.proofs.Laid.{nth, before}
+use Rattle.represented.proofs.LaidFormed.{rec, laid-class, laid-value, laid-formed}
 
 -- the clause that stands for one of the text, on slots
 unfoldable pub clauseFor : List ℤ → Clause

@@ -1,13 +1,11 @@
 -- What lists of calls on whole tables make of what stands, each call with at most 65,535 steps: nothing, one call, one list after another. Assumes nothing.
-use Prim.Native.Nat.{ℕ, _≤_}
-use mathlib.Core.Path.{_≡_, refl, sym, ap, subst, _∙_}
+use Prim.Native.Nat.{_≤_}
+use mathlib.Core.Path.{_≡_, refl, ap, _∙_}
 use mathlib.Core.List.{List, [], _∷_, _++_, append-nil}
-use lib.ListN.{length, take, drop}
+use lib.ListN.{length, drop}
 use lib.Seq.{take-length, drop-length}
-use lib.IntN.{ℤ}
 use Rattle.state.specs.declared.State.{State}
 use Rattle.tables.specs.Tables.{Tables, tables}
-use Rattle.tables.specs.Calls.{After}
 use Rattle.settle.specs.Settle.{Standing, between}
 use Rattle.settle.specs.Steps.{standingIn}
 use Rattle.unhiding.specs.Lists.{Call, propagate, merge, stamp, failed, sweep, Lent, lend, giveBack, withBack, callOn, Step, stepOn, Trail, stepsOn}

@@ -1,36 +1,34 @@
 -- A visit of Merge is a list of moves: class literals are put in and repeats go, and a clause with v and −v is dropped. Assumes nothing.
-use Prim.Native.Nat.{ℕ, zero, suc, _+_, _*_, _-_, _≤_, _<_}
+use Prim.Native.Nat.{ℕ, _+_, _-_, _≤_, _<_}
 use native.Mathlib.Omega.{arith}
 use mathlib.Core.Path.{_≡_, refl, sym, ap, subst, _∙_}
 use mathlib.Core.Bool.{Bool, true, false, _||_, false≢true}
-use mathlib.Core.Logic.{_⊎_, inl, inr, ⊎-elim}
-use mathlib.Core.List.{List, [], _∷_, _++_, map, List·Memᴰ, List·Memᴰ·head, List·Memᴰ·tail, List·Memᴰ·not-nil, List·Memᴰ·cases-cons, Sublistᴰ, Sublistᴰ·slnil, Sublistᴰ·cons, Sublistᴰ·cons-cons, Sublistᴰ·refl, Sublistᴰ·trans, Sublistᴰ·append, append-assoc, append-nil}
-use lib.ListN.{length, getD, length-map}
+use mathlib.Core.Logic.{_⊎_, ⊎-elim}
+use mathlib.Core.List.{List, [], _∷_, _++_, map, List·Memᴰ, List·Memᴰ·head, List·Memᴰ·tail, List·Memᴰ·not-nil, List·Memᴰ·cases-cons, Sublistᴰ, Sublistᴰ·cons, Sublistᴰ·refl, Sublistᴰ·trans, Sublistᴰ·append, append-assoc, append-nil}
+use lib.ListN.{length, length-map}
 use lib.Seq.{getD-set-same, set-set}
-use lib.IntN.{ℤ, pos, negℤ, natAbs}
+use lib.IntN.{ℤ, negℤ, natAbs}
 use Rattle.base.proofs.Booleans.{or-either}
 use Rattle.base.proofs.Lists.{sub-mem}
-use Rattle.literal.specs.Literals.{Literal, slotOf, twin, eqZ}
+use Rattle.literal.specs.Literals.{slotOf, eqZ}
 use Rattle.literal.specs.Clauses.{has, distinctFrom, distinct, tautology}
 use Rattle.literal.proofs.Laws.{slot-twin}
 use Rattle.literal.proofs.Signed.{eqZ-true, eq-eqZ}
 use Rattle.tables.specs.Tables.{Tables, tables, lengthOf}
 use Rattle.tables.specs.Tables as T
 use Rattle.tables.specs.Values.{classLiteral}
-use Rattle.tables.specs.Clauses.{literalsOf}
-use Rattle.tables.specs.Fates.{Fate, store, fateAt, shortened, droppedAt}
+use Rattle.tables.specs.Fates.{shortened, droppedAt}
 use Rattle.tables.specs.Fates as fates
-use Rattle.clauses.specs.Formed.{Formed, Variables}
+use Rattle.clauses.specs.Formed.{Formed}
 use Rattle.clauses.proofs.Stores.{recorded, storedAt}
 use Rattle.clauses.proofs.Forming.{clause-fits, part-length, recorded-same}
 use Rattle.clauses.proofs.Fitting.{fit-member}
 use Rattle.sound.specs.Formula.{Clause, dropped, standing}
 use Rattle.demand.specs.Core as core
 use Rattle.demand.specs.Moves as moves
-use Rattle.merge.specs.Merge.{mergeClause, unlessTautology}
 use Rattle.merge.proofs.Repeats.{distinct-short}
 use Rattle.literal.proofs.Distinct.{has-distinct}
-use Rattle.represented.specs.Represented.{clauseOf, Represented}
+use Rattle.represented.specs.Represented.{Represented}
 use Rattle.represented.proofs.Literals.{class-is, class-lit}
 use Rattle.represented.proofs.Propagated.{Simulated, literalsAt, stands-as, put-represented, mem-map, map-mem, map-sub}
 

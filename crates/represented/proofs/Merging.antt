@@ -4,33 +4,30 @@ use native.Mathlib.Omega.{arith}
 use native.Mathlib.Numerals.{add-one}
 use mathlib.Core.Path.{_≡_, refl, sym, ap, subst, _∙_}
 use mathlib.Core.Bool.{Bool, true, false}
-use mathlib.Core.Logic.{⊎-elim}
 use mathlib.Core.List.{List, map}
-use lib.ListN.{length, getD}
-use lib.IntN.{ℤ, pos, negsuc, negℤ, natAbs}
+use lib.IntN.{ℤ, pos, negsuc, natAbs}
 use lib.Signed.{nonNeg}
 use Rattle.literal.specs.Literals.{Literal, slotOf, litAt, twin, signBy, eqZ}
 use Rattle.literal.specs.Clauses.{distinct, tautology}
 use Rattle.literal.proofs.Laws.{slot-lit, slot-twin, slot-below, lit-var}
 use Rattle.groups.specs.Groups.{leastMutual}
-use Rattle.tables.specs.Tables.{Tables, tables, classOf, valueOf}
+use Rattle.tables.specs.Tables.{Tables, classOf, valueOf}
 use Rattle.tables.specs.Tables as T
-use Rattle.tables.specs.Values.{classLiteral, ownTruth}
-use Rattle.tables.specs.Fates.{Fate, store, fateAt, shortened, droppedAt, visits}
+use Rattle.tables.specs.Values.{classLiteral}
+use Rattle.tables.specs.Fates.{Fate, store, visits}
 use Rattle.tables.specs.Fates as fates
-use Rattle.clauses.specs.Formed.{Formed}
 use Rattle.demand.specs.Core as core
 use Rattle.demand.specs.Moves as moves
 use Rattle.demand.proofs.Groups.{least, least-in, least-out, least-grouped, least-twin, clash-found}
 use Rattle.clauses.proofs.Visiting.{visit-beside}
 use Rattle.clauses.proofs.Keeping.{FormedTo, formed-cases}
-use Rattle.merge.specs.Merge.{edgesOf, clashes, representative, regrouped, mergedClasses, mergeClause, unlessTautology}
+use Rattle.merge.specs.Merge.{edgesOf, clashes, representative, mergedClasses, mergeClause}
 use Rattle.merge.proofs.Regrouped.{regrouped-class, regrouped-value}
 use Rattle.merge.proofs.Visiting.{merge-shrinks}
 use Rattle.merge.proofs.Keeping.{formed-visit}
 use Rattle.sound.specs.Formula.{graph}
 use Rattle.represented.specs.Represented.{Represented}
-use Rattle.represented.proofs.Literals.{class-is, class-lit}
+use Rattle.represented.proofs.Literals.{class-lit}
 use Rattle.represented.proofs.Propagated.{Simulated, literalsAt, mark-represented}
 use Rattle.represented.proofs.Propagation.{moves-join}
 use Rattle.represented.proofs.Merged.{classed, merged-left, merged-dropped}

@@ -1,9 +1,9 @@
 -- Propagate's theorem, over the call as its user sees it: whatever the tables, the state and the step count, an assignment satisfies what stands after the call exactly if it satisfied what stood before; refused calls included.
 -- Assumes nothing.
-use Prim.Native.Nat.{ℕ, zero, suc, _+_, _*_, _≤_, _<_}
+use Prim.Native.Nat.{ℕ, zero, suc}
 use native.Mathlib.Omega.{arith}
-use mathlib.Core.Path.{_≡_, refl, sym, ap, subst, _∙_}
-use mathlib.Core.Bool.{Bool, true, false}
+use mathlib.Core.Path.{_≡_, refl, sym, subst}
+use mathlib.Core.Bool.{Bool, false}
 use mathlib.Core.Logic.{_↔_, Iff·rfl, Iff·trans, Iff·symm}
 use mathlib.Core.List.{List}
 use Rattle.literal.specs.Assignments.{Assignment}
@@ -22,7 +22,6 @@ use Rattle.propagate.specs.Propagate.{Progress, going, settled, contradicted, b
 use Rattle.propagate.proofs.Stepping.{Good, visits-good}
 use Rattle.propagate.proofs.Shaped.{begin-good, resumed-good}
 use Rattle.demand.specs.Core as core
-use Rattle.demand.specs.Moves.{spent}
 use Rattle.demand.proofs.Keeps.{moves-kept}
 use Rattle.represented.specs.Represented.{Represented, coreOf}
 use Rattle.represented.proofs.Standing.{core-represented}

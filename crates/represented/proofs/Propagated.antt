@@ -1,5 +1,5 @@
 -- A visit of Propagate is a list of moves, and so is any number of them: Propagate keeps the satisfying assignments at every stopping point, and every clause is a part of the loaded one. Assumes nothing.
-use Prim.Native.Nat.{ℕ, zero, suc, _+_, _*_, _-_, _≤_, _<_}
+use Prim.Native.Nat.{ℕ, zero, suc, _-_, _≤_, _<_}
 use native.Mathlib.Omega.{arith}
 use mathlib.Core.Path.{_≡_, refl, sym, ap, subst, _∙_}
 use mathlib.Core.Bool.{Bool, true, false, not, _||_}
@@ -9,18 +9,18 @@ use lib.ListN.{length, getD, set, length-set}
 use lib.Seq.{getD-set-same, getD-set-other, set-set}
 use lib.Dec.{eqb}
 use borrow.Author.Tests.{ne-eqb}
-use lib.IntN.{ℤ, pos, negℤ, natAbs}
+use lib.IntN.{ℤ, pos, natAbs}
 use lib.Signed.{nonNeg}
 use Rattle.base.specs.Decide.{same-or}
 use Rattle.base.specs.Lists.{any, filter}
 use Rattle.base.proofs.Lists.{mem-filter, any-out, in-filter, filter-sub}
-use Rattle.literal.specs.Literals.{Literal, slotOf, litAt, twin, eqZ, signBy}
+use Rattle.literal.specs.Literals.{Literal, slotOf, litAt, signBy}
 use Rattle.literal.proofs.Laws.{slot-below}
 use Rattle.tables.specs.Tables.{Tables, tables, lengthOf}
 use Rattle.tables.specs.Tables as T
 use Rattle.tables.specs.Values as values
 use Rattle.tables.specs.Clauses.{literalsOf}
-use Rattle.tables.specs.Fates.{Fate, store, fateAt, shortened, droppedAt}
+use Rattle.tables.specs.Fates.{shortened, droppedAt}
 use Rattle.tables.specs.Fates as fates
 use Rattle.clauses.specs.Formed.{Formed, Variables, Known}
 use Rattle.clauses.proofs.Stores.{recorded, storedAt, stored-view, stored-other, recorded-other, recorded-here}
@@ -31,7 +31,7 @@ use Rattle.clauses.proofs.Fitting.{fit-member, filter-shorter}
 use Rattle.propagate.specs.Propagate.{notFalse}
 use Rattle.sound.specs.Formula.{Clause, dropped, standing}
 use Rattle.demand.specs.Core as core
-use Rattle.demand.specs.Moves.{Change, satisfied, falsified, unit, conflict, Freshness, spent, Move, change, Moves, stay, go}
+use Rattle.demand.specs.Moves.{Change, satisfied, falsified, unit, conflict, spent, change, Moves, stay, go}
 use Rattle.represented.specs.Represented.{clauseOf, Represented}
 use Rattle.represented.proofs.Literals.{class-is, true-is, false-is, facts-set, complement-true}
 

@@ -1,7 +1,7 @@
 -- A run is a list of demand 3's calls on whole tables, each with at most 65,535 steps; so an accepted load and a run leave what the loaded formula says. Assumes nothing.
-use Prim.Native.Nat.{ℕ, zero, suc, _+_, _*_, _≤_, _<_}
+use Prim.Native.Nat.{ℕ, zero, suc, _+_, _≤_}
 use native.Mathlib.Omega.{arith}
-use mathlib.Core.Path.{_≡_, refl, sym, ap, subst, _∙_}
+use mathlib.Core.Path.{_≡_, refl, ap, subst}
 use mathlib.Core.Bool.{Bool, true, false, _||_}
 use mathlib.Core.Logic.{_↔_}
 use mathlib.Core.List.{List, [], _∷_}
@@ -35,8 +35,8 @@ use Rattle.run.proofs.Running.{runs-opens}
 use Rattle.run.proofs.Settling.{propagate-rests, propagate-settled, merge-opens, merge-rests}
 use Rattle.run.proofs.Keeping.{follow-runs, round-runs}
 use Rattle.run.proofs.Calling.{opens-runs, resumes-runs}
-use Rattle.unhiding.specs.Lists.{Call, propagate, merge, stamp, failed, sweep, stepsOn}
-use Rattle.represented.proofs.Made.{Few, Made, left, made-none, made-call, made-then}
+use Rattle.unhiding.specs.Lists.{propagate, merge, stamp, failed, sweep}
+use Rattle.represented.proofs.Made.{Made, made-none, made-call, made-then}
 use Rattle.represented.proofs.Loaded.{load-held}
 use Rattle.represented.proofs.Demand3 as list
 

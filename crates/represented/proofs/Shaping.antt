@@ -1,22 +1,21 @@
 -- What formed tables represent is a shaped formula, every literal its own class once all clauses are settled, with the graph of the tables. Assumes nothing.
-use Prim.Native.Nat.{ℕ, zero, suc, _+_, _*_, _-_, _/_, _≤_, _<_}
+use Prim.Native.Nat.{ℕ, zero, suc, _+_, _*_, _-_, _/_, _<_}
 use native.Mathlib.Nat.{add-zero}
 use native.Mathlib.Omega.{arith}
 use mathlib.Core.Path.{_≡_, refl, sym, ap, subst, _∙_}
-use mathlib.Core.Bool.{Bool, true, false}
-use mathlib.Core.Logic.{⊎-elim}
+use mathlib.Core.Bool.{false}
 use mathlib.Core.List.{List, [], _∷_, map, List·Memᴰ}
-use lib.ListN.{length, getD, drop}
+use lib.ListN.{length, getD}
 use lib.IntN.{ℤ, pos, negsuc, negℤ, natAbs}
 use borrow.Author.Tests.{lt-ltb}
 use Rattle.literal.specs.Literals.{slotOf}
 use Rattle.literal.proofs.Laws.{slot-below}
 use Rattle.graph.specs.Clauses.{Once, empty, more, implications}
-use Rattle.tables.specs.Tables.{Tables, lengthOf, startOf, classOf}
+use Rattle.tables.specs.Tables.{Tables, classOf}
 use Rattle.tables.specs.Tables as T
 use Rattle.tables.specs.Values.{classLiteral}
-use Rattle.tables.specs.Clauses.{literalsOf, slotsAt, slotsFrom}
-use Rattle.clauses.specs.Formed.{Formed, FitClause}
+use Rattle.tables.specs.Clauses.{slotsAt, slotsFrom}
+use Rattle.clauses.specs.Formed.{Formed}
 use Rattle.clauses.proofs.Forming.{clause-fits, part-length}
 use Rattle.clauses.proofs.Fitting.{fit-member}
 use Rattle.merge.proofs.Merged.{slot-variable}

@@ -1,20 +1,17 @@
 -- What stands in the tables and what stands over slots are satisfied by the same assignments; and every formed table is represented. Assumes nothing.
-use Prim.Native.Nat.{ℕ, zero, suc, _+_, _*_, _-_, _/_, _%_, _≤_, _<_}
+use Prim.Native.Nat.{ℕ, zero, suc, _+_, _*_, _-_, _<_}
 use native.Mathlib.Omega.{arith}
 use native.Mathlib.Nat.{add-zero}
-use mathlib.Core.Path.{_≡_, refl, sym, ap, subst, _∙_}
+use mathlib.Core.Path.{_≡_, refl, sym, ap, _∙_}
 use mathlib.Core.Bool.{Bool, true, false, not, _||_}
-use mathlib.Core.Logic.{_⊎_, inl, inr, ⊎-elim}
+use mathlib.Core.Logic.{_⊎_, ⊎-elim}
 use mathlib.Core.List.{List, [], _∷_, map, List·Memᴰ, List·Memᴰ·head, List·Memᴰ·tail, List·Memᴰ·not-nil, List·Memᴰ·cases-cons}
 use lib.ListN.{length, getD}
-use lib.Dec.{ltb, eqb}
 use lib.IntN.{ℤ, pos, negsuc, negℤ, natAbs, negℤ-negℤ}
 use native.Mathlib.Numerals.{add-one}
 use borrow.Author.Tests.{lt-ltb, le-ltb}
-use Rattle.base.specs.Decide.{same-or, le-or}
-use Rattle.literal.specs.Literals.{Literal, slotOf, litAt, litBy, twin, eqZ}
+use Rattle.literal.specs.Literals.{Literal, slotOf, litAt, eqZ}
 use Rattle.literal.specs.Assignments.{Assignment, holds, someHolds}
-use Rattle.literal.proofs.Laws.{slot-lit, slot-below}
 use Rattle.literal.proofs.Truth.{holds-neg}
 use Rattle.state.specs.declared.State.{State}
 use Rattle.tables.specs.Tables.{Tables, classOf, valueOf}
@@ -22,9 +19,9 @@ use Rattle.tables.specs.Tables as T
 use Rattle.tables.specs.Stands as stands
 use Rattle.tables.specs.Values.{classLiteral, ownTruth}
 use Rattle.tables.specs.Clauses.{literalsOf}
-use Rattle.clauses.specs.Formed.{Formed, Variables}
+use Rattle.clauses.specs.Formed.{Variables}
 use Rattle.clauses.proofs.Known.{known-row}
-use Rattle.sound.specs.Formula.{Clause, dropped, standing, value, Sat, Models}
+use Rattle.sound.specs.Formula.{Clause, dropped, standing, value, Sat}
 use Rattle.sound.proofs.Truth.{value-slot}
 use Rattle.demand.specs.Core as core
 use Rattle.represented.specs.Represented.{clauseOf, Represented, clausesOf, coreOf}
