@@ -12,7 +12,7 @@ use Rattle.graph.specs.Edges.{outs}
 use Rattle.graph.specs.Clauses.{froms, tos}
 use Rattle.groups.specs.Groups.{Lists, cyclic}
 use Rattle.stamp.specs.Stamp.{stampsOf}
-use Rattle.stamp.proofs.Stamped.{stamps-stamped}
+use Rattle.stamp.proofs.Freshness.{stamps-stamped}
 use Rattle.sound.specs.Formula.{literalsIn, Models, graph, formulaStamps}
 use Rattle.sound.specs.Sweep.{sweepFirst}
 use Rattle.sound.specs.Kept.{Shaped}

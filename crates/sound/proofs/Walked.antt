@@ -10,7 +10,7 @@ use mathlib.Core.Logic.{_↔_}
 use mathlib.Core.List.{List, map}
 use Rattle.literal.specs.Assignments.{Assignment}
 use Rattle.groups.specs.Groups.{Lists, cyclic}
-use Rattle.stamp.proofs.Stamped.{stamps-sized, stamps-stamped}
+use Rattle.stamp.proofs.Freshness.{stamps-sized, stamps-stamped}
 use Rattle.sound.specs.Formula.{Clause, literalsIn, Models, graph, formulaStamps}
 use Rattle.sound.specs.Sweep.{sweepFirst}
 use Rattle.cycles.specs.Forward.{Acyclic}

@@ -1,27 +1,30 @@
 -- The stamps that Stamp's walk leaves are fresh: the walk's forest, slot by slot, is what the scan of the shape rule asks of a slot that is entered and left.
 --     stamped-fresh   records that hold the columns of a walk's stamps are fresh stamps
 --     records-fresh   so are those of `stampedTables`
+--     stamps-stamped  the stamps of any clauses are a forest of their implication graph, with every slot entered
 --     entries-below   every parent and every start in the columns is a slot
 -- Assumes nothing.
 use Prim.Native.Nat.{ℕ, zero, suc, _+_, _*_, _/_, _-_, _≤_, _<_}
 use native.Mathlib.Omega.{arith}
 use mathlib.Core.Path.{_≡_, refl, sym, ap, _∙_}
+use mathlib.Core.Bool.{Bool}
 use mathlib.Core.Logic.{_⊎_, inl, inr, ⊎-elim}
-use mathlib.Core.List.{List, [], _∷_, _++_, map}
+use mathlib.Core.List.{List, [], _∷_, _++_, map, List·Memᴰ}
 use lib.ListN.{length, getD, drop, replicate, length-replicate, length-append, length-drop, length-map, List·getD-append, List·getD-map}
 use lib.IntN.{ℤ, pos}
 use Rattle.base.specs.Decide.{same-or}
-use Rattle.base.specs.Lists.{interleave}
-use Rattle.base.proofs.Lists.{getD-any}
+use Rattle.base.specs.Lists.{absent, filter, interleave}
+use Rattle.base.proofs.Lists.{getD-any, mem-filter}
 use Rattle.literal.specs.Literals.{slotOf, litAt}
 use Rattle.stamps.specs.Fresh.{discovery, finish, parentOf, startOf, Times, FreshStamps}
 use Rattle.stamps.proofs.Local.{Around, Under, Entered, Left, fresh-from}
-use Rattle.walk.specs.Walk.{Stamps}
+use Rattle.walk.specs.Walk.{Stamps, edges, starts, stampAll}
 use Rattle.walk.specs.Forest.{dis, fin, par, top, Holds, Parted, Forest, Top}
-use Rattle.walk.proofs.Run.{Less}
-use Rattle.walk.proofs.Theorems.{Stamped, times-apart, entered-below, links-below}
-use Rattle.graph.specs.Clauses.{implications}
-use Rattle.groups.specs.Groups.{blank}
+use Rattle.walk.proofs.Run.{Less, less-trans, edges-less, enters-less}
+use Rattle.walk.proofs.Theorems.{Stamped, stamp-theorem, times-apart, entered-below, links-below}
+use Rattle.graph.specs.Clauses.{tos, implications}
+use Rattle.groups.specs.Groups.{blank, Lists}
+use Rattle.cycles.proofs.Forward.{edge-below}
 use Rattle.tables.specs.Tables.{Tables}
 use Rattle.tables.specs.Clauses.{slotsFrom}
 use Rattle.pairs.proofs.Listing.{slots-in}
@@ -29,7 +32,6 @@ use Rattle.stamping.specs.Stamping.{Holding, Proper}
 use Rattle.stamping.proofs.Copying.{many-records}
 use Rattle.stamp.specs.Stamp.{stampsOf, stampedTables}
 use Rattle.stamp.specs.Asking.{Full}
-use Rattle.stamp.proofs.Stamped.{stamps-less, stamps-stamped}
 use Rattle.stamp.proofs.Writing.{full-lists}
 use Rattle.walk.specs.Forest as forest
 
@@ -172,6 +174,34 @@ module _ {A : Type 0} where
 
 literal-at : (l : List ℕ) (s : ℕ) → s < length l → getD (map litAt l) s (pos 0) ≡ litAt (getD l s 0)
 literal-at l s lt = getD-any (map litAt l) s (pos 0) (litAt 0) (omega (arith, lt, length-map l litAt)) ∙ List·getD-map litAt l s 0
+
+-- ---- the stamps of any clauses on the slots of v variables, under any list of all their slots
+
+module _ (cs : List (List ℕ)) (v : ℕ) (below : (c : List ℕ) → List·Memᴰ c cs → (q : ℕ) → List·Memᴰ q c → q < 2 * v) (order : List ℕ) (o : Lists (2 * v) order) where
+  -- the walk leaves the columns' lengths as they were
+  pub stamps-less : Less (blank (2 * v) (replicate (2 * v) 0) (replicate (2 * v) 0) (replicate (2 * v) 0)) (stampsOf cs (2 * v) order)
+  unfolding stampsOf stampAll starts
+  stamps-less =
+      let n : ℕ = 2 * v in
+      let z : List ℕ = replicate n 0 in
+      let adj : ℕ → List ℕ = implications cs in
+      let root : ℕ → Bool = λ q. absent q (tos cs) in
+      let visit : ℕ → Stamps → Stamps = starts (length {A = ℕ} (replicate n 0)) adj in
+      let in-graph : (s q : ℕ) → s < n → List·Memᴰ q (adj s) → q < n = λ s q lt m. edge-below cs v below s q m .1 in
+      let less = edges-less adj n in-graph visit (λ q σ. enters-less adj n in-graph (length {A = ℕ} (replicate n 0)) q q q σ) in
+      let one = less (filter root order) (λ q m. o .below q (mem-filter root order m)) (blank n z z z) (length-replicate n 0) in
+      let two = less order (o .below) (edges visit (filter root order) (blank n z z z)) (one .discs ∙ length-replicate n 0) in
+      less-trans (blank n z z z) (edges visit (filter root order) (blank n z z z)) (stampsOf cs n order) one two
+
+  pub stamps-sized : length (stampsOf cs (2 * v) order .disc) ≡ 2 * v
+  stamps-sized = stamps-less .discs ∙ length-replicate (2 * v) 0
+
+  pub stamps-stamped : Stamped (implications cs) (2 * v) (stampsOf cs (2 * v) order)
+  unfolding stampsOf
+  stamps-stamped =
+      let z : List ℕ = replicate (2 * v) 0 in
+      let n : length z ≡ 2 * v = length-replicate _ 0 in
+      stamp-theorem (implications cs) (2 * v) (λ s q lt m. edge-below cs v below s q m .1) (λ q. absent q (tos cs)) order z z z (stampsOf cs (2 * v) order) (o .below) (o .all) n n n stamps-sized refl
 
 -- ---- Stamp's
 
