@@ -62,16 +62,3 @@ pub record Forest (adj : ℕ → List ℕ) (σ : Stamps) : Type 0 where
   pub closed : (q c : ℕ) → 0 < dis σ q → List·Memᴰ c (adj q) → 0 < dis σ c
   pub seen : (q c : ℕ) → 0 < dis σ q → List·Memᴰ c (adj q) → dis σ c < fin σ q
   pub hit : (t : ℕ) → 0 < t → t ≤ σ .time → (q : ℕ) × (0 < dis σ q) × ((dis σ q ≡ t) ⊎ (fin σ q ≡ t))
-
--- an edge of a goes back to b, another slot, whose interval holds a's
-pub record Back (adj : ℕ → List ℕ) (d f : List ℕ) (a b : ℕ) : Type 0 where
-  pub edge : List·Memᴰ b (adj a)
-  pub other : b ≡ a → ⊥
-  pub begins : getD d b 0 ≤ getD d a 0
-  pub ends : getD f a 0 ≤ getD f b 0
-
-abbrev pub BackFrom : (ℕ → List ℕ) → List ℕ → List ℕ → ℕ → Type 0
-BackFrom adj d f a = (b : ℕ) × Back adj d f a b
-
-abbrev pub BackAny : ℕ → (ℕ → List ℕ) → List ℕ → List ℕ → Type 0
-BackAny size adj d f = (a : ℕ) × (a < size) × (b : ℕ) × Back adj d f a b

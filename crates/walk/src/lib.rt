@@ -3,8 +3,6 @@ ghost use mathlib.Core.Path.{_≡_};
 ghost use Prim.Native.Nat.{ℕ, _+_, _<_, _≤_};
 ghost use lib.ListN.{length, getD, replicate};
 ghost use Rattle.walk.specs.Walk.{enters, starts, edge, edges, fresh};
-ghost use mathlib.Core.Bool.{true, false};
-ghost use Rattle.walk.specs.Forest.{Reach, BackFrom, BackAny};
 ghost use Rattle.walk.specs.Ready.{adjOf, stamps, Graph, Columns};
 
 // Enters `slot`, coming from `parent`, in the tree that starts at `start`: stamps it, walks its edges, and returns the time.
@@ -157,67 +155,4 @@ pub fn clear(disc: &mut [u32])
         disc[i] = 0;
         i += 1;
     }
-}
-
-// Enters the slots that `slot` reaches, and no others.
-pub fn reach_from(
-    slot: u32,
-    offsets: &[u32],
-    targets: &[u32],
-    disc: &mut [u32],
-    fin: &mut [u32],
-    par: &mut [u32],
-    top: &mut [u32],
-) -> u32
-    requires { ⌜ Graph (now offsets) (now targets) (length (now disc)) ⌝ }
-    requires { ⌜ (length (now fin) ≡ length (now disc)) × ((length (now par) ≡ length (now disc)) × (length (now top) ≡ length (now disc))) ⌝ }
-    requires { ⌜ slot < length (now disc) ⌝ }
-    ensures { λ _. ⌜ ((q : ℕ) →
-        (0 < getD (now (disc .exit)) q 0 → Reach (adjOf (now (offsets .entry)) (now (targets .entry))) slot q)
-        × (Reach (adjOf (now (offsets .entry)) (now (targets .entry))) slot q → 0 < getD (now (disc .exit)) q 0)) ⌝ }
-{
-    clear(disc);
-    start_at(slot, 0, offsets, targets, disc, fin, par, top)
-}
-
-// Whether an edge of `slot` goes back to another slot whose interval is around its own.
-pub fn goes_back(slot: usize, offsets: &[u32], targets: &[u32], disc: &[u32], fin: &[u32]) -> bool
-    requires { ⌜ Graph (now offsets) (now targets) (length (now disc)) ⌝ }
-    requires { ⌜ (length (now fin) ≡ length (now disc)) × (slot < length (now disc)) ⌝ }
-    ensures { λ r. ⌜ (r ≡ true → BackFrom (adjOf (now (offsets .entry)) (now (targets .entry))) (now (disc .entry)) (now (fin .entry)) slot)
-        × (r ≡ false → BackFrom (adjOf (now (offsets .entry)) (now (targets .entry))) (now (disc .entry)) (now (fin .entry)) slot → ⊥) ⌝ }
-{
-    let ds = disc[slot];
-    let fs = fin[slot];
-    let mut at = offsets[slot] as usize;
-    let end = offsets[slot + 1] as usize;
-    while at < end {
-        let q = targets[at] as usize;
-        if q != slot {
-            if disc[q] <= ds {
-                if fs <= fin[q] {
-                    return true;
-                }
-            }
-        }
-        at += 1;
-    }
-    false
-}
-
-// Whether any edge does: two different slots reach each other.
-pub fn any_back(offsets: &[u32], targets: &[u32], disc: &[u32], fin: &[u32]) -> bool
-    requires { ⌜ Graph (now offsets) (now targets) (length (now disc)) ⌝ }
-    requires { ⌜ length (now fin) ≡ length (now disc) ⌝ }
-    ensures { λ r. ⌜ (r ≡ true → BackAny (length (now (disc .entry))) (adjOf (now (offsets .entry)) (now (targets .entry))) (now (disc .entry)) (now (fin .entry)))
-        × (r ≡ false → BackAny (length (now (disc .entry))) (adjOf (now (offsets .entry)) (now (targets .entry))) (now (disc .entry)) (now (fin .entry)) → ⊥) ⌝ }
-{
-    let mut s = 0;
-    while s < disc.len() {
-        if goes_back(s, offsets, targets, disc, fin) {
-            return true;
-        }
-        s += 1;
-    }
-    false
 }
