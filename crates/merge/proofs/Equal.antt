@@ -1,13 +1,14 @@
 -- Truth: under an assignment that satisfies every standing clause, a literal and its representative are both true or both false, and there is none where v and −v share a component.
 -- So the opening keeps the assignments that satisfy what stands. Assumes nothing.
-use Prim.Native.Nat.{ℕ, zero, suc, _+_, _*_, _<_}
+use Prim.Native.Nat.{ℕ, suc, _+_, _*_, _<_}
 use native.Mathlib.Omega.{arith}
 use mathlib.Core.Path.{_≡_, refl, sym, ap, subst, _∙_}
 use mathlib.Core.Bool.{Bool, true, false, not, _||_, false≢true}
 use mathlib.Core.Logic.{_⊎_, ⊎-elim}
-use mathlib.Core.List.{List, [], _∷_, _++_, map, List·Memᴰ, List·Memᴰ·head, List·Memᴰ·tail, List·Memᴰ·not-nil, List·Memᴰ·cases-cons}
+use mathlib.Core.List.{List, [], _∷_, _++_, List·Memᴰ, List·Memᴰ·head, List·Memᴰ·tail, List·Memᴰ·not-nil, List·Memᴰ·cases-cons, Memᴰ·map}
 use lib.ListN.{length, getD}
 use lib.IntN.{ℤ, pos}
+use Rattle.base.proofs.Lists.{getD-mem}
 use Rattle.base.specs.Decide.{same-or}
 use Rattle.base.proofs.Booleans.{both-ways, not-itself}
 use Rattle.literal.specs.Literals.{Literal, slotOf, litAt, twin}
@@ -43,11 +44,6 @@ true-place τ (x ∷ C) e = go (λ h. true-place τ C h) (holds τ x) refl
     go : (someHolds τ C ≡ true → (k : ℕ) × (k < length C) × (holds τ (getD C k (pos 0)) ≡ true)) → (b : Bool) → holds τ x ≡ b → (k : ℕ) × (k < length (x ∷ C)) × (holds τ (getD (x ∷ C) k (pos 0)) ≡ true)
     go rest true h = (0, omega arith, h)
     go rest false h = let r = rest (ap (λ (b : Bool). b || someHolds τ C) (sym h) ∙ e) in (suc (r .0), omega (arith, r .1), r .2)
-
-mem-place : (f : ℤ → ℕ) (C : List ℤ) (k : ℕ) → k < length C → List·Memᴰ (f (getD C k (pos 0))) (map f C)
-mem-place f [] k lt = absurd (omega arith)
-mem-place f (x ∷ C) zero lt = List·Memᴰ·head refl
-mem-place f (x ∷ C) (suc k) lt = List·Memᴰ·tail (mem-place f C k (omega arith))
 
 -- ---- a dropped clause has no literals, and gives no edges
 
@@ -105,7 +101,7 @@ module _ {v n k : ℕ} {mark : Bool} {c : List ℕ} {l w : List ℤ} (F : Formed
       let C : List ℤ = literalsOf c l i in
       let (j, lj, h) = true-place τ C (sat i lt stands) in
       let x : ℤ = getD C j (pos 0) in
-      (slotOf x, mem-place slotOf C j lj, ap (holds τ) (lit-slot x (clause-fits F i lt .ranged j lj .above)) ∙ h)
+      (slotOf x, Memᴰ·map slotOf (getD-mem C j (pos 0) lj), ap (holds τ) (lit-slot x (clause-fits F i lt .ranged j lj .above)) ∙ h)
 
   satisfies : Satisfies val (present (slotsFrom c l n 0))
   satisfies = record {

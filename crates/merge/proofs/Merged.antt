@@ -18,7 +18,7 @@ use Rattle.base.proofs.Lists.{any-here, any-next}
 use Rattle.base.proofs.Searches.{first-found}
 use Rattle.literal.specs.Literals.{slotOf, litAt, twin}
 use Rattle.literal.proofs.Signed.{abs-neg, ne-eqZ}
-use Rattle.literal.proofs.Laws.{lit-slot, lit-var, slot-twin, slot-below}
+use Rattle.literal.proofs.Laws.{lit-slot, lit-var, slot-twin, slot-below, slot-variable}
 use Rattle.literal.proofs.Twins.{twin-odd}
 use Rattle.walk.specs.Forest.{Reach, here, on}
 use Rattle.graph.specs.Skew.{Skew}
@@ -58,10 +58,6 @@ outs-from (f ∷ fs) (t ∷ ts) p {q} m =
     (λ (e : f ≡ p). List·Memᴰ·head (sym e))
     (λ (d : f ≡ p → ⊥). List·Memᴰ·tail (outs-from fs ts p (subst (List·Memᴰ q) (outs-out f t p fs ts d) m)))
     (same-or f p)
-
--- slots 2w and 2w + 1 are those of variable w + 1
-pub slot-variable : (x : ℤ) → 0 < natAbs x → natAbs x ≡ slotOf x / 2 + 1
-slot-variable x above = ap natAbs (sym (lit-slot x above)) ∙ lit-var (slotOf x)
 
 pub edge-variable : {v n : ℕ} {c : List ℕ} {l : List ℤ} → Listed v n c l → (s : ℕ) {q : ℕ} → List·Memᴰ q (implications (slotsFrom c l n 0) s)
     → (i : ℕ) × (i < n) × (j : ℕ) × (j < lengthOf c i) × (variableAt l (startOf c i + j) ≡ s / 2 + 1)

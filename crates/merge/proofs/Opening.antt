@@ -1,6 +1,6 @@
 -- From a list of representatives to the definitions of Merge: the clash, and the new classes.
 -- Assumes nothing.
-use Prim.Native.Nat.{ℕ, zero, suc, _+_, _-_, _*_, _/_, _%_, _<_}
+use Prim.Native.Nat.{ℕ, _+_, _-_, _*_, _/_, _%_, _<_}
 use native.Mathlib.Omega.{arith}
 use mathlib.Core.Path.{_≡_, refl, sym, ap, subst, _∙_}
 use mathlib.Core.Bool.{Bool, true, false, _&&_, false≢true}
@@ -8,8 +8,8 @@ use mathlib.Core.Logic.{_⊎_, ⊎-elim}
 use mathlib.Core.List.{List}
 use lib.ListN.{length, getD}
 use lib.IntN.{ℤ, pos}
+use Rattle.base.proofs.Searches.{anyBelow-out, anyBelow-in}
 use Rattle.base.specs.Decide.{same-or}
-use Rattle.base.specs.Lists.{anyBelow}
 use Rattle.base.proofs.Booleans.{and-left, and-right, both-ways}
 use Rattle.literal.specs.Literals.{Literal, slotOf, litAt, twin}
 use Rattle.literal.proofs.Laws.{slot-below}
@@ -29,26 +29,6 @@ use Rattle.merge.specs.Merge.{clashes, representative, regrouped}
 use Rattle.merge.specs.Opening.{through, Regroups}
 use Rattle.merge.proofs.Regrouped.{class-at, regrouped-as}
 
--- ---- some number below n passes a test
-
-below-some : (n : ℕ) (test : ℕ → Bool) → anyBelow n test ≡ true → (i : ℕ) × (i < n) × (test i ≡ true)
-unfolding anyBelow
-below-some zero test e = absurd (false≢true e)
-below-some (suc n) test e = go (λ h. below-some n test h) (test n) refl e
-  where
-    go : (anyBelow n test ≡ true → (i : ℕ) × (i < n) × (test i ≡ true)) → (b : Bool) → test n ≡ b → _≡_ {A = Bool} (elim b [ true ↦ true | false ↦ anyBelow n test ]) true → (i : ℕ) × (i < suc n) × (test i ≡ true)
-    go rest true h k = (n, omega arith, h)
-    go rest false h k = let r = rest k in (r .0, omega (arith, r .1), r .2)
-
-below-one : (n : ℕ) (test : ℕ → Bool) (i : ℕ) → i < n → test i ≡ true → anyBelow n test ≡ true
-unfolding anyBelow
-below-one zero test i lt e = absurd (omega arith)
-below-one (suc n) test i lt e = go (λ h. below-one n test i h e) (test n) refl
-  where
-    go : (i < n → anyBelow n test ≡ true) → (b : Bool) → test n ≡ b → _≡_ {A = Bool} (elim b [ true ↦ true | false ↦ anyBelow n test ]) true
-    go rest true h = refl
-    go rest false h = rest (⊎-elim (λ (s : i ≡ n). absurd (false≢true (sym h ∙ ap test (sym s) ∙ e))) (λ (d : i ≡ n → ⊥). omega arith) (same-or i n))
-
 -- ---- v and −v in one component
 
 module _ (adj : ℕ → List ℕ) (v : ℕ) (K : Skew adj twin (2 * v)) where
@@ -67,7 +47,7 @@ module _ (adj : ℕ → List ℕ) (v : ℕ) (K : Skew adj twin (2 * v)) where
   pub clashes-some : clashes adj v ≡ true → (s : ℕ) × (s < 2 * v) × (Reach adj s (twin s)) × (Reach adj (twin s) s)
   unfolding clashes
   clashes-some e =
-      let (w, lt, h) = below-some v (λ w. connected adj (2 * v) (2 * w) (2 * w + 1)) e in
+      let (w, lt, h) = anyBelow-out v (λ w. connected adj (2 * v) (2 * w) (2 * w + 1)) e in
       let both = connected-is (2 * w) (2 * w + 1) (omega arith) (omega arith) .0 h in
       let t : 2 * w + 1 ≡ twin (2 * w) = sym (twin-even (2 * w) (omega arith)) in
       (2 * w, omega arith, subst (Reach adj (2 * w)) t (both .0), subst (λ (x : ℕ). Reach adj x (2 * w)) t (both .1))
@@ -75,7 +55,7 @@ module _ (adj : ℕ → List ℕ) (v : ℕ) (K : Skew adj twin (2 * v)) where
   pub some-clashes : (s : ℕ) → s < 2 * v → Reach adj s (twin s) → Reach adj (twin s) s → clashes adj v ≡ true
   unfolding clashes
   some-clashes s lt there back =
-      below-one v (λ w. connected adj (2 * v) (2 * w) (2 * w + 1)) (s / 2) (omega arith)
+      anyBelow-in v (λ w. connected adj (2 * v) (2 * w) (2 * w + 1)) (s / 2) (omega arith)
       (⊎-elim
       (λ (e : s % 2 ≡ 0).
       let a : s ≡ 2 * (s / 2) = omega arith in

@@ -2,7 +2,7 @@
 use Prim.Native.Nat.{ℕ, zero, suc, _≤_, _<_}
 use native.Mathlib.Omega.{arith}
 use mathlib.Core.Path.{_≡_, refl, sym, ap, _∙_}
-use mathlib.Core.Bool.{Bool, true, false, _||_, false≢true}
+use mathlib.Core.Bool.{Bool, true, false, false≢true}
 use mathlib.Core.Logic.{_⊎_, inl, inr, ⊎-elim}
 use mathlib.Core.List.{List, [], _∷_, _++_, map}
 use lib.ListN.{length, getD}
@@ -11,7 +11,7 @@ use Rattle.base.proofs.Booleans.{or-neither, neither-or}
 use Rattle.literal.specs.Literals.{Literal, eqZ}
 use Rattle.literal.specs.Clauses.{has, distinctFrom, distinct, tautology}
 use Rattle.literal.proofs.Signed.{eq-eqZ, ne-eqZ}
-use Rattle.literal.proofs.Distinct.{from-sized}
+use Rattle.literal.proofs.Distinct.{from-sized, has-at}
 use Rattle.tables.specs.Tables.{classOf}
 use Rattle.clauses.specs.Formed.{FitClause}
 use Rattle.clauses.proofs.Fitting.{FitHead, fit-none, fit-cons}
@@ -95,15 +95,6 @@ same-variable (pos (suc a)) (negsuc b) e = inr (ap negsuc (omega (arith, e)))
 same-variable (negsuc a) (pos b) e = inr (ap pos (sym e))
 same-variable (negsuc a) (negsuc b) e = inl (ap negsuc (omega (arith, e)))
 
-has-at : (xs : List ℤ) (k : ℕ) → k < length xs → has (getD xs k (pos 0)) xs ≡ true
-has-at [] k h = absurd (omega arith)
-has-at (x ∷ xs) zero h = ap (λ (b : Bool). b || has x xs) (eq-eqZ x x refl)
-has-at (x ∷ xs) (suc k) h = go (eqZ x (getD xs k (pos 0))) (has-at xs k (omega arith))
-  where
-    go : (b : Bool) → has (getD xs k (pos 0)) xs ≡ true → (b || has (getD xs k (pos 0)) xs) ≡ true
-    go true e = refl
-    go false e = e
-
 -- a literal that is in range, and whose variable is its own class
 pub record Own (v : ℕ) (w : List ℤ) (x : ℤ) : Type 0 where
   pub ranged : Literal v x
@@ -119,8 +110,8 @@ once-fits v w b (x ∷ xs) A O e = fit-cons head (once-fits v w b xs (A .1) (O .
       ranged = A .0 .ranged;
       apart = λ j h q.
           ⊎-elim
-          (λ (s : getD xs j (pos 0) ≡ x). false≢true (sym (O .0) ∙ ap (λ (z : ℤ). has z xs) (sym s) ∙ has-at xs j h))
-          (λ (s : getD xs j (pos 0) ≡ negℤ x). false≢true (sym (or-neither (has (negℤ x) xs) (tautology xs) e .0) ∙ ap (λ (z : ℤ). has z xs) (sym s) ∙ has-at xs j h))
+          (λ (s : getD xs j (pos 0) ≡ x). false≢true (sym (O .0) ∙ has-at x xs j h s))
+          (λ (s : getD xs j (pos 0) ≡ negℤ x). false≢true (sym (or-neither (has (negℤ x) xs) (tautology xs) e .0) ∙ has-at (negℤ x) xs j h s))
           (same-variable x (getD xs j (pos 0)) q);
       own = λ s. A .0 .own;
     }

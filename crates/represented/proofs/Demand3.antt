@@ -7,10 +7,12 @@ use native.Mathlib.Omega.{arith}
 use mathlib.Core.Path.{_≡_, refl, sym, ap, subst, subst₂, _∙_}
 use mathlib.Core.Bool.{Bool, true, false}
 use mathlib.Core.Logic.{_↔_, Iff·trans}
-use mathlib.Core.List.{List, [], _∷_, _++_, map, List·Memᴰ, List·Memᴰ·head, List·Memᴰ·tail, Sublistᴰ}
+use mathlib.Core.List.{List, [], _∷_, _++_, map, List·Memᴰ, List·Memᴰ·head, List·Memᴰ·tail, Sublistᴰ, Memᴰ·map}
 use lib.ListN.{length, getD, drop, take, length-take, length-append, take-append-drop, List·getD-append}
 use lib.Seq.{getD-take}
 use lib.IntN.{ℤ, pos, natAbs}
+use Rattle.base.proofs.Lists.{getD-mem}
+use Rattle.literal.proofs.Laws.{slot-variable}
 use Rattle.literal.specs.Literals.{Literal, slotOf}
 use Rattle.literal.specs.Clauses.{distinct, tautology}
 use Rattle.literal.specs.Assignments.{Assignment, Satisfies}
@@ -42,11 +44,9 @@ use Rattle.sound.specs.Formula.{Clause, dropped, standing}
 use Rattle.demand.specs.Core as core
 use Rattle.demand.proofs.Keeps as keeps
 use Rattle.demand.proofs.Traced.{only-left-out}
-use Rattle.merge.proofs.Merged.{slot-variable}
 use Rattle.merge.proofs.Repeats.{All, distinct-all}
 use Rattle.represented.proofs.Literals.{class-is}
-use Rattle.represented.proofs.Propagated.{map-mem}
-use Rattle.represented.proofs.Standing.{stands-clause, number-mem}
+use Rattle.represented.proofs.Standing.{stands-clause}
 use Rattle.represented.proofs.Laid.{nth}
 use Rattle.represented.proofs.LaidFormed.{in-nth}
 use Rattle.represented.proofs.Equivalent.{stands-core, core-stands}
@@ -196,4 +196,4 @@ module _ (text : List ℕ) (v n body : ℕ) (accepted : judgeText text ≡ Fits 
           let real = distinct-all (λ x. 0 < natAbs x) c (above v c (in-nth v (textClauses text) j (each text v n body accepted t L st) lt)) in
           all-members (Literal (st′ .v)) (distinct c)
           (λ l m. literal-of l (all-member (λ x. 0 < natAbs x) (distinct c) real l m)
-          (held .within C (subst (λ (x : Clause). List·Memᴰ x (loadedClauses (textClauses text))) e (number-mem (loadedClauses (textClauses text)) j (omega (arith, lt, loaded-length (textClauses text))))) (slotOf l) (subst (List·Memᴰ (slotOf l)) q (map-mem (distinct c) m))))
+          (held .within C (subst (λ (x : Clause). List·Memᴰ x (loadedClauses (textClauses text))) e (getD-mem (loadedClauses (textClauses text)) j dropped (omega (arith, lt, loaded-length (textClauses text))))) (slotOf l) (subst (List·Memᴰ (slotOf l)) q (Memᴰ·map slotOf m))))

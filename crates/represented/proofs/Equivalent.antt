@@ -7,6 +7,7 @@ use mathlib.Core.Bool.{Bool, true, not, false≢true, Bool·not-not}
 use mathlib.Core.Logic.{_⊎_, ⊎-elim}
 use mathlib.Core.List.{List, map, List·Memᴰ}
 use lib.IntN.{ℤ, pos, negsuc, negℤ, natAbs}
+use Rattle.base.proofs.Lists.{mem-getD, getD-mem}
 use Rattle.base.specs.Decide.{le-or}
 use Rattle.literal.specs.Literals.{Literal, slotOf, litAt, eqZ}
 use Rattle.literal.specs.Assignments.{Assignment, holds}
@@ -20,13 +21,13 @@ use Rattle.tables.specs.Values.{classLiteral, ownTruth}
 use Rattle.tables.specs.Clauses.{literalsOf}
 use Rattle.clauses.specs.Formed.{Formed}
 use Rattle.clauses.proofs.Forming.{clause-fits}
-use Rattle.sound.specs.Formula.{Clause, value, Sat}
+use Rattle.sound.specs.Formula.{Clause, dropped, value, Sat}
 use Rattle.demand.specs.Core as core
 use Rattle.sound.proofs.Truth.{value-slot}
 use Rattle.represented.specs.Represented.{Represented}
 use Rattle.represented.proofs.Propagated.{mem-at}
 use Rattle.represented.proofs.Literals.{class-is, class-lit}
-use Rattle.represented.proofs.Standing.{Real, sat-slots, slots-sat, mem-number, number-mem, clause-stands, stands-clause, class-holds, fact-holds}
+use Rattle.represented.proofs.Standing.{Real, sat-slots, slots-sat, clause-stands, stands-clause, class-holds, fact-holds}
 
 -- a slot below 2v is that of a literal
 pub slot-literal : (v s : ℕ) → s < 2 * v → Literal v (litAt s)
@@ -42,7 +43,7 @@ module _ (st : State) (t : Tables) (k : core.Core) (sl : ℕ) (F : Formed (st .v
   stands-core S = record {
     unmarked = R .marks ∙ S .unmarked;
     models = λ C m.
-        let r = mem-number (k .clauses) m in
+        let r = mem-getD (k .clauses) dropped m in
         let lt : r .0 < st .n = omega (arith, r .1, R .number) in
         let e = clause-stands (t .clauses) (t .literals) (r .0) (sym (R .clauses (r .0) lt) ∙ r .2) in
         subst (Sat τ) (e .1) (sat-slots τ (literalsOf (t .clauses) (t .literals) (r .0)) (real (r .0) lt) (S .clauses (r .0) lt (let o = F .rule .parts .flag (r .0) lt in omega (arith, o, e .0))));
@@ -72,7 +73,7 @@ module _ (st : State) (t : Tables) (k : core.Core) (sl : ℕ) (F : Formed (st .v
     unmarked = sym (R .marks) ∙ S .unmarked;
     clauses = λ i lt e.
         slots-sat τ (literalsOf (t .clauses) (t .literals) i) (real i lt)
-        (S .models (map slotOf (literalsOf (t .clauses) (t .literals) i)) (subst (λ (c : Clause). List·Memᴰ c (k .clauses)) (R .clauses i lt ∙ stands-clause (t .clauses) (t .literals) i e) (number-mem (k .clauses) i (omega (arith, R .number, lt)))));
+        (S .models (map slotOf (literalsOf (t .clauses) (t .literals) i)) (subst (λ (c : Clause). List·Memᴰ c (k .clauses)) (R .clauses i lt ∙ stands-clause (t .clauses) (t .literals) i e) (getD-mem (k .clauses) i dropped (omega (arith, R .number, lt)))));
     classes = λ w lt.
         let L : Literal (st .v) (pos (w + 1)) = record { above = omega arith; within = omega arith } in
         sym (value-slot τ (pos (w + 1)) (omega arith)) ∙ S .classes (slotOf (pos (w + 1))) ∙ ap (value τ) (class-is R (F .vars) (pos (w + 1)) L) ∙ value-slot τ (classOf (t .variables) (w + 1)) (class-lit R (F .vars) (pos (w + 1)) L .above);

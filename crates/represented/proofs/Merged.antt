@@ -4,7 +4,7 @@ use native.Mathlib.Omega.{arith}
 use mathlib.Core.Path.{_≡_, refl, sym, ap, subst, _∙_}
 use mathlib.Core.Bool.{Bool, true, false, _||_, false≢true}
 use mathlib.Core.Logic.{_⊎_, ⊎-elim}
-use mathlib.Core.List.{List, [], _∷_, _++_, map, List·Memᴰ, List·Memᴰ·head, List·Memᴰ·tail, List·Memᴰ·not-nil, List·Memᴰ·cases-cons, Sublistᴰ, Sublistᴰ·cons, Sublistᴰ·refl, Sublistᴰ·trans, Sublistᴰ·append, append-assoc, append-nil}
+use mathlib.Core.List.{List, [], _∷_, _++_, map, List·Memᴰ, List·Memᴰ·head, List·Memᴰ·tail, List·Memᴰ·not-nil, List·Memᴰ·cases-cons, Sublistᴰ, Sublistᴰ·cons, Sublistᴰ·refl, Sublistᴰ·trans, Sublistᴰ·append, append-assoc, append-nil, Memᴰ·map}
 use lib.ListN.{length, length-map}
 use lib.Seq.{getD-set-same, set-set}
 use lib.IntN.{ℤ, negℤ, natAbs}
@@ -30,7 +30,7 @@ use Rattle.merge.proofs.Repeats.{distinct-short}
 use Rattle.literal.proofs.Distinct.{has-distinct}
 use Rattle.represented.specs.Represented.{Represented}
 use Rattle.represented.proofs.Literals.{class-is, class-lit}
-use Rattle.represented.proofs.Propagated.{Simulated, literalsAt, stands-as, put-represented, mem-map, map-mem, map-sub}
+use Rattle.represented.proofs.Propagated.{Simulated, literalsAt, stands-as, put-represented, mem-map, map-sub}
 
 -- ---- lists without repeats
 
@@ -87,7 +87,7 @@ module _ {v n sl : ℕ} {t : Tables} {k : core.Core} (F : Formed v n sl false (t
   substituting : moves.Change k (core.put i (standing (map slotOf (distinct classed))) k)
   substituting =
       moves.substituted i (stands-as F R i lt stands) (subst (Sublistᴰ (map slotOf (distinct classed))) classed-slots (map-sub (kept-sub [] classed)))
-      (λ s m. let r = mem-map classed (subst (List·Memᴰ s) (sym classed-slots) m) in subst (λ (x : ℕ). List·Memᴰ x (map slotOf (distinct classed))) (sym (r .2)) (map-mem (distinct classed) (distinct-mem (r .0) classed (r .1))))
+      (λ s m. let r = mem-map classed (subst (List·Memᴰ s) (sym classed-slots) m) in subst (λ (x : ℕ). List·Memᴰ x (map slotOf (distinct classed))) (sym (r .2)) (Memᴰ·map slotOf (distinct-mem (r .0) classed (r .1))))
 
   short : length (distinct classed) ≤ lengthOf (t .clauses) i
   unfolding classed
@@ -110,8 +110,8 @@ module _ {v n sl : ℕ} {t : Tables} {k : core.Core} (F : Formed v n sl false (t
       record {
         to = core.put i dropped (core.put i (standing (map slotOf (distinct classed))) k);
         moves = moves.go (moves.go moves.stay (moves.change substituting))
-            (moves.change (moves.tautology i (getD-set-same (k .clauses) i (standing (map slotOf (distinct classed))) dropped (omega (arith, R .number, lt))) (map-mem (distinct classed) (b .1))
-            (subst (λ (x : ℕ). List·Memᴰ x (map slotOf (distinct classed))) (slot-twin (b .0) (above (b .0) (b .1))) (map-mem (distinct classed) (b .2)))));
+            (moves.change (moves.tautology i (getD-set-same (k .clauses) i (standing (map slotOf (distinct classed))) dropped (omega (arith, R .number, lt))) (Memᴰ·map slotOf (b .1))
+            (subst (λ (x : ℕ). List·Memᴰ x (map slotOf (distinct classed))) (slot-twin (b .0) (above (b .0) (b .1))) (Memᴰ·map slotOf (b .2)))));
         tied = subst (Represented v n false (tables (recorded (t .clauses) i 0 0) (storedAt (t .clauses) (t .literals) i []) (t .variables) (t .times) (t .links)))
             (ap (λ (f : List Clause). core.withClauses f k) (sym (set-set (k .clauses) i (standing (map slotOf (distinct classed))) dropped))) (put-represented F R i lt [] 0 dropped (omega arith) refl);
       }

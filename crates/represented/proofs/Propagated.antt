@@ -4,7 +4,7 @@ use native.Mathlib.Omega.{arith}
 use mathlib.Core.Path.{_≡_, refl, sym, ap, subst, _∙_}
 use mathlib.Core.Bool.{Bool, true, false, not, _||_}
 use mathlib.Core.Logic.{_⊎_, inl, inr, ⊎-elim}
-use mathlib.Core.List.{List, [], _∷_, map, List·Memᴰ, List·Memᴰ·head, List·Memᴰ·tail, List·Memᴰ·not-nil, List·Memᴰ·cases-cons, Sublistᴰ, Sublistᴰ·slnil, Sublistᴰ·cons, Sublistᴰ·cons-cons}
+use mathlib.Core.List.{List, [], _∷_, map, List·Memᴰ, List·Memᴰ·head, List·Memᴰ·not-nil, List·Memᴰ·cases-cons, Sublistᴰ, Sublistᴰ·slnil, Sublistᴰ·cons, Sublistᴰ·cons-cons, Memᴰ·map, Memᴰ·of-map}
 use lib.ListN.{length, getD, set, length-set}
 use lib.Seq.{getD-set-same, getD-set-other, set-set}
 use lib.Dec.{eqb}
@@ -13,7 +13,7 @@ use lib.IntN.{ℤ, pos, natAbs}
 use lib.Signed.{nonNeg}
 use Rattle.base.specs.Decide.{same-or}
 use Rattle.base.specs.Lists.{any, filter}
-use Rattle.base.proofs.Lists.{mem-filter, any-out, in-filter, filter-sub}
+use Rattle.base.proofs.Lists.{mem-filter, any-out, in-filter, filter-sub, mem-getD}
 use Rattle.literal.specs.Literals.{Literal, slotOf, litAt, signBy}
 use Rattle.literal.proofs.Laws.{slot-below}
 use Rattle.tables.specs.Tables.{Tables, tables, lengthOf}
@@ -39,12 +39,7 @@ use Rattle.represented.proofs.Literals.{class-is, true-is, false-is, fa
 
 -- a member of a mapped list
 pub mem-map : (C : List ℤ) {s : ℕ} → List·Memᴰ s (map slotOf C) → (l : ℤ) × List·Memᴰ l C × (s ≡ slotOf l)
-mem-map [] m = absurd (List·Memᴰ·not-nil m)
-mem-map (x ∷ C) m = ⊎-elim (λ e. (x, List·Memᴰ·head refl, e)) (λ r. let k = mem-map C r in (k .0, List·Memᴰ·tail (k .1), k .2)) (List·Memᴰ·cases-cons m)
-
-pub map-mem : (C : List ℤ) {l : ℤ} → List·Memᴰ l C → List·Memᴰ (slotOf l) (map slotOf C)
-map-mem [] m = absurd (List·Memᴰ·not-nil m)
-map-mem (x ∷ C) m = ⊎-elim (λ e. List·Memᴰ·head (ap slotOf e)) (λ r. List·Memᴰ·tail (map-mem C r)) (List·Memᴰ·cases-cons m)
+mem-map C m = let r = Memᴰ·of-map slotOf C m in (r .0, r .1, sym (r .2))
 
 pub map-sub : {D C : List ℤ} → Sublistᴰ D C → Sublistᴰ (map slotOf D) (map slotOf C)
 map-sub Sublistᴰ·slnil = Sublistᴰ·slnil
@@ -53,8 +48,7 @@ map-sub (Sublistᴰ·cons-cons e s) = Sublistᴰ·cons-cons (ap slotOf e) (map-s
 
 -- a member stands at a place
 pub mem-at : (C : List ℤ) {l : ℤ} → List·Memᴰ l C → (j : ℕ) × (j < length C) × (l ≡ getD C j (pos 0))
-mem-at [] m = absurd (List·Memᴰ·not-nil m)
-mem-at (x ∷ C) m = ⊎-elim (λ e. (0, omega arith, e)) (λ r. let k = mem-at C r in (suc (k .0), omega (arith, k .1), k .2)) (List·Memᴰ·cases-cons m)
+mem-at C m = let r = mem-getD C (pos 0) m in (r .0, r .1, sym (r .2))
 
 -- what is left of a list passes the test
 filter-test : {A : Type 0} (p : A → Bool) (xs : List A) {x : A} → List·Memᴰ x (filter p xs) → p x ≡ true
@@ -147,7 +141,7 @@ module _ {v n : ℕ} {t : Tables} {k : core.Core} (F : Formed v n n false (t .cl
       let m = any-out (values.isTrue (t .variables)) (literalsAt t i) h in
       record {
         to = core.put i dropped k;
-        moves = go stay (change (satisfied i (stands-as F R i lt stands) (map-mem (literalsAt t i) (m .1)) (true-is R (F .vars) (m .0) (fit-member (clause-fits F i lt) (m .1)) ∙ m .2)));
+        moves = go stay (change (satisfied i (stands-as F R i lt stands) (Memᴰ·map slotOf (m .1)) (true-is R (F .vars) (m .0) (fit-member (clause-fits F i lt) (m .1)) ∙ m .2)));
         tied = put-represented F R i lt [] 0 dropped (omega arith) refl;
       }
 
@@ -162,7 +156,7 @@ module _ {v n : ℕ} {t : Tables} {k : core.Core} (F : Formed v n n false (t .cl
     where
       by-test : (l : ℤ) → List·Memᴰ l (literalsAt t i) → s ≡ slotOf l → (b : Bool) → values.isFalse (t .variables) l ≡ b → List·Memᴰ s (map slotOf (notFalse (t .variables) (literalsAt t i))) ⊎ (core.isFalse k s ≡ true)
       by-test l m q true e = inr (ap (core.isFalse k) q ∙ false-is R (F .vars) l (fit-member (clause-fits F i lt) m) ∙ e)
-      by-test l m q false e = inl (subst (λ (x : ℕ). List·Memᴰ x (map slotOf (notFalse (t .variables) (literalsAt t i)))) (sym q) (map-mem (notFalse (t .variables) (literalsAt t i)) (in-filter (λ y. not (values.isFalse (t .variables) y)) (literalsAt t i) m (ap not e))))
+      by-test l m q false e = inl (subst (λ (x : ℕ). List·Memᴰ x (map slotOf (notFalse (t .variables) (literalsAt t i)))) (sym q) (Memᴰ·map slotOf (in-filter (λ y. not (values.isFalse (t .variables) y)) (literalsAt t i) m (ap not e))))
 
   shorter : Change k (core.put i (standing (map slotOf (notFalse (t .variables) (literalsAt t i)))) k)
   shorter = falsified i (stands-as F R i lt stands) remain gone-false

@@ -1,5 +1,5 @@
 -- What formed tables represent is a shaped formula, every literal its own class once all clauses are settled, with the graph of the tables. Assumes nothing.
-use Prim.Native.Nat.{ℕ, zero, suc, _+_, _*_, _-_, _/_, _<_}
+use Prim.Native.Nat.{ℕ, zero, suc, _+_, _*_, _-_, _<_}
 use native.Mathlib.Nat.{add-zero}
 use native.Mathlib.Omega.{arith}
 use mathlib.Core.Path.{_≡_, refl, sym, ap, subst, _∙_}
@@ -8,9 +8,11 @@ use mathlib.Core.List.{List, [], _∷_, map, List·Memᴰ}
 use lib.ListN.{length, getD}
 use lib.IntN.{ℤ, pos, negsuc, negℤ, natAbs}
 use borrow.Author.Tests.{lt-ltb}
+use Rattle.stamping.proofs.Graphing.{once-slots}
+use Rattle.base.proofs.Lists.{mem-getD}
 use Rattle.literal.specs.Literals.{slotOf}
 use Rattle.literal.proofs.Laws.{slot-below}
-use Rattle.graph.specs.Clauses.{Once, empty, more, implications}
+use Rattle.graph.specs.Clauses.{Once, implications}
 use Rattle.tables.specs.Tables.{Tables, classOf}
 use Rattle.tables.specs.Tables as T
 use Rattle.tables.specs.Values.{classLiteral}
@@ -18,7 +20,6 @@ use Rattle.tables.specs.Clauses.{slotsAt, slotsFrom}
 use Rattle.clauses.specs.Formed.{Formed}
 use Rattle.clauses.proofs.Forming.{clause-fits, part-length}
 use Rattle.clauses.proofs.Fitting.{fit-member}
-use Rattle.merge.proofs.Merged.{slot-variable}
 use Rattle.sound.specs.Formula.{Clause, dropped, standing, literalsIn, graph}
 use Rattle.sound.specs.Kept.{Shaped}
 use Rattle.demand.specs.Core as core
@@ -26,25 +27,13 @@ use Rattle.demand.specs.Moves.{Owned}
 use Rattle.represented.specs.Represented.{clauseOf, Represented}
 use Rattle.represented.proofs.Literals.{class-is}
 use Rattle.represented.proofs.Propagated.{literalsAt, mem-map, mem-at}
-use Rattle.represented.proofs.Standing.{mem-number, clause-stands}
+use Rattle.represented.proofs.Standing.{clause-stands}
 
 -- a class literal of a literal whose variable is its own class is that literal
 pub own-literal : (w : List ℤ) (l : ℤ) → 0 < natAbs l → classOf w (natAbs l) ≡ pos (natAbs l) → classLiteral w l ≡ l
 own-literal w (pos zero) h e = absurd (omega arith)
 own-literal w (pos (suc n)) h e = e
 own-literal w (negsuc n) h e = ap negℤ e
-
--- no variable twice, on slots
-fit-once : (C : List ℤ) → ((k : ℕ) → k < length C → 0 < natAbs (getD C k (pos 0))) → ((k : ℕ) → k < length C → (j : ℕ) → j < k → natAbs (getD C j (pos 0)) ≡ natAbs (getD C k (pos 0)) → ⊥) → Once (map slotOf C)
-fit-once [] real once = empty
-fit-once (x ∷ C) real once =
-    more
-    (λ s m e.
-    let r = mem-map C m in
-    let j = mem-at C (r .1) in
-    once (suc (j .0)) (omega (arith, j .1)) 0 (omega arith)
-    (slot-variable x (real 0 (omega arith)) ∙ ap (λ (k : ℕ). k + 1) (sym e ∙ ap (λ (k : ℕ). k / 2) (r .2 ∙ ap slotOf (j .2))) ∙ sym (slot-variable (getD C (j .0) (pos 0)) (real (suc (j .0)) (omega (arith, j .1))))))
-    (fit-once C (λ k h. real (suc k) (omega (arith, h))) (λ k h j lt. once (suc k) (omega (arith, h)) (suc j) (omega (arith, lt))))
 
 -- the clauses, one by one
 same-slots : (c : List ℕ) (l : List ℤ) (f : List Clause) (m i : ℕ) → length f ≡ m → ((j : ℕ) → j < m → literalsIn (getD f j dropped) ≡ slotsAt c l (i + j)) → map literalsIn f ≡ slotsFrom c l m i
@@ -61,7 +50,7 @@ module _ {v n sl : ℕ} {t : Tables} {k : core.Core} (F : Formed v n sl false (t
   -- a standing clause is that of a record
   pub clause-number : {C : List ℕ} → List·Memᴰ (standing C) (k .clauses) → (i : ℕ) × (i < n) × (map slotOf (literalsAt t i) ≡ C)
   clause-number m =
-      let r = mem-number (k .clauses) m in
+      let r = mem-getD (k .clauses) dropped m in
       let lt : r .0 < n = omega (arith, r .1, R .number) in
       (r .0, lt, clause-stands (t .clauses) (t .literals) (r .0) (sym (R .clauses (r .0) lt) ∙ r .2) .1)
 
@@ -75,7 +64,7 @@ module _ {v n sl : ℕ} {t : Tables} {k : core.Core} (F : Formed v n sl false (t
     once = λ C m.
         let r = clause-number m in
         let fit = clause-fits F (r .0) (r .1) in
-        subst Once (r .2) (fit-once (literalsAt t (r .0)) (λ j h. fit .ranged j h .above) (fit .once));
+        subst Once (r .2) (once-slots (literalsAt t (r .0)) (λ j h. fit .ranged j h .above) (fit .once));
   }
 
   -- the graph of the formula is that of the tables

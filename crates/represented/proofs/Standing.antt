@@ -5,7 +5,7 @@ use native.Mathlib.Nat.{add-zero}
 use mathlib.Core.Path.{_≡_, refl, sym, ap, _∙_}
 use mathlib.Core.Bool.{Bool, true, false, not, _||_}
 use mathlib.Core.Logic.{_⊎_, ⊎-elim}
-use mathlib.Core.List.{List, [], _∷_, map, List·Memᴰ, List·Memᴰ·head, List·Memᴰ·tail, List·Memᴰ·not-nil, List·Memᴰ·cases-cons}
+use mathlib.Core.List.{List, [], _∷_, map, List·Memᴰ, List·Memᴰ·head, List·Memᴰ·tail, List·Memᴰ·not-nil, List·Memᴰ·cases-cons, Memᴰ·map}
 use lib.ListN.{length, getD}
 use lib.IntN.{ℤ, pos, negsuc, negℤ, natAbs, negℤ-negℤ}
 use native.Mathlib.Numerals.{add-one}
@@ -25,7 +25,7 @@ use Rattle.sound.specs.Formula.{Clause, dropped, standing, value, Sat}
 use Rattle.sound.proofs.Truth.{value-slot}
 use Rattle.demand.specs.Core as core
 use Rattle.represented.specs.Represented.{clauseOf, Represented, clausesOf, coreOf}
-use Rattle.represented.proofs.Propagated.{mem-map, map-mem}
+use Rattle.represented.proofs.Propagated.{mem-map}
 
 -- ---- every table is represented
 
@@ -77,21 +77,12 @@ pub record Real (C : List ℤ) : Type 0 where
   pub each : (l : ℤ) → List·Memᴰ l C → 0 < natAbs l
 
 pub sat-slots : (τ : Assignment) (C : List ℤ) → Real C → someHolds τ C ≡ true → Sat τ (map slotOf C)
-sat-slots τ C real h = let r = holds-some τ C h in (slotOf (r .0), map-mem C (r .1), value-slot τ (r .0) (real .each (r .0) (r .1)) ∙ r .2)
+sat-slots τ C real h = let r = holds-some τ C h in (slotOf (r .0), Memᴰ·map slotOf (r .1), value-slot τ (r .0) (real .each (r .0) (r .1)) ∙ r .2)
 
 pub slots-sat : (τ : Assignment) (C : List ℤ) → Real C → Sat τ (map slotOf C) → someHolds τ C ≡ true
 slots-sat τ C real s = let r = mem-map C (s .1) in some-holds τ C (r .1) (sym (value-slot τ (r .0) (real .each (r .0) (r .1))) ∙ ap (value τ) (sym (r .2)) ∙ s .2)
 
 -- ---- a clause by its number
-
-pub mem-number : (f : List Clause) {c : Clause} → List·Memᴰ c f → (i : ℕ) × (i < length f) × (getD f i dropped ≡ c)
-mem-number [] m = absurd (List·Memᴰ·not-nil m)
-mem-number (x ∷ f) {c} m = ⊎-elim (λ (e : c ≡ x). (0, omega arith, sym e)) (λ r. let k = mem-number f r in (suc (k .0), omega (arith, k .1), k .2)) (List·Memᴰ·cases-cons m)
-
-pub number-mem : (f : List Clause) (i : ℕ) → i < length f → List·Memᴰ (getD f i dropped) f
-number-mem [] i h = absurd (omega arith)
-number-mem (x ∷ f) zero h = List·Memᴰ·head refl
-number-mem (x ∷ f) (suc i) h = List·Memᴰ·tail (number-mem f i (omega arith))
 
 -- a clause that stands has the flag and its literals
 pub clause-stands : (c : List ℕ) (l : List ℤ) (i : ℕ) {D : List ℕ} → clauseOf c l i ≡ standing D → (T.standing c i ≡ 0 → ⊥) × (map slotOf (literalsOf c l i) ≡ D)

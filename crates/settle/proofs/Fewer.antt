@@ -9,7 +9,7 @@ use mathlib.Core.List.{List}
 use lib.IntN.{ℤ, pos, natAbs}
 use Rattle.base.specs.Decide.{same-or, le-or}
 use Rattle.literal.specs.Literals.{slotOf, twin}
-use Rattle.literal.proofs.Laws.{slot-below}
+use Rattle.literal.proofs.Laws.{slot-below, slot-variable}
 use Rattle.literal.proofs.Twins.{twin-even, twin-odd}
 use Rattle.walk.specs.Forest.{Reach, here}
 use Rattle.literal.proofs.Twins.{twin-variable}
@@ -23,7 +23,7 @@ use Rattle.clauses.proofs.Keeping.{FormedTo}
 use Rattle.pairs.proofs.Listing.{formed-listed, slots-in}
 use Rattle.merge.specs.Merge.{edgesOf, clashes, representative, regrouped}
 use Rattle.merge.proofs.Opening.{none-clash}
-use Rattle.merge.proofs.Merged.{slot-variable, edges-skew, edges-least, moved-own, variable-new}
+use Rattle.merge.proofs.Merged.{edges-skew, edges-least, moved-own, variable-new}
 use Rattle.settle.specs.Settle.{Standing, merged, grouped}
 use Rattle.settle.specs.Own.{owns}
 use Rattle.settle.specs.Steps.{standingIn}

@@ -29,7 +29,7 @@ use Rattle.stamping.specs.Stamping.{Holding, Columned, Walkable, Finishe
 -- ---- tables that keep the shape rule
 
 -- no variable twice among the literals: none among their slots
-once-slots : (C : List ℤ) → ((k : ℕ) → k < length C → 0 < natAbs (getD C k (pos 0)))
+pub once-slots : (C : List ℤ) → ((k : ℕ) → k < length C → 0 < natAbs (getD C k (pos 0)))
     → ((k : ℕ) → k < length C → (j : ℕ) → j < k → natAbs (getD C j (pos 0)) ≡ natAbs (getD C k (pos 0)) → ⊥) → Once (map slotOf C)
 once-slots [] above apart = empty
 once-slots (x ∷ C) above apart =
