@@ -4,6 +4,7 @@
 
 mod calls;
 mod damage;
+mod far;
 mod forest;
 mod formulas;
 mod limits;

@@ -44,15 +44,17 @@ impl Random {
         }
     }
 
-    /// A number of visits: often small, sometimes as large as allowed.
+    /// A number of visits: often small, sometimes as large as allowed, and
+    /// sometimes as many as go through the clauses several times.
     pub fn steps(&mut self, clauses: usize) -> usize {
-        match self.below(10) {
+        match self.below(12) {
             0 => 0,
             1 | 2 => 1,
             3 | 4 => self.between(1, 4),
             5 | 6 => self.between(0, clauses + 1),
             7 => clauses,
             8 => self.between(0, 65_535),
+            9 | 10 => self.between(0, (clauses * clauses).min(65_535)),
             _ => 65_535,
         }
     }

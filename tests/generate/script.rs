@@ -2,6 +2,7 @@
 
 use crate::calls::{any, fitting, line, Call};
 use crate::damage;
+use crate::far;
 use crate::formulas::{draft, odd_text, plain_text, Draft};
 use crate::limits;
 use crate::lists;
@@ -256,6 +257,9 @@ impl Script {
     /// A formula, mostly a small one.
     fn draft(&mut self) -> Draft {
         let random = &mut self.random;
+        if random.once_in(4) {
+            return far::draft(random);
+        }
         let variables = match random.below(200) {
             0 => random.between(100, 400),
             1..=9 => random.between(13, 60),

@@ -5,7 +5,7 @@ use mathlib.Core.Path.{_≡_, refl, sym, ap, subst, _∙_}
 use mathlib.Core.Bool.{Bool, true, false, not}
 use mathlib.Core.List.{List, [], _∷_, _++_}
 use lib.ListN.{length, take, getD, set, replicate}
-use lib.IntN.{ℤ, pos}
+use lib.IntN.{ℤ, pos, natAbs}
 use Rattle.base.specs.Lists.{any, filter}
 use Rattle.tables.specs.Values.{isTrue, isFalse, setTrue}
 use Rattle.tables.specs.Fates.{Fate, left, dropped, unit, conflict}
@@ -96,10 +96,10 @@ module _ (w p q : List ℤ) where
     pub part-room : r ≡ 1 → 0 < length q
     part-room o = subst (λ (C : List ℤ). 0 < length C) (sym (one-left o)) (omega arith)
 
-    pub part-unit : (w′ : List ℤ) → r ≡ 1 → w′ ≡ setTrue w (getD q 0 (pos 0)) → partOf Unit1 (set q 0 (pos 0)) w′ ≡ partAfter (propagateClause w p) p w
-    part-unit w′ o s =
+    pub part-unit : (w′ : List ℤ) → r ≡ 1 → w′ ≡ setTrue w (getD q 0 (pos 0)) → (u : ℕ) → u ≡ natAbs (getD q 0 (pos 0)) → partOf (Unit1 u) (set q 0 (pos 0)) w′ ≡ partAfter (propagateClause w p) p w
+    part-unit w′ o s u su =
         let L = left-one w p e (sym count ∙ o) in
-        (λ i. partOf Unit1 (emptied i) ((s ∙ ap (setTrue w) (unit-is o)) i)) ∙ ap (λ (f : Fate). partAfter f p w) (sym (L .1))
+        (λ i. partOf (Unit1 ((su ∙ ap natAbs (unit-is o)) i)) (emptied i) ((s ∙ ap (setTrue w) (unit-is o)) i)) ∙ ap (λ (f : Fate). partAfter f p w) (sym (L .1))
       where
         emptied : set q 0 (pos 0) ≡ holding [] p
         emptied =

@@ -16,8 +16,6 @@ use Rattle.propagate.specs.Propagate.{Progress, going, settled, contradi
 use Rattle.propagate.specs.Visits.{visitedAs, Visit, visitOf, visitAt, Visitable}
 use Rattle.propagate.specs.Steps.{progressOf, standAfter, Ready}
 use Rattle.propagate.specs.declared.Visited.{Visited}
-use Rattle.propagate.specs.declared.Stand.{Stand}
-use Rattle.propagate.specs.declared.Stand.the-variants.{Going, Settled, Contradicted}
 use Rattle.clauses.proofs.Keeping.{FormedIn}
 use Rattle.propagate.proofs.Keeping.{formed-visit, formed-conflict, conflict-stands}
 
@@ -55,11 +53,6 @@ visit-stands n k changed t r t′ e =
 
 pub ready-visitable : {n k : ℕ} {c : List ℕ} {l w : List ℤ} → Ready n k c l w → Visitable k c l w
 ready-visitable {n} R = record { vars = R .vars; number = n; formed = R .formed; below = R .below }
-
--- by the answer that an arm of the code has, and the place after it
-pub visit-onward : (n k : ℕ) (changed : Bool) (t : Tables) (r : Visited) (t′ : Tables) → visitOf r t′ ≡ visitAt k t → (x : Visited) → r ≡ x → (s : Stand) → progressOf s t′ ≡ standAfter n k changed (lengthOf (t .clauses) k) x t′
-    → progressOf s t′ ≡ propagateVisit n k changed t
-visit-onward n k changed t r t′ e x is s h = h ∙ ap (λ (y : Visited). standAfter n k changed (lengthOf (t .clauses) k) y t′) (sym is) ∙ visit-stands n k changed t r t′ e
 
 -- ---- wherever the pass stands, the tables are formed
 
@@ -114,42 +107,6 @@ making-none {n} {k} {c} {l} {w} R steps changed = record {
   sizes = (refl, (refl, refl));
   left = λ times links. ap (λ (m : ℕ). propagateVisits n m 0 (going k changed (tables c l w times links))) (let e : steps - 0 ≡ steps = omega arith in e);
 }
-
-module _ {n steps made k : ℕ} {changed : Bool} {k₀ : ℕ} {changed₀ : Bool} {c₀ : List ℕ} {l₀ w₀ : List ℤ} {c : List ℕ} {l w : List ℤ}
-    (M : Making n steps made k changed k₀ changed₀ c₀ l₀ w₀ c l w) (more : made < steps) (r : Stand) (c′ : List ℕ) (l′ w′ : List ℤ)
-    (one : (times : List ℕ) (links : List ℤ) → progressOf r (tables c′ l′ w′ times links) ≡ propagateVisit n k changed (tables c l w times links)) where
-  -- one visit off the number that is left
-  visit-off : (times : List ℕ) (links : List ℤ) → propagateVisits n (steps - (made + 1)) (made + 1) (progressOf r (tables c′ l′ w′ times links)) ≡ propagateVisits n steps 0 (going k₀ changed₀ (tables c₀ l₀ w₀ times links))
-  unfolding propagateVisits
-  visit-off times links =
-      ap (propagateVisits n (steps - (made + 1)) (made + 1)) (one times links)
-      ∙ ap (λ (m : ℕ). propagateVisits n (steps - (made + 1)) m (propagateVisit n k changed (tables c l w times links))) (add-one made)
-      ∙ ap (λ (m : ℕ). propagateVisits n m made (going k changed (tables c l w times links))) (let e : suc (steps - (made + 1)) ≡ steps - made = omega arith in e)
-      ∙ M .left times links
-
-  pub making-goes : (k′ : ℕ) (changed′ : Bool) → r ≡ Going k′ changed′ → length c′ ≡ length c → length l′ ≡ length l → length w′ ≡ length w → Making n steps (made + 1) k′ changed′ k₀ changed₀ c₀ l₀ w₀ c′ l′ w′
-  making-goes k′ changed′ e lc ll lw = record {
-    within = omega arith;
-    sizes = (lc ∙ M .sizes .0, (ll ∙ M .sizes .1 .0, lw ∙ M .sizes .1 .1));
-    ready = record { vars = M .ready .vars; formed = next .0; below = next .1 };
-    left = λ times links. ap (λ (x : Stand). propagateVisits n (steps - (made + 1)) (made + 1) (progressOf x (tables c′ l′ w′ times links))) (sym e) ∙ visit-off times links;
-  }
-    where
-      next : FormedIn (M .ready .vars) n (tables c′ l′ w′ [] []) × (k′ < n)
-      next =
-          subst (Good (M .ready .vars) n) (sym (one [] []) ∙ ap (λ (x : Stand). progressOf x (tables c′ l′ w′ [] [])) e)
-          (visit-good (M .ready .vars) n k changed (tables c l w [] []) (M .ready .formed) (M .ready .below))
-
-  pub making-ends : (x : Stand) → r ≡ x → ((k′ : ℕ) (b : Bool) → x ≡ Going k′ b → ⊥) → (times : List ℕ) (links : List ℤ)
-      → reached (made + 1) (progressOf x (tables c′ l′ w′ times links)) ≡ propagateVisits n steps 0 (going k₀ changed₀ (tables c₀ l₀ w₀ times links))
-  unfolding propagateVisits
-  making-ends x e d times links = ended (steps - (made + 1)) x d ∙ ap (λ (y : Stand). propagateVisits n (steps - (made + 1)) (made + 1) (progressOf y (tables c′ l′ w′ times links))) (sym e) ∙ visit-off times links
-    where
-      ended : (m : ℕ) (x : Stand) → ((k′ : ℕ) (b : Bool) → x ≡ Going k′ b → ⊥) → reached (made + 1) (progressOf x (tables c′ l′ w′ times links)) ≡ propagateVisits n m (made + 1) (progressOf x (tables c′ l′ w′ times links))
-      ended zero x d = refl
-      ended (suc m) (Going k′ b) d = absurd (d k′ b refl)
-      ended (suc m) Settled d = refl
-      ended (suc m) Contradicted d = refl
 
 -- no visit is left in this call
 pub making-done : {n steps made k : ℕ} {changed : Bool} {k₀ : ℕ} {changed₀ : Bool} {c₀ : List ℕ} {l₀ w₀ : List ℤ} {c : List ℕ} {l w : List ℤ}

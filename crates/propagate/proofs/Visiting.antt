@@ -3,7 +3,7 @@ use Prim.Native.Nat.{ℕ, _+_, _*_, _≤_}
 use mathlib.Core.Path.{_≡_, sym, ap, _∙_}
 use mathlib.Core.List.{List, []}
 use lib.ListN.{length, set}
-use lib.IntN.{ℤ}
+use lib.IntN.{ℤ, natAbs}
 use Rattle.tables.specs.Tables.{Tables, tables, startOf, lengthOf, standing}
 use Rattle.tables.specs.Values.{setTrue}
 use Rattle.tables.specs.Clauses.{literalsOf}
@@ -36,7 +36,7 @@ module _ (k : ℕ) (c : List ℕ) (l w : List ℤ) (times : List ℕ) (links : L
   fated kept = ap (λ (x : List ℤ). visitOf Kept (tables c x w times links)) (put-same k c l inside)
   fated (left C) = ap (λ (x : List ℤ). visitOf (Left (length C)) (tables (set c (3 * k + 1) (length C)) x w times links)) (put-holding k c l inside C)
   fated dropped = ap (λ (x : List ℤ). visitOf Dropped (tables (recordAfter k Dropped c) x w times links)) (put-holding k c l inside [])
-  fated (unit u) = ap (λ (x : List ℤ). visitOf Unit1 (tables (recordAfter k Unit1 c) x (setTrue w u) times links)) (put-holding k c l inside [])
+  fated (unit u) = ap (λ (x : List ℤ). visitOf (Unit1 (natAbs u)) (tables (recordAfter k (Unit1 (natAbs u)) c) x (setTrue w u) times links)) (put-holding k c l inside [])
   fated conflict = ap (λ (x : List ℤ). visitOf Conflict (tables (recordAfter k Conflict c) x w times links)) (put-holding k c l inside [])
 
   -- what the calls of a visit have shown is the visit

@@ -1,3 +1,4 @@
 pub mod Propagate
 pub mod Visits
 pub mod Steps
+pub mod Listed

@@ -34,7 +34,7 @@ abbrev pub standAfter : ℕ → ℕ → Bool → ℕ → Visited → Tables → 
 standAfter n k changed size Kept t = onward n (suc k) changed t
 standAfter n k changed size (Left m) t = onward n (suc k) (changed || ltb m size) t
 standAfter n k changed size Dropped t = onward n (suc k) true t
-standAfter n k changed size Unit1 t = onward n (suc k) true t
+standAfter n k changed size (Unit1 w) t = onward n (suc k) true t
 standAfter n k changed size Conflict t = contradicted t
 
 -- a pass that stands before clause k of n

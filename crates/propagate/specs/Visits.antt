@@ -3,7 +3,7 @@ use Prim.Native.Nat.{ℕ, _+_, _*_, _<_}
 use mathlib.Core.Bool.{false}
 use mathlib.Core.List.{List, []}
 use lib.ListN.{length, set}
-use lib.IntN.{ℤ}
+use lib.IntN.{ℤ, natAbs}
 use Rattle.tables.specs.Tables.{Tables}
 use Rattle.tables.specs.Values.{setTrue}
 use Rattle.tables.specs.Fates.{Fate, kept, left, dropped, unit, conflict, store, fateAt}
@@ -18,7 +18,7 @@ abbrev pub visitedAs : Fate → Visited
 visitedAs kept = Kept
 visitedAs (left C) = Left (length C)
 visitedAs dropped = Dropped
-visitedAs (unit l) = Unit1
+visitedAs (unit l) = Unit1 (natAbs l)
 visitedAs conflict = Conflict
 
 -- the part of a clause and the variable table after its fate
@@ -34,7 +34,7 @@ abbrev pub partAfter : Fate → List ℤ → List ℤ → Part
 partAfter kept part w = partOf Kept part w
 partAfter (left C) part w = partOf (Left (length C)) (holding C part) w
 partAfter dropped part w = partOf Dropped (holding [] part) w
-partAfter (unit l) part w = partOf Unit1 (holding [] part) (setTrue w l)
+partAfter (unit l) part w = partOf (Unit1 (natAbs l)) (holding [] part) (setTrue w l)
 partAfter conflict part w = partOf Conflict (holding [] part) w
 
 -- clause k of tables without the mark, in which no Merge is open
@@ -49,7 +49,7 @@ abbrev pub recordAfter : ℕ → Visited → List ℕ → List ℕ
 recordAfter k Kept c = c
 recordAfter k (Left n) c = set c (3 * k + 1) n
 recordAfter k Dropped c = set (set c (3 * k + 1) 0) (3 * k + 2) 0
-recordAfter k Unit1 c = set (set c (3 * k + 1) 0) (3 * k + 2) 0
+recordAfter k (Unit1 w) c = set (set c (3 * k + 1) 0) (3 * k + 2) 0
 recordAfter k Conflict c = set c (3 * k + 1) 0
 
 -- a visit to clause k: what it makes of the clause, and the tables after it

@@ -15,18 +15,21 @@ ghost use Rattle.tables.specs.Values.{isTrue};
 ghost use Rattle.clauses.specs.Formed.{EachKnown, Formed};
 ghost use Rattle.propagate.specs.Propagate.{notFalse, propagateClause, going, onward, propagateVisit, propagateVisits, begin, resumed, propagateFrom, propagateCall};
 ghost use Rattle.propagate.specs.Visits.{partOf, partAfter, recordAfter, visitOf, visitAt, Visitable};
-ghost use Rattle.propagate.specs.Steps.{progressOf, reachedAs, repliedWith, Ready, Resumable};
+ghost use Rattle.propagate.specs.Steps.{progressOf, standAfter, reachedAs, repliedWith, Ready, Resumable};
+ghost use Rattle.propagate.specs.Listed.{Listed, Advanced};
+ghost use Rattle.propagate.specs.declared.Visited.the-variants.{Conflict};
+ghost use Rattle.propagate.specs.declared.Stand.the-variants.{Contradicted};
 ghost use Rattle.tables.specs.Calls.{after};
 ghost use Rattle.tables.specs.Tables.{Tables, tables};
 ghost use mathlib.Core.List.{List, _++_};
 ghost use lib.IntN.{ℤ, pos};
 
-// What a visit makes of a clause: nothing changes; so many literals are left; it is dropped; it is dropped and its last literal made true; it stands empty.
+// What a visit makes of a clause: nothing changes; so many literals are left; it is dropped; it is dropped and its last literal, of this variable, made true; it stands empty.
 pub enum Visited {
     Kept,
     Left(u32),
     Dropped,
-    Unit1,
+    Unit1(u32),
     Conflict,
 }
 
@@ -96,7 +99,7 @@ fn visit_part(part: &mut [i32], variables: &mut [i32]) -> Visited
         let l = part[0];
         clauses::set_true(variables, l);
         part[0] = 0;
-        return Visited::Unit1;
+        return Visited::Unit1(literal::var_of(l) as u32);
     }
     Visited::Left(n as u32)
 }
@@ -115,7 +118,7 @@ fn put_record(clauses: &mut [u32], k: usize, seen: Visited)
             clauses[3 * k + 1] = 0;
             clauses[3 * k + 2] = 0;
         }
-        Visited::Unit1 => {
+        Visited::Unit1(_) => {
             clauses[3 * k + 1] = 0;
             clauses[3 * k + 2] = 0;
         }
@@ -160,6 +163,20 @@ fn onward(n: u32, k: u32, changed: bool) -> Stand
     Stand::Settled
 }
 
+// Where the pass stands after a visit to clause k, which had `size` literals.
+fn stand_after(n: u32, k: u32, changed: bool, size: u32, seen: Visited) -> Stand
+    requires { ⌜ (k < n) × (n ≤ 4096) ⌝ }
+    ensures { λ r. ⌜ ((t : Tables) → progressOf r t ≡ standAfter n k changed size seen t) ⌝ }
+{
+    match seen {
+        Visited::Kept => onward(n, k + 1, changed),
+        Visited::Left(m) => onward(n, k + 1, base::either(changed, m < size)),
+        Visited::Dropped => onward(n, k + 1, true),
+        Visited::Unit1(_) => onward(n, k + 1, true),
+        Visited::Conflict => Stand::Contradicted,
+    }
+}
+
 // One visit, and where the pass stands after it.
 fn step(
     clauses: &mut [u32],
@@ -176,16 +193,208 @@ fn step(
     let at = k as usize;
     let size = clauses[3 * at + 1];
     let seen = visit_clause(clauses, literals, variables, at);
-    match seen {
-        Visited::Kept => onward(n, k + 1, changed),
-        Visited::Left(m) => onward(n, k + 1, base::either(changed, m < size)),
-        Visited::Dropped => onward(n, k + 1, true),
-        Visited::Unit1 => onward(n, k + 1, true),
-        Visited::Conflict => Stand::Contradicted,
+    stand_after(n, k, changed, size, seen)
+}
+
+// As many visits as `steps` says, or as the pass has left, from clause `cursor` on: one after the other.
+fn visit_each(
+    clauses: &mut [u32],
+    literals: &mut [i32],
+    variables: &mut [i32],
+    n: u32,
+    steps: u32,
+    cursor: u32,
+    flag: bool,
+) -> Reach
+    requires { ⌜ Ready n cursor (now clauses) (now literals) (now variables) ⌝ }
+    ensures { λ r. ⌜ ((times : List ℕ) (links : List ℤ) → reachedAs r (tables (now (clauses .exit)) (now (literals .exit)) (now (variables .exit)) times links)
+        ≡ propagateVisits n steps 0 (going cursor flag (tables (now (clauses .entry)) (now (literals .entry)) (now (variables .entry)) times links))) ⌝ }
+{
+    let mut visits: u32 = 0;
+    let mut k = cursor;
+    let mut changed = flag;
+    while visits < steps {
+        let stand = step(clauses, literals, variables, n, k, changed);
+        visits += 1;
+        let Stand::Going(next, still) = stand else {
+            return Reach { visits, stand };
+        };
+        k = next;
+        changed = still;
+    }
+    Reach {
+        visits,
+        stand: Stand::Going(k, changed),
     }
 }
 
-// As many visits as `steps` says, or as the pass has left, from clause `cursor` on.
+// A visit to a pending clause. It is pending no longer, and where its last literal is made true, the clauses in which that variable occurs become pending.
+fn visit_pending(
+    clauses: &mut [u32],
+    literals: &mut [i32],
+    variables: &mut [i32],
+    heads: &[u32],
+    places: &[u32],
+    pending: &mut [bool],
+    blocks: &mut [bool],
+    n: u32,
+    k: u32,
+) -> Visited
+    requires { ⌜ Ready n k (now clauses) (now literals) (now variables) ⌝ }
+    requires { ⌜ Listed n (now heads) (now places) (now pending) (now blocks) (now clauses) (now literals) (now variables) ⌝ }
+    ensures { λ r. ⌜ ((times : List ℕ) (links : List ℤ) → visitOf r (tables (now (clauses .exit)) (now (literals .exit)) (now (variables .exit)) times links)
+        ≡ visitAt k (tables (now (clauses .entry)) (now (literals .entry)) (now (variables .entry)) times links)) ⌝ }
+    ensures { λ r. ⌜ ((r ≡ Conflict → ⊥) → Listed n (now (heads .entry)) (now (places .entry)) (now (pending .exit)) (now (blocks .exit)) (now (clauses .exit)) (now (literals .exit)) (now (variables .exit))) ⌝ }
+{
+    let at = k as usize;
+    let seen = visit_clause(clauses, literals, variables, at);
+    pending[at] = false;
+    let Visited::Unit1(w) = seen else {
+        return seen;
+    };
+    occurrences::set_pending(heads, places, w as usize, pending, blocks);
+    seen
+}
+
+// Visits that change nothing, from clause k up to clause j, at most `room` of them: they only move the cursor.
+fn skip(n: u32, room: u32, k: u32, j: u32, changed: bool) -> Reach
+    requires { ⌜ (k < n) × ((k < j) × (0 < room)) ⌝ }
+    ensures { λ r. ⌜ (0 < r .visits) × ((r .visits ≤ room) × ((k + r .visits ≤ n) × (k + r .visits ≤ j))) ⌝ }
+    ensures { λ r. ⌜ ((t : Tables) → progressOf (r .stand) t ≡ onward n (k + r .visits) changed t) ⌝ }
+{
+    let end = clauses::fewer(j, n);
+    let visits = clauses::fewer(end - k, room);
+    let stand = onward(n, k + visits, changed);
+    Reach { visits, stand }
+}
+
+// The visits up to the next pending clause, or the visit to it.
+fn skip_or_visit(
+    clauses: &mut [u32],
+    literals: &mut [i32],
+    variables: &mut [i32],
+    heads: &[u32],
+    places: &[u32],
+    pending: &mut [bool],
+    blocks: &mut [bool],
+    n: u32,
+    room: u32,
+    k: u32,
+    changed: bool,
+) -> Reach
+    requires { ⌜ Ready n k (now clauses) (now literals) (now variables) ⌝ }
+    requires { ⌜ Listed n (now heads) (now places) (now pending) (now blocks) (now clauses) (now literals) (now variables) ⌝ }
+    requires { ⌜ 0 < room ⌝ }
+    ensures { λ r. ⌜ Advanced n room k changed r (now (clauses .entry)) (now (literals .entry)) (now (variables .entry)) (now (clauses .exit)) (now (literals .exit)) (now (variables .exit)) ⌝ }
+    ensures { λ r. ⌜ ((r .stand ≡ Contradicted → ⊥) → Listed n (now (heads .entry)) (now (places .entry)) (now (pending .exit)) (now (blocks .exit)) (now (clauses .exit)) (now (literals .exit)) (now (variables .exit))) ⌝ }
+{
+    let at = k as usize;
+    let j = occurrences::next_pending(pending, blocks, at);
+    if at < j {
+        return skip(n, room, k, j as u32, changed);
+    }
+    let size = clauses[3 * at + 1];
+    let seen = visit_pending(
+        clauses,
+        literals,
+        variables,
+        heads,
+        places,
+        pending,
+        blocks,
+        n,
+        k,
+    );
+    let stand = stand_after(n, k, changed, size, seen);
+    Reach { visits: 1, stand }
+}
+
+// The visits of `visit_some`; clauses that are not pending are skipped.
+fn visit_skipping(
+    clauses: &mut [u32],
+    literals: &mut [i32],
+    variables: &mut [i32],
+    heads: &[u32],
+    places: &[u32],
+    pending: &mut [bool],
+    blocks: &mut [bool],
+    n: u32,
+    steps: u32,
+    cursor: u32,
+    flag: bool,
+) -> Reach
+    requires { ⌜ Ready n cursor (now clauses) (now literals) (now variables) ⌝ }
+    requires { ⌜ Listed n (now heads) (now places) (now pending) (now blocks) (now clauses) (now literals) (now variables) ⌝ }
+    ensures { λ r. ⌜ ((times : List ℕ) (links : List ℤ) → reachedAs r (tables (now (clauses .exit)) (now (literals .exit)) (now (variables .exit)) times links)
+        ≡ propagateVisits n steps 0 (going cursor flag (tables (now (clauses .entry)) (now (literals .entry)) (now (variables .entry)) times links))) ⌝ }
+{
+    let mut visits: u32 = 0;
+    let mut k = cursor;
+    let mut changed = flag;
+    while visits < steps {
+        let room = steps - visits;
+        let reach = skip_or_visit(
+            clauses,
+            literals,
+            variables,
+            heads,
+            places,
+            pending,
+            blocks,
+            n,
+            room,
+            k,
+            changed,
+        );
+        visits += reach.visits;
+        let stand = reach.stand;
+        let Stand::Going(next, still) = stand else {
+            return Reach { visits, stand };
+        };
+        k = next;
+        changed = still;
+    }
+    Reach {
+        visits,
+        stand: Stand::Going(k, changed),
+    }
+}
+
+// The same, with the occurrences listed and every clause pending first.
+fn visit_listed(
+    clauses: &mut [u32],
+    literals: &mut [i32],
+    variables: &mut [i32],
+    n: u32,
+    steps: u32,
+    cursor: u32,
+    flag: bool,
+) -> Reach
+    requires { ⌜ Ready n cursor (now clauses) (now literals) (now variables) ⌝ }
+    ensures { λ r. ⌜ ((times : List ℕ) (links : List ℤ) → reachedAs r (tables (now (clauses .exit)) (now (literals .exit)) (now (variables .exit)) times links)
+        ≡ propagateVisits n steps 0 (going cursor flag (tables (now (clauses .entry)) (now (literals .entry)) (now (variables .entry)) times links))) ⌝ }
+{
+    let mut heads = [0u32; 1025];
+    let mut places = [0u32; 32768];
+    let mut pending = [true; 4096];
+    let mut blocks = [true; 64];
+    occurrences::link(clauses, literals, n, &mut heads, &mut places);
+    visit_skipping(
+        clauses,
+        literals,
+        variables,
+        &heads,
+        &places,
+        &mut pending,
+        &mut blocks,
+        n,
+        steps,
+        cursor,
+        flag,
+    )
+}
+
+// As many visits as `steps` says, or as the pass has left, from clause `cursor` on. A pass that goes through the clauses more than a few times skips the visits that change nothing from then on.
 pub fn visit_some(
     clauses: &mut [u32],
     literals: &mut [i32],
@@ -199,34 +408,20 @@ pub fn visit_some(
     ensures { λ r. ⌜ ((times : List ℕ) (links : List ℤ) → reachedAs r (tables (now (clauses .exit)) (now (literals .exit)) (now (variables .exit)) times links)
         ≡ propagateVisits n steps 0 (going cursor flag (tables (now (clauses .entry)) (now (literals .entry)) (now (variables .entry)) times links))) ⌝ }
 {
-    let mut made: u32 = 0;
-    let mut k = cursor;
-    let mut changed = flag;
-    while made < steps {
-        let stand = step(clauses, literals, variables, n, k, changed);
-        made += 1;
-        match stand {
-            Stand::Going(next, still) => {
-                k = next;
-                changed = still;
-            }
-            Stand::Settled => {
-                return Reach {
-                    visits: made,
-                    stand: Stand::Settled,
-                };
-            }
-            Stand::Contradicted => {
-                return Reach {
-                    visits: made,
-                    stand: Stand::Contradicted,
-                };
-            }
-        }
+    let first = clauses::fewer(4 * n, steps);
+    let reach = visit_each(clauses, literals, variables, n, first, cursor, flag);
+    let stand = reach.stand;
+    let Stand::Going(k, changed) = stand else {
+        return reach;
+    };
+    if first == steps {
+        return reach;
     }
+    let more = visit_listed(clauses, literals, variables, n, steps - first, k, changed);
+    let stand = more.stand;
     Reach {
-        visits: made,
-        stand: Stand::Going(k, changed),
+        visits: reach.visits + more.visits,
+        stand,
     }
 }
 

@@ -1,5 +1,4 @@
 pub mod Measure
-pub mod Unvalued
 pub mod Visit
 pub mod Ending
 pub mod Whole

@@ -15,7 +15,7 @@ use Rattle.tables.specs.Fates.{Fate, left, dropped}
 use Rattle.clauses.specs.Formed.{FitClause}
 use Rattle.clauses.proofs.Fitting.{fit-head, fit-tail}
 use Rattle.merge.specs.Merge.{mergeClause}
-use Rattle.settle.proofs.Unvalued.{own-literal}
+use Rattle.propagate.proofs.Unvalued.{own-literal}
 
 -- ---- literals of other variables
 

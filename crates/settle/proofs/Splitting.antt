@@ -14,39 +14,11 @@ use Rattle.shape.specs.Decision.{shape-agrees}
 use Rattle.shape.specs.Entry.{passNumber, entryOf}
 use Rattle.shape.specs.declared.Entry.the-variants.{Opens, Resumes}
 use Rattle.shape.proofs.Entering.{entry-idle, entry-own}
-use Rattle.propagate.specs.Propagate.{Progress, going, settled, contradicted, begin, propagateVisit, propagateVisits, Reached, reached, replied, propagateFrom, propagateCall}
+use Rattle.propagate.specs.Propagate.{Progress, going, settled, contradicted, begin, propagateVisits, Reached, reached, replied, propagateFrom, propagateCall}
+use Rattle.propagate.proofs.Splitting.{settled-stays, contradicted-stays, visits-split, made-free}
 use Rattle.propagate.proofs.Calling.{call-opens, call-resumes}
 use Rattle.propagate.proofs.Shaped.{propagate-shaped}
 use Rattle.settle.specs.Settle.{Standing, between, enough, propagated}
-
--- ---- visits
-
-settled-stays : (n m made : ℕ) (t : Tables) → propagateVisits n m made (settled t) ≡ reached made (settled t)
-unfolding propagateVisits
-settled-stays n zero made t = refl
-settled-stays n (suc m) made t = refl
-
-contradicted-stays : (n m made : ℕ) (t : Tables) → propagateVisits n m made (contradicted t) ≡ reached made (contradicted t)
-unfolding propagateVisits
-contradicted-stays n zero made t = refl
-contradicted-stays n (suc m) made t = refl
-
--- a visits and then b visits are a + b visits
-pub visits-split : (n a b made : ℕ) (p : Progress) → propagateVisits n (a + b) made p ≡ propagateVisits n b (propagateVisits n a made p .visits) (propagateVisits n a made p .progress)
-unfolding propagateVisits
-visits-split n zero b made p = ap (λ (m : ℕ). propagateVisits n m made p) (let e : 0 + b ≡ b = omega arith in e)
-visits-split n (suc a) b made (going k changed t) =
-    ap (λ (m : ℕ). propagateVisits n m made (going k changed t)) (let e : suc a + b ≡ suc (a + b) = omega arith in e) ∙ visits-split n a b (suc made) (propagateVisit n k changed t)
-visits-split n (suc a) b made (settled t) = settled-stays n (suc a + b) made t ∙ sym (settled-stays n b made t)
-visits-split n (suc a) b made (contradicted t) = contradicted-stays n (suc a + b) made t ∙ sym (contradicted-stays n b made t)
-
--- where the pass stands does not depend on the visits made before
-pub made-free : (n m made made′ : ℕ) (p : Progress) → propagateVisits n m made p .progress ≡ propagateVisits n m made′ p .progress
-unfolding propagateVisits
-made-free n zero made made′ p = refl
-made-free n (suc m) made made′ (going k changed t) = made-free n m (suc made) (suc made′) (propagateVisit n k changed t)
-made-free n (suc m) made made′ (settled t) = refl
-made-free n (suc m) made made′ (contradicted t) = refl
 
 -- ---- where a call stops
 

@@ -28,7 +28,7 @@ use Rattle.propagate.specs.Propagate.{Progress, contradicted, onward, visited, 
 use Rattle.propagate.proofs.Parting.{fate-true, fate-left}
 use Rattle.propagate.proofs.Keeping.{formed-visit, formed-conflict}
 use Rattle.settle.proofs.Measure.{total, total-after}
-use Rattle.settle.proofs.Unvalued.{Untouched, untouched}
+use Rattle.propagate.proofs.Unvalued.{Untouched, untouched}
 
 -- ---- what a visit leaves
 

@@ -8,16 +8,14 @@ pub struct Kind {
     pub name: &'static str,
     /// The clauses of a formula with about this many of them.
     pub make: fn(&mut Random, usize) -> (usize, Vec<Vec<i32>>),
-    /// Whether its instructions are to grow linearly.
-    pub linear: bool,
 }
 
 pub const KINDS: [Kind; 5] = [
-    Kind { name: "implications", make: implications, linear: true },
-    Kind { name: "transitive", make: transitive, linear: true },
-    Kind { name: "lots", make: lots, linear: true },
-    Kind { name: "rings", make: rings, linear: true },
-    Kind { name: "chain", make: chain, linear: false },
+    Kind { name: "implications", make: implications },
+    Kind { name: "transitive", make: transitive },
+    Kind { name: "lots", make: lots },
+    Kind { name: "rings", make: rings },
+    Kind { name: "chain", make: chain },
 ];
 
 /// Pairs and triples that a hidden assignment satisfies, three pairs to a triple.

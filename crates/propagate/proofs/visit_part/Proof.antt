@@ -8,6 +8,8 @@ use Rattle.base.specs.Lists.{any}
 use Rattle.literal.proofs.Signed.{read}
 use Rattle.tables.specs.Values.{isTrue}
 use Rattle.propagate.proofs.Parting.{part-dropped, part-conflict, part-unit, part-left, part-count, part-room, unit-known}
+use Rattle.literal.proofs.var_of.Reads as var-of-reads
+use Rattle.clauses.proofs.Known.{known-small}
 use borrow.Author.Needs.{needs}
 use Rattle.propagate.proofs.visit_part.Statement.{statement}
 use Rattle.propagate.proofs.visit_part.Tie as tie
@@ -62,6 +64,12 @@ set-true-requires c κs = rw (read (c .before .before .before .before .before .r
 slice-set-of-part : tie.Need-slice-set-of-part
 slice-set-of-part c = room (c .before .before .before .before)
 
+var-of-requires : tie.Need-var-of-requires
+var-of-requires c κs = rw (read (c .before .before .before .before .before .before .before .remove-false .last .0) 0 (c .before .before .before .l .given)) (known-small (unit-known (c .before .before .before .before .before .before .before .before .before .before .before .before .before .before .args .variables .now) (c .before .before .before .before .before .before .before .before .before .before .before .before .before .before .args .part .now) (c .before .before .before .before .before .before .before .remove-false .last .0) (c .before .before .before .before .before .before .before .remove-false .result) (untrue (c .before .before .before .before .before .before .before)) (c .before .before .before .before .before .before .before .remove-false .ensures .0) (c .before .before .before .before .before .before .before .remove-false .ensures .1) (c .before .before .before .before .if3 .taken) (c .before .before .before .before .before .before .before .before .before .before .before .before .before .before .pre .0)))
+
+cast-t25 : tie.Need-cast-t25
+cast-t25 c = let k = known-small (unit-known (c .before .before .before .before .before .before .before .before .before .before .before .before .before .before .before .args .variables .now) (c .before .before .before .before .before .before .before .before .before .before .before .before .before .before .before .args .part .now) (c .before .before .before .before .before .before .before .before .remove-false .last .0) (c .before .before .before .before .before .before .before .before .remove-false .result) (untrue (c .before .before .before .before .before .before .before .before)) (c .before .before .before .before .before .before .before .before .remove-false .ensures .0) (c .before .before .before .before .before .before .before .before .remove-false .ensures .1) (c .before .before .before .before .before .if3 .taken) (c .before .before .before .before .before .before .before .before .before .before .before .before .before .before .before .pre .0)) in omega (arith, k .small, rw (read (c .before .before .before .before .before .before .before .before .remove-false .last .0) 0 (c .before .before .before .before .l .given)) at (c .var-of .ensures))
+
 same-length-5 : tie.Need-same-length-5
 same-length-5 c = search needs
 
@@ -69,10 +77,10 @@ same-length-6 : tie.Need-same-length-6
 same-length-6 c = search needs
 
 returns-3 : tie.Need-returns-3
-returns-3 c = part-unit (c .before .before .before .before .before .before .before .before .before .before .before .before .before .before .args .variables .now) (c .before .before .before .before .before .before .before .before .before .before .before .before .before .before .args .part .now) (c .before .before .before .before .before .before .before .remove-false .last .0) (c .before .before .before .before .before .before .before .remove-false .result) (untrue (c .before .before .before .before .before .before .before)) (c .before .before .before .before .before .before .before .remove-false .ensures .0) (c .before .before .before .before .before .before .before .remove-false .ensures .1) (c .before .set-true .last .0) (c .before .before .before .before .if3 .taken) (rw (read (c .before .before .before .before .before .before .before .remove-false .last .0) 0 (c .before .before .before .l .given)) at (c .before .set-true .ensures))
+returns-3 c = part-unit (c .before .before .before .before .before .before .before .before .before .before .before .before .before .before .before .args .variables .now) (c .before .before .before .before .before .before .before .before .before .before .before .before .before .before .before .args .part .now) (c .before .before .before .before .before .before .before .before .remove-false .last .0) (c .before .before .before .before .before .before .before .before .remove-false .result) (untrue (c .before .before .before .before .before .before .before .before)) (c .before .before .before .before .before .before .before .before .remove-false .ensures .0) (c .before .before .before .before .before .before .before .before .remove-false .ensures .1) (c .before .before .set-true .last .0) (c .before .before .before .before .before .if3 .taken) (rw (read (c .before .before .before .before .before .before .before .before .remove-false .last .0) 0 (c .before .before .before .before .l .given)) at (c .before .before .set-true .ensures)) (c .var-of .result) (rw (read (c .before .before .before .before .before .before .before .before .remove-false .last .0) 0 (c .before .before .before .before .l .given)) at (c .var-of .ensures))
 
-cast-t24 : tie.Need-cast-t24
-cast-t24 c = let k = part-count (c .before .before .before .before .before .before .before .before .before .before .args .variables .now) (c .before .before .before .before .before .before .before .before .before .before .args .part .now) (c .before .before .before .remove-false .last .0) (c .before .before .before .remove-false .result) (untrue (c .before .before .before)) (c .before .before .before .remove-false .ensures .0) (c .before .before .before .remove-false .ensures .1) (c .before .before .before .before .before .before .before .before .before .before .pre .1) in omega arith
+cast-t26 : tie.Need-cast-t26
+cast-t26 c = let k = part-count (c .before .before .before .before .before .before .before .before .before .before .args .variables .now) (c .before .before .before .before .before .before .before .before .before .before .args .part .now) (c .before .before .before .remove-false .last .0) (c .before .before .before .remove-false .result) (untrue (c .before .before .before)) (c .before .before .before .remove-false .ensures .0) (c .before .before .before .remove-false .ensures .1) (c .before .before .before .before .before .before .before .before .before .before .pre .1) in omega arith
 
 same-length-7 : tie.Need-same-length-7
 same-length-7 c = search needs
@@ -99,10 +107,12 @@ visit-part-spec =
     slice-copy-out-l
     set-true-requires
     slice-set-of-part
+    var-of-requires
+    cast-t25
     same-length-5
     same-length-6
     returns-3
-    cast-t24
+    cast-t26
     same-length-7
     same-length-8
     returns-4)
