@@ -11,7 +11,9 @@ use Rattle.state.specs.declared.Refusal.the-variants.{Shape}
 use Rattle.records.specs.declared.StampRecord.{StampRecord}
 use Rattle.tables.specs.Tables.{Tables}
 use Rattle.tables.specs.Calls.{After, refuse}
-use Rattle.shape.specs.declared.Entry.{Entry}
+use Rattle.entry.specs.declared.PassName.the-variants as own
+use Rattle.entry.specs.declared.Entry.{Entry}
+use Rattle.entry.specs.declared.Opening.{Opening}
 use Rattle.dimacs.specs.Text.{judgeText, bodyOf}
 use Rattle.load.specs.Load.{loadBy, loadCall}
 use Rattle.write.specs.Write.{AfterWrite, afterWrite, writeInto, writeText, writeCall}
@@ -22,7 +24,7 @@ use Rattle.failed.specs.Failed.{failedBy, failedCall}
 use Rattle.sweep.specs.Sweep.{sweepBy, sweepCall}
 use Rattle.run.specs.Run.{runBy, runCall}
 use Rattle.calls.specs.Calls.{recorded}
-use Rattle.calls.proofs.Short.{short-shape, short-entry, short-long, few-lent}
+use Rattle.calls.proofs.Short.{short-shape, short-entry, short-opening, short-long, few-lent}
 
 module _ (t : Tables) (st : State) (short : length (t .times) < 4096) where
   pub load-short : (text : List ℕ) → loadCall text t st ≡ refuse Shape st t
@@ -35,27 +37,27 @@ module _ (t : Tables) (st : State) (short : length (t .times) < 4096) where
 
   pub propagate-short : (n : ℕ) → propagateCall n t st ≡ refuse Shape st t
   unfolding propagateCall
-  propagate-short n = ap (λ (e : Entry). propagateBy e n t st) (short-entry t short 1 st)
+  propagate-short n = ap (λ (e : Entry). propagateBy e n t st) (short-entry t short own.Propagate st)
 
   pub merge-short : (n : ℕ) → mergeCall n t st ≡ refuse Shape st t
   unfolding mergeCall
-  merge-short n = ap (λ (e : Entry). mergeBy e n t st) (short-entry t short 2 st)
+  merge-short n = ap (λ (e : Entry). mergeBy e n t st) (short-entry t short own.Merge st)
 
   pub stamp-short : (order : List ℤ) → stampCall order t st ≡ refuse Shape st t
   unfolding stampCall
-  stamp-short order = ap (λ (e : Entry). stampBy e order t st) (short-entry t short 0 st)
+  stamp-short order = ap (λ (e : Opening). stampBy e order t st) (short-opening t short st)
 
   pub failed-short : failedCall t st ≡ refuse Shape st t
   unfolding failedCall
-  failed-short = ap (λ (e : Entry). failedBy e t st) (short-entry t short 0 st)
+  failed-short = ap (λ (e : Opening). failedBy e t st) (short-opening t short st)
 
   pub sweep-short : (n : ℕ) → sweepCall n t st ≡ refuse Shape st t
   unfolding sweepCall
-  sweep-short n = ap (λ (e : Entry). sweepBy e n t st) (short-entry t short 3 st)
+  sweep-short n = ap (λ (e : Entry). sweepBy e n t st) (short-entry t short own.Sweep st)
 
   pub run-short : (n : ℕ) → runCall n t st ≡ refuse Shape st t
   unfolding runCall
-  run-short n = ap (λ (e : Entry). runBy e n t st) (short-entry t short 0 st)
+  run-short n = ap (λ (e : Opening). runBy e n t st) (short-opening t short st)
 
 -- document 01, refusal 1: "a table is shorter than stated", of the lent records
 module _ (clauses : List ℕ) (literals variables : List ℤ) (stamps : List StampRecord) (st : State) (few : length stamps < 2048) where

@@ -23,10 +23,12 @@ use Rattle.records.proofs.Columns.Laws as K′
 use Rattle.tables.specs.Tables.{Tables}
 use Rattle.tables.specs.Long.{long?, longOk}
 use Rattle.shape.specs.Decision.{shapeOk}
-use Rattle.shape.specs.Entry.{entryOf}
-use Rattle.shape.specs.declared.Entry.the-variants.{No}
+use Rattle.entry.specs.Entry.{entryOf, openingOf}
+use Rattle.entry.specs.declared.PassName.{PassName}
+use Rattle.entry.specs.declared.Entry.the-variants.{No}
+use Rattle.entry.specs.declared.Opening.the-variants.{Denied}
 use Rattle.shape.proofs.Reading.{shaped}
-use Rattle.shape.proofs.Entering.{entry-misshapen}
+use Rattle.entry.proofs.Entering.{entry-misshapen, opening-misshapen}
 
 -- ---- short columns
 
@@ -38,8 +40,11 @@ module _ (t : Tables) (short : length (t .times) < 4096) where
       go true e = absurd (omega (arith, short, shaped t st e .long .times))
       go false e = e
 
-  pub short-entry : (own : ℕ) (st : State) → entryOf own t st ≡ No Shape
+  pub short-entry : (own : PassName) (st : State) → entryOf own t st ≡ No Shape
   short-entry own st = entry-misshapen own t st (short-shape st)
+
+  pub short-opening : (st : State) → openingOf t st ≡ Denied Shape
+  short-opening st = opening-misshapen t st (short-shape st)
 
   pub short-long : longOk t ≡ false
   unfolding longOk

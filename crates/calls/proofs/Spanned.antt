@@ -13,9 +13,9 @@ use Rattle.tables.specs.Tables.{Tables, lengthOf}
 use Rattle.tables.specs.Fates.{Fate, kept, left, dropped, unit, conflict, shortened, droppedAt, store, fateAt, visit, visits}
 use Rattle.tables.specs.Passes.{advance}
 use Rattle.tables.specs.Calls.{After}
-use Rattle.shape.specs.Entry.{entryOf}
-use Rattle.shape.specs.declared.Entry.{Entry}
-use Rattle.shape.specs.declared.Entry.the-variants.{No, Opens, Resumes}
+use Rattle.entry.specs.Entry.{openingOf}
+use Rattle.entry.specs.declared.Opening.{Opening}
+use Rattle.entry.specs.declared.Opening.the-variants.{Denied, Granted}
 use Rattle.propagate.specs.Propagate.{Progress, going, settled, contradicted, onward, visited, changes, propagateClause, propagateVisit, propagateVisits, begin, propagateFrom}
 use Rattle.propagate.proofs.Shaped.{tablesAt, begin-tables, replied-tables}
 use Rattle.merge.specs.Merge.{edgesOf, clashes, mergedClasses, mergeClause, mergeOpen}
@@ -28,7 +28,7 @@ use Rattle.run.specs.Run.{orderOf, programme, follow, round, unchanged, Rounds,
 use Rattle.run.specs.Steps.{Runs}
 use Rattle.run.proofs.Running.{called}
 use Rattle.run.proofs.Keeping.{follow-runs, round-runs}
-use Rattle.run.proofs.Calling.{opens-runs, resumes-runs, call-refused, call-opens, call-resumes}
+use Rattle.run.proofs.Calling.{granted-runs, call-refused, call-granted}
 use Rattle.calls.proofs.Recorded.{stamp-kept}
 
 pub record AsMany (t u : Tables) : Type 0 where
@@ -121,9 +121,9 @@ unfolding failedFresh
 failed-many true t st = record { times = refl; links = refl }
 failed-many false t st = same t
 
-sweep-many : (b : Bool) (steps : ℕ) (t : Tables) (st : State) → AsMany t (sweeping.unlessStale b steps t st .tables)
-sweep-many true steps t st = advance-many _ _ true false steps _ t st
-sweep-many false steps t st = same t
+sweep-many : (b : Bool) (steps k : ℕ) (t : Tables) (st : State) → AsMany t (sweeping.unlessStale b steps k t st .tables)
+sweep-many true steps k t st = advance-many _ _ true false steps k t st
+sweep-many false steps k t st = same t
 
 stamp-many : (order : List ℤ) {w : Standing} → Runs w → AsMany (w .tables) (stampOrdered order (w .tables) (w .state) .tables)
 stamp-many order {w} R = subst (λ (a : After). AsMany (w .tables) (a .tables)) (called R order) (let K = stamp-kept order (w .tables) (w .state) in record { times = K .times; links = K .links })
@@ -135,7 +135,7 @@ follow-many k code {w} R =
     either So (eqb code 1) _ _ (settle-many (w .state .v + 1) w)
     (either So (eqb code 2) _ _ (stamp-many (orderOf (w .state .v) k) R)
     (either So (eqb code 3) _ _ (failed-many (w .state .fresh) (w .tables) (w .state))
-    (either So (eqb code 4) _ _ (sweep-many (w .state .fresh) (w .state .n) (w .tables) (w .state)) (same (w .tables)))))
+    (either So (eqb code 4) _ _ (sweep-many (w .state .fresh) (w .state .n) 0 (w .tables) (w .state)) (same (w .tables)))))
 
 round-many : (k : ℕ) (codes : List ℕ) {w : Standing} → Runs w → AsMany (w .tables) (round k codes w .tables)
 unfolding round
@@ -161,9 +161,8 @@ rounds-many codes (suc m) k {w} R = go (round k codes w .state .mark || unchange
 
 -- THE LAW
 pub run-many : (n : ℕ) (t : Tables) (st : State) → AsMany t (runCall n t st .tables)
-run-many n t st = by (entryOf 0 t st) refl
+run-many n t st = by (openingOf t st) refl
   where
-    by : (e : Entry) → entryOf 0 t st ≡ e → AsMany t (runCall n t st .tables)
-    by (No r) e = subst (λ (a : After). AsMany t (a .tables)) (call-refused n t st r e) (same t)
-    by Opens e = subst (λ (a : After). AsMany t (a .tables)) (call-opens n t st e) (rounds-many programme n 0 (opens-runs t st e))
-    by Resumes e = subst (λ (a : After). AsMany t (a .tables)) (call-resumes n t st e) (rounds-many programme n 0 (resumes-runs t st e))
+    by : (e : Opening) → openingOf t st ≡ e → AsMany t (runCall n t st .tables)
+    by (Denied r) e = subst (λ (a : After). AsMany t (a .tables)) (call-refused n t st r e) (same t)
+    by Granted e = subst (λ (a : After). AsMany t (a .tables)) (call-granted n t st e) (rounds-many programme n 0 (granted-runs t st e))

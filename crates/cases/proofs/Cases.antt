@@ -19,7 +19,7 @@ use Rattle.tables.specs.Clauses.{slotsAt, slotsFrom, standingCount, literalCoun
 use Rattle.tables.specs.Fates.{shortened, droppedAt, fateAt, visits}
 use Rattle.tables.specs.Passes.{advance, firstUnsettled}
 use Rattle.shape.specs.Decision.{parts?, literals?, variable?, cursor?, clauses?, shape?, shapeOk}
-use Rattle.shape.specs.Entry.{entryOf}
+use Rattle.entry.specs.Entry.{entryOf, openingOf}
 use Rattle.dimacs.specs.Words.{wordsAt}
 use Rattle.dimacs.specs.Header.{header, headerRest}
 use Rattle.dimacs.specs.Text.{judge, judgeText, clausesOf}
@@ -43,12 +43,25 @@ use Rattle.cases.specs.Case.{bytes, Case, calls, prints, Seen, All}
 abbrev sees : List Reply → Bool → List ℕ → List ℤ → List ℤ → List ℕ → List ℤ → List ℕ → Seen
 sees r m c l v t k w = record { replies = r; mark = m; clauses = c; literals = l; variables = v; times = t; links = k; written = w }
 
+-- replies
+abbrev refused : ℕ → ℕ → Reply
+refused number place = reply 0 number (place ∷ [])
+
+abbrev loaded : Reply
+loaded = reply 1 0 []
+
+abbrev done : ℕ → ℕ → ℕ → Reply
+done visits clauses literals = reply 3 0 (visits ∷ clauses ∷ literals ∷ [])
+
+abbrev stamped : Reply
+stamped = reply 4 0 []
+
+abbrev sets : ℕ → Reply
+sets count = reply 5 0 (count ∷ [])
+
 -- a refused load leaves the empty tables, which are written as `p cnf 0 0`
 abbrev refusedAt : ℕ → ℕ → Seen
-refusedAt number place = sees (reply number (place ∷ []) ∷ []) false [] [] [] [] [] (bytes "p cnf 0 0\n")
-
-abbrev ok : Reply
-ok = reply 0 []
+refusedAt number place = sees (refused number place ∷ []) false [] [] [] [] [] (bytes "p cnf 0 0\n")
 
 -- 1, −1, 2, −2, ..
 abbrev order₂ : List ℤ
@@ -65,12 +78,12 @@ abbrev cases : List Case
 cases =
     -- P1
     calls "p cnf 0 0\n" []
-    (sees (ok ∷ []) false [] [] [] [] []
+    (sees (loaded ∷ []) false [] [] [] [] []
     (bytes "p cnf 0 0\n"))
     ∷
     -- P2: the stamps, under 1, −1, 2, −2, ..
     calls "p cnf 4 3\n-1 2 0\n-2 3 0\n1 3 4 0\n" (stamp order₄ ∷ [])
-    (sees (ok ∷ ok ∷ []) false (0 ∷ 2 ∷ 1 ∷ 2 ∷ 2 ∷ 1 ∷ 4 ∷ 3 ∷ 1 ∷ []) (negsuc 0 ∷ pos 2 ∷ negsuc 1 ∷ pos 3 ∷ pos 1 ∷ pos 3 ∷ pos 4 ∷ []) (pos 1 ∷ pos 0 ∷ pos 2 ∷ pos 0 ∷ pos 3 ∷ pos 0 ∷ pos 4 ∷ pos 0 ∷ []) (1 ∷ 6 ∷ 9 ∷ 10 ∷ 2 ∷ 5 ∷ 8 ∷ 11 ∷ 3 ∷ 4 ∷ 7 ∷ 12 ∷ 13 ∷ 14 ∷ 15 ∷ 16 ∷ 0 ∷ []) (pos 1 ∷ pos 1 ∷ negsuc 1 ∷ negsuc 2 ∷ pos 1 ∷ pos 1 ∷ negsuc 2 ∷ negsuc 2 ∷ pos 2 ∷ pos 1 ∷ negsuc 2 ∷ negsuc 2 ∷ pos 4 ∷ pos 4 ∷ negsuc 3 ∷ negsuc 3 ∷ pos 0 ∷ [])
+    (sees (loaded ∷ stamped ∷ []) false (0 ∷ 2 ∷ 1 ∷ 2 ∷ 2 ∷ 1 ∷ 4 ∷ 3 ∷ 1 ∷ []) (negsuc 0 ∷ pos 2 ∷ negsuc 1 ∷ pos 3 ∷ pos 1 ∷ pos 3 ∷ pos 4 ∷ []) (pos 1 ∷ pos 0 ∷ pos 2 ∷ pos 0 ∷ pos 3 ∷ pos 0 ∷ pos 4 ∷ pos 0 ∷ []) (1 ∷ 6 ∷ 9 ∷ 10 ∷ 2 ∷ 5 ∷ 8 ∷ 11 ∷ 3 ∷ 4 ∷ 7 ∷ 12 ∷ 13 ∷ 14 ∷ 15 ∷ 16 ∷ 0 ∷ []) (pos 1 ∷ pos 1 ∷ negsuc 1 ∷ negsuc 2 ∷ pos 1 ∷ pos 1 ∷ negsuc 2 ∷ negsuc 2 ∷ pos 2 ∷ pos 1 ∷ negsuc 2 ∷ negsuc 2 ∷ pos 4 ∷ pos 4 ∷ negsuc 3 ∷ negsuc 3 ∷ pos 0 ∷ [])
     (bytes "p cnf 4 3\n-1 2 0\n-2 3 0\n1 3 4 0\n"))
     ∷
     -- the same input through the program
@@ -78,37 +91,37 @@ cases =
     ∷
     -- P3: the third is dropped
     calls "p cnf 3 3\n-1 2 0\n-2 3 0\n-1 3 0\n" (stamp order₃ ∷ sweep 3 ∷ [])
-    (sees (ok ∷ ok ∷ reply 0 (0 ∷ 3 ∷ 1 ∷ 2 ∷ []) ∷ []) false (0 ∷ 2 ∷ 1 ∷ 2 ∷ 2 ∷ 1 ∷ 4 ∷ 0 ∷ 0 ∷ []) (negsuc 0 ∷ pos 2 ∷ negsuc 1 ∷ pos 3 ∷ pos 0 ∷ pos 0 ∷ []) (pos 1 ∷ pos 0 ∷ pos 2 ∷ pos 0 ∷ pos 3 ∷ pos 0 ∷ []) [] []
+    (sees (loaded ∷ stamped ∷ done 3 1 2 ∷ []) false (0 ∷ 2 ∷ 1 ∷ 2 ∷ 2 ∷ 1 ∷ 4 ∷ 0 ∷ 0 ∷ []) (negsuc 0 ∷ pos 2 ∷ negsuc 1 ∷ pos 3 ∷ pos 0 ∷ pos 0 ∷ []) (pos 1 ∷ pos 0 ∷ pos 2 ∷ pos 0 ∷ pos 3 ∷ pos 0 ∷ []) [] []
     (bytes "p cnf 3 2\n-1 2 0\n-2 3 0\n"))
     ∷
     -- P4: none is dropped
     calls "p cnf 3 3\n-1 3 0\n-1 2 0\n-2 3 0\n" (stamp order₃ ∷ sweep 3 ∷ [])
-    (sees (ok ∷ ok ∷ reply 0 (0 ∷ 3 ∷ 0 ∷ 0 ∷ []) ∷ []) false (0 ∷ 2 ∷ 1 ∷ 2 ∷ 2 ∷ 1 ∷ 4 ∷ 2 ∷ 1 ∷ []) (negsuc 0 ∷ pos 3 ∷ negsuc 0 ∷ pos 2 ∷ negsuc 1 ∷ pos 3 ∷ []) (pos 1 ∷ pos 0 ∷ pos 2 ∷ pos 0 ∷ pos 3 ∷ pos 0 ∷ []) [] []
+    (sees (loaded ∷ stamped ∷ done 3 0 0 ∷ []) false (0 ∷ 2 ∷ 1 ∷ 2 ∷ 2 ∷ 1 ∷ 4 ∷ 2 ∷ 1 ∷ []) (negsuc 0 ∷ pos 3 ∷ negsuc 0 ∷ pos 2 ∷ negsuc 1 ∷ pos 3 ∷ []) (pos 1 ∷ pos 0 ∷ pos 2 ∷ pos 0 ∷ pos 3 ∷ pos 0 ∷ []) [] []
     (bytes "p cnf 3 3\n-1 3 0\n-1 2 0\n-2 3 0\n"))
     ∷
     -- P5: the third is dropped
     calls "p cnf 4 3\n-1 2 0\n-2 3 0\n-1 3 4 0\n" (stamp order₄ ∷ sweep 3 ∷ [])
-    (sees (ok ∷ ok ∷ reply 0 (0 ∷ 3 ∷ 1 ∷ 3 ∷ []) ∷ []) false (0 ∷ 2 ∷ 1 ∷ 2 ∷ 2 ∷ 1 ∷ 4 ∷ 0 ∷ 0 ∷ []) (negsuc 0 ∷ pos 2 ∷ negsuc 1 ∷ pos 3 ∷ pos 0 ∷ pos 0 ∷ pos 0 ∷ []) (pos 1 ∷ pos 0 ∷ pos 2 ∷ pos 0 ∷ pos 3 ∷ pos 0 ∷ pos 4 ∷ pos 0 ∷ []) [] []
+    (sees (loaded ∷ stamped ∷ done 3 1 3 ∷ []) false (0 ∷ 2 ∷ 1 ∷ 2 ∷ 2 ∷ 1 ∷ 4 ∷ 0 ∷ 0 ∷ []) (negsuc 0 ∷ pos 2 ∷ negsuc 1 ∷ pos 3 ∷ pos 0 ∷ pos 0 ∷ pos 0 ∷ []) (pos 1 ∷ pos 0 ∷ pos 2 ∷ pos 0 ∷ pos 3 ∷ pos 0 ∷ pos 4 ∷ pos 0 ∷ []) [] []
     (bytes "p cnf 4 2\n-1 2 0\n-2 3 0\n"))
     ∷
     -- P6: 1 fails, one value set
     calls "p cnf 2 2\n-1 2 0\n-1 -2 0\n" (stamp order₂ ∷ failed ∷ [])
-    (sees (ok ∷ ok ∷ reply 0 (1 ∷ []) ∷ []) false (0 ∷ 2 ∷ 1 ∷ 2 ∷ 2 ∷ 1 ∷ []) (negsuc 0 ∷ pos 2 ∷ negsuc 0 ∷ negsuc 1 ∷ []) (pos 1 ∷ negsuc 0 ∷ pos 2 ∷ pos 0 ∷ []) (1 ∷ 8 ∷ 3 ∷ 4 ∷ 2 ∷ 5 ∷ 6 ∷ 7 ∷ []) []
+    (sees (loaded ∷ stamped ∷ sets 1 ∷ []) false (0 ∷ 2 ∷ 1 ∷ 2 ∷ 2 ∷ 1 ∷ []) (negsuc 0 ∷ pos 2 ∷ negsuc 0 ∷ negsuc 1 ∷ []) (pos 1 ∷ negsuc 0 ∷ pos 2 ∷ pos 0 ∷ []) (1 ∷ 8 ∷ 3 ∷ 4 ∷ 2 ∷ 5 ∷ 6 ∷ 7 ∷ []) []
     (bytes "p cnf 2 3\n-1 0\n-1 2 0\n-1 -2 0\n"))
     ∷
     -- P7: class of 2 is 1, both dropped
     calls "p cnf 2 2\n-1 2 0\n-2 1 0\n" (merge 2 ∷ [])
-    (sees (ok ∷ reply 0 (0 ∷ 2 ∷ 2 ∷ 4 ∷ []) ∷ []) false (0 ∷ 0 ∷ 0 ∷ 2 ∷ 0 ∷ 0 ∷ []) (pos 0 ∷ pos 0 ∷ pos 0 ∷ pos 0 ∷ []) (pos 1 ∷ pos 0 ∷ pos 1 ∷ pos 0 ∷ []) [] []
+    (sees (loaded ∷ done 2 2 4 ∷ []) false (0 ∷ 0 ∷ 0 ∷ 2 ∷ 0 ∷ 0 ∷ []) (pos 0 ∷ pos 0 ∷ pos 0 ∷ pos 0 ∷ []) (pos 1 ∷ pos 0 ∷ pos 1 ∷ pos 0 ∷ []) [] []
     (bytes "p cnf 2 2\n2 -1 0\n-2 1 0\n"))
     ∷
     -- P8: Merge sets the mark
     calls "p cnf 2 4\n1 2 0\n1 -2 0\n-1 2 0\n-1 -2 0\n" (merge 4 ∷ [])
-    (sees (ok ∷ reply 0 (0 ∷ 0 ∷ 0 ∷ 0 ∷ []) ∷ []) true (0 ∷ 2 ∷ 1 ∷ 2 ∷ 2 ∷ 1 ∷ 4 ∷ 2 ∷ 1 ∷ 6 ∷ 2 ∷ 1 ∷ []) (pos 1 ∷ pos 2 ∷ pos 1 ∷ negsuc 1 ∷ negsuc 0 ∷ pos 2 ∷ negsuc 0 ∷ negsuc 1 ∷ []) (pos 1 ∷ pos 0 ∷ pos 2 ∷ pos 0 ∷ []) [] []
+    (sees (loaded ∷ done 0 0 0 ∷ []) true (0 ∷ 2 ∷ 1 ∷ 2 ∷ 2 ∷ 1 ∷ 4 ∷ 2 ∷ 1 ∷ 6 ∷ 2 ∷ 1 ∷ []) (pos 1 ∷ pos 2 ∷ pos 1 ∷ negsuc 1 ∷ negsuc 0 ∷ pos 2 ∷ negsuc 0 ∷ negsuc 1 ∷ []) (pos 1 ∷ pos 0 ∷ pos 2 ∷ pos 0 ∷ []) [] []
     (bytes "p cnf 2 1\n0\n"))
     ∷
     -- P9: Stamp gives 7; Merge makes classes 1, 1, −1, 1 and leaves the unit 1
     calls "p cnf 4 5\n2 3 0\n-3 -1 0\n1 2 0\n-2 4 0\n-4 1 0\n" (stamp order₄ ∷ merge 5 ∷ [])
-    (sees (ok ∷ reply 7 (0 ∷ []) ∷ reply 0 (0 ∷ 5 ∷ 4 ∷ 9 ∷ []) ∷ []) false (0 ∷ 0 ∷ 0 ∷ 2 ∷ 0 ∷ 0 ∷ 4 ∷ 1 ∷ 1 ∷ 6 ∷ 0 ∷ 0 ∷ 8 ∷ 0 ∷ 0 ∷ []) (pos 0 ∷ pos 0 ∷ pos 0 ∷ pos 0 ∷ pos 1 ∷ pos 0 ∷ pos 0 ∷ pos 0 ∷ pos 0 ∷ pos 0 ∷ []) (pos 1 ∷ pos 0 ∷ pos 1 ∷ pos 0 ∷ negsuc 0 ∷ pos 0 ∷ pos 1 ∷ pos 0 ∷ []) (0 ∷ []) (pos 0 ∷ [])
+    (sees (loaded ∷ refused 7 0 ∷ done 5 4 9 ∷ []) false (0 ∷ 0 ∷ 0 ∷ 2 ∷ 0 ∷ 0 ∷ 4 ∷ 1 ∷ 1 ∷ 6 ∷ 0 ∷ 0 ∷ 8 ∷ 0 ∷ 0 ∷ []) (pos 0 ∷ pos 0 ∷ pos 0 ∷ pos 0 ∷ pos 1 ∷ pos 0 ∷ pos 0 ∷ pos 0 ∷ pos 0 ∷ pos 0 ∷ []) (pos 1 ∷ pos 0 ∷ pos 1 ∷ pos 0 ∷ negsuc 0 ∷ pos 0 ∷ pos 1 ∷ pos 0 ∷ []) (0 ∷ []) (pos 0 ∷ [])
     (bytes "p cnf 4 7\n2 -1 0\n-2 1 0\n3 1 0\n-3 -1 0\n4 -1 0\n-4 1 0\n1 0\n"))
     ∷
     -- P10
@@ -120,12 +133,12 @@ cases =
     ∷
     -- P11
     calls "p cnf 1024 0\n" []
-    (sees (ok ∷ []) false (0 ∷ []) (pos 0 ∷ []) (pos 1 ∷ pos 0 ∷ pos 2 ∷ pos 0 ∷ pos 3 ∷ pos 0 ∷ pos 4 ∷ pos 0 ∷ []) [] []
+    (sees (loaded ∷ []) false (0 ∷ []) (pos 0 ∷ []) (pos 1 ∷ pos 0 ∷ pos 2 ∷ pos 0 ∷ pos 3 ∷ pos 0 ∷ pos 4 ∷ pos 0 ∷ []) [] []
     (bytes "p cnf 1024 0\n"))
     ∷
     calls "p cnf 1025 0\n" [] (refusedAt 3 6)
     ∷ []
 
 pub hold : All cases
-unfolding and? or? if? not? so? every? eqᵇ? eqℤ? any filter absent first anyBelow allBelow sameList numbers turned evens odds interleave twin arrive leave edge edges enters starts stampAll outs froms tos reaches connected cyclic leastMutual literal? holds? times? parent? start? nested? fresh? long? longOk slotsAt slotsFrom standingCount literalCount shortened droppedAt fateAt visits advance firstUnsettled parts? literals? variable? cursor? clauses? shape? shapeOk entryOf wordsAt header headerRest judge judgeText clausesOf clauseRecords literalPlaces variableRecords laid loadCall digits clauseText clausesText textOf writtenClauses writeText writeCall propagateClause propagateVisit propagateVisits propagateFrom propagateCall clashes representative regrouped mergedClasses mergeClause mergeOpen mergeSettled mergeCall holds insert byDiscovery passes scanAt scan hiddenTautology unhidden shorten sameStart holdsBoth lowest failedSlot firstBad stampsOf stampedTables stampAcyclic stampSettled stampOrdered stampCall failedAt failedFrom failedFresh failedCall sweepClause sweepCall settleFor settle orderOf follow round unchanged runFrom runCall simplifyText unhideText stepOn stepsOn ℕ-discrete decLe decLt
+unfolding and? or? if? not? so? every? eqᵇ? eqℤ? any filter absent first anyBelow allBelow sameList numbers turned evens odds interleave twin arrive leave edge edges enters starts stampAll outs froms tos reaches connected cyclic leastMutual literal? holds? times? parent? start? nested? fresh? long? longOk slotsAt slotsFrom standingCount literalCount shortened droppedAt fateAt visits advance firstUnsettled parts? literals? variable? cursor? clauses? shape? shapeOk entryOf openingOf wordsAt header headerRest judge judgeText clausesOf clauseRecords literalPlaces variableRecords laid loadCall digits clauseText clausesText textOf writtenClauses writeText writeCall propagateClause propagateVisit propagateVisits propagateFrom propagateCall clashes representative regrouped mergedClasses mergeClause mergeOpen mergeSettled mergeCall holds insert byDiscovery passes scanAt scan hiddenTautology unhidden shorten sameStart holdsBoth lowest failedSlot firstBad stampsOf stampedTables stampAcyclic stampSettled stampOrdered stampCall failedAt failedFrom failedFresh failedCall sweepClause sweepCall settleFor settle orderOf follow round unchanged runFrom runCall simplifyText unhideText stepOn stepsOn ℕ-discrete decLe decLt
 hold = (refl, (refl, (refl, (refl, (refl, (refl, (refl, (refl, (refl, (refl, (refl, (refl, (refl, (refl, (refl, tt)))))))))))))))

@@ -8,8 +8,9 @@ use mathlib.Core.Bool.{Bool}
 use mathlib.Core.List.{List, [], _∷_, map}
 use lib.ListN.{length, take}
 use lib.IntN.{ℤ}
+use Rattle.state.specs.States.{emptyState}
 use Rattle.state.specs.Answers.{Reply}
-use Rattle.tables.specs.Calls.{After, emptyState}
+use Rattle.tables.specs.Calls.{After}
 use Rattle.load.specs.Load.{loadCall}
 use Rattle.write.specs.Write.{writeText}
 use Rattle.unhiding.specs.Texts.{emptyTables, unhideText}

@@ -8,6 +8,7 @@ use mathlib.Core.List.{List}
 use lib.Dec.{ltb}
 use lib.IntN.{ℤ}
 use borrow.Author.Tests.{lt-ltb, le-ltb, ltb-true, ltb-false}
+use Rattle.state.specs.States.{opened, closed}
 use Rattle.state.specs.declared.State.{State}
 use Rattle.state.specs.declared.Counts.{Counts}
 use Rattle.state.specs.declared.Pass.{Pass}
@@ -17,14 +18,14 @@ use Rattle.tables.specs.Tables.{Tables}
 use Rattle.tables.specs.Clauses.{gone}
 use Rattle.tables.specs.Fates.{Fate, visits}
 use Rattle.tables.specs.Passes.{reached, advance}
-use Rattle.tables.specs.Calls.{After, answered, state}
+use Rattle.tables.specs.Calls.{After, answered}
 
 -- the answer of a call that has made its visits and stands before clause k: `reached`, by the counts
 abbrev pub standsAt : (ℕ → Pass) → Bool → Bool → Counts → ℕ → State → Tables → After
 standsAt pass freshOpen freshDone counts k st t =
     elim (ltb k (st .n)) [
-      | true ↦ answered (Open counts) (state (st .v) (st .n) (pass k) freshOpen false) t
-      | false ↦ answered (Done counts) (state (st .v) (st .n) Idle freshDone false) t
+      | true ↦ answered (Open counts) (opened (pass k) freshOpen st) t
+      | false ↦ answered (Done counts) (closed freshDone st) t
     ]
 
 module _ (pass : ℕ → Pass) (freshOpen freshDone : Bool) where
@@ -32,20 +33,20 @@ module _ (pass : ℕ → Pass) (freshOpen freshDone : Bool) where
     by-test : Bool → After
     by-test b =
         elim b [
-          | true ↦ answered (Open counts) (state (st .v) (st .n) (pass k) freshOpen false) t
-          | false ↦ answered (Done counts) (state (st .v) (st .n) Idle freshDone false) t
+          | true ↦ answered (Open counts) (opened (pass k) freshOpen st) t
+          | false ↦ answered (Done counts) (closed freshDone st) t
         ]
 
-    pub stands-open : k < st .n → answered (Open counts) (state (st .v) (st .n) (pass k) freshOpen false) t ≡ standsAt pass freshOpen freshDone counts k st t
+    pub stands-open : k < st .n → answered (Open counts) (opened (pass k) freshOpen st) t ≡ standsAt pass freshOpen freshDone counts k st t
     unfolding by-test
     stands-open h = ap by-test (sym (lt-ltb k (st .n) h))
 
-    pub stands-done : st .n ≤ k → answered (Done counts) (state (st .v) (st .n) Idle freshDone false) t ≡ standsAt pass freshOpen freshDone counts k st t
+    pub stands-done : st .n ≤ k → answered (Done counts) (closed freshDone st) t ≡ standsAt pass freshOpen freshDone counts k st t
     unfolding by-test
     stands-done h = ap by-test (sym (le-ltb k (st .n) h))
 
     -- what holds of both answers holds of the call's
-    pub stands-cases : (P : After → Type 0) → (k < st .n → P (answered (Open counts) (state (st .v) (st .n) (pass k) freshOpen false) t)) → (st .n ≤ k → P (answered (Done counts) (state (st .v) (st .n) Idle freshDone false) t))
+    pub stands-cases : (P : After → Type 0) → (k < st .n → P (answered (Open counts) (opened (pass k) freshOpen st) t)) → (st .n ≤ k → P (answered (Done counts) (closed freshDone st) t))
         → P (standsAt pass freshOpen freshDone counts k st t)
     unfolding by-test
     stands-cases P more none = go (ltb k (st .n)) refl
@@ -66,8 +67,8 @@ module _ (pass : ℕ → Pass) (freshOpen freshDone : Bool) where
 
     -- what holds of the tables after the visits, Open with the cursor and Done, holds of the call
     pub advance-cases : (P : After → Type 0)
-        → ((counts : Counts) → k + min steps (st .n - k) < st .n → P (answered (Open counts) (state (st .v) (st .n) (pass (k + min steps (st .n - k))) freshOpen false) (visits rule (min steps (st .n - k)) k t)))
-        → ((counts : Counts) → st .n ≤ k + min steps (st .n - k) → P (answered (Done counts) (state (st .v) (st .n) Idle freshDone false) (visits rule (min steps (st .n - k)) k t)))
+        → ((counts : Counts) → k + min steps (st .n - k) < st .n → P (answered (Open counts) (opened (pass (k + min steps (st .n - k))) freshOpen st) (visits rule (min steps (st .n - k)) k t)))
+        → ((counts : Counts) → st .n ≤ k + min steps (st .n - k) → P (answered (Done counts) (closed freshDone st) (visits rule (min steps (st .n - k)) k t)))
         → P (advance rule pass freshOpen freshDone steps k t st)
     unfolding advance
     advance-cases P more none =
@@ -78,7 +79,7 @@ module _ (pass : ℕ → Pass) (freshOpen freshDone : Bool) where
 
   -- a whole pass: a visit for each clause, and none is left
   pub advance-whole : (rule : List ℤ → Fate) (t : Tables) (st : State)
-      → advance rule pass freshOpen freshDone (st .n) 0 t st ≡ answered (Done (gone (st .n) (st .n) (t .clauses) (visits rule (st .n) 0 t .clauses))) (state (st .v) (st .n) Idle freshDone false) (visits rule (st .n) 0 t)
+      → advance rule pass freshOpen freshDone (st .n) 0 t st ≡ answered (Done (gone (st .n) (st .n) (t .clauses) (visits rule (st .n) 0 t .clauses))) (closed freshDone st) (visits rule (st .n) 0 t)
   advance-whole rule t st =
       let u : Tables = visits rule (st .n) 0 t in
       let counts : Counts = gone (st .n) (st .n) (t .clauses) (u .clauses) in

@@ -6,18 +6,19 @@ use mathlib.Core.Bool.{Bool, true, false}
 use mathlib.Core.List.{List}
 use lib.IntN.{ℤ}
 use Rattle.stamps.specs.Columns.{columns}
+use Rattle.state.specs.States.{closed, marked}
 use Rattle.state.specs.declared.State.{State}
 use Rattle.state.specs.declared.Pass.the-variants.{Idle}
 use Rattle.state.specs.declared.Refusal.{Refusal}
 use Rattle.state.specs.declared.Refusal.the-variants.{Stale}
 use Rattle.state.specs.declared.Answer.the-variants.{Failed}
 use Rattle.tables.specs.Tables.{Tables}
-use Rattle.tables.specs.Calls.{After, answered, refuse, state, marked}
+use Rattle.tables.specs.Calls.{After, answered, refuse}
 use Rattle.shape.specs.Shape.{Shape}
-use Rattle.shape.specs.Entry.{entryOf}
-use Rattle.shape.specs.declared.Entry.{Entry}
-use Rattle.shape.specs.declared.Entry.the-variants.{No, Opens, Resumes}
-use Rattle.shape.proofs.Entering.{Entered, opens-entered, resumes-entered}
+use Rattle.entry.specs.Entry.{openingOf}
+use Rattle.entry.specs.declared.Opening.{Opening}
+use Rattle.entry.specs.declared.Opening.the-variants.{Denied, Granted}
+use Rattle.entry.proofs.Entering.{granted-entered}
 use Rattle.clauses.proofs.Entered.{entered-formed}
 use Rattle.failed.specs.Failed.{Found, found, failedFrom, withVariables, failedReply, failedFresh, unlessStale, failedBy, failedCall}
 use Rattle.failed.specs.Steps.{foundOf, Stamped, Callable}
@@ -31,7 +32,7 @@ shape-stamped S f = record { few = S .v-limit; times-room = S .long .times; link
 
 module _ (t : Tables) (st : State) (r : Tally) (vs : List ℤ) (is : foundOf r vs ≡ failedFrom (columns (t .times) (t .links)) (2 * st .v) (st .v) 0 (found (t .variables) 0 false)) where
   abbrev replyBy : Bool → After
-  replyBy b = answered (Failed (r .set)) (elim b [ true ↦ marked st | false ↦ state (st .v) (st .n) Idle true false ]) (withVariables vs t)
+  replyBy b = answered (Failed (r .set)) (elim b [ true ↦ marked st | false ↦ closed true st ]) (withVariables vs t)
 
   reply-is : replyBy (r .opposite) ≡ failedFresh t st
   unfolding failedFresh
@@ -40,7 +41,7 @@ module _ (t : Tables) (st : State) (r : Tally) (vs : List ℤ) (is : foundOf r v
   pub fresh-opposite : r .opposite ≡ true → answered (Failed (r .set)) (marked st) (withVariables vs t) ≡ failedFresh t st
   fresh-opposite o = ap replyBy (sym o) ∙ reply-is
 
-  pub fresh-done : r .opposite ≡ false → answered (Failed (r .set)) (state (st .v) (st .n) Idle true false) (withVariables vs t) ≡ failedFresh t st
+  pub fresh-done : r .opposite ≡ false → answered (Failed (r .set)) (closed true st) (withVariables vs t) ≡ failedFresh t st
   fresh-done o = ap replyBy (sym o) ∙ reply-is
 
 -- ---- fresh or not
@@ -52,25 +53,15 @@ module _ (t : Tables) (st : State) where
   pub stale-refused : st .fresh ≡ false → refuse Stale st t ≡ unlessStale (st .fresh) t st
   stale-refused e = ap (λ (b : Bool). unlessStale b t st) (sym e)
 
-  -- ---- the three ways of the call
+  -- ---- the two ways of the call
 
-  pub call-refused : (r : Refusal) → entryOf 0 t st ≡ No r → refuse r st t ≡ failedCall t st
+  pub call-refused : (r : Refusal) → openingOf t st ≡ Denied r → refuse r st t ≡ failedCall t st
   unfolding failedCall
-  call-refused r e = ap (λ (x : Entry). failedBy x t st) (sym e)
+  call-refused r e = ap (λ (x : Opening). failedBy x t st) (sym e)
 
-  pub call-opens : entryOf 0 t st ≡ Opens → unlessStale (st .fresh) t st ≡ failedCall t st
+  pub call-granted : openingOf t st ≡ Granted → unlessStale (st .fresh) t st ≡ failedCall t st
   unfolding failedCall
-  call-opens e = ap (λ (x : Entry). failedBy x t st) (sym e)
+  call-granted e = ap (λ (x : Opening). failedBy x t st) (sym e)
 
-  pub call-resumes : entryOf 0 t st ≡ Resumes → unlessStale (st .fresh) t st ≡ failedCall t st
-  unfolding failedCall
-  call-resumes e = ap (λ (x : Entry). failedBy x t st) (sym e)
-
-  entered-callable : Entered 0 t st → Callable st (t .variables) (t .times) (t .links)
-  entered-callable E = record { rows = entered-formed E (λ z. omega arith) .vars; stamped = shape-stamped (E .shape) }
-
-  pub opens-callable : entryOf 0 t st ≡ Opens → Callable st (t .variables) (t .times) (t .links)
-  opens-callable e = entered-callable (opens-entered 0 t st e)
-
-  pub resumes-callable : entryOf 0 t st ≡ Resumes → Callable st (t .variables) (t .times) (t .links)
-  resumes-callable e = entered-callable (resumes-entered 0 t st e)
+  pub granted-callable : openingOf t st ≡ Granted → Callable st (t .variables) (t .times) (t .links)
+  granted-callable e = let E = granted-entered t st e in record { rows = entered-formed E tt .vars; stamped = shape-stamped (E .shape) }

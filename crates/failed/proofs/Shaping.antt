@@ -7,15 +7,15 @@ use native.Mathlib.Omega.{arith}
 use mathlib.Core.Path.{_≡_, refl}
 use mathlib.Core.Bool.{Bool, true, false}
 use Rattle.stamps.specs.Columns.{columns}
+use Rattle.state.specs.States.{closed, marked}
 use Rattle.state.specs.declared.State.{State}
 use Rattle.state.specs.declared.Pass.the-variants.{Idle}
 use Rattle.tables.specs.Tables.{Tables}
-use Rattle.tables.specs.Calls.{state, marked}
 use Rattle.shape.specs.Shape.{Shape}
-use Rattle.shape.specs.Entry.{entryOf}
-use Rattle.shape.specs.declared.Entry.{Entry}
-use Rattle.shape.specs.declared.Entry.the-variants.{No, Opens, Resumes}
-use Rattle.shape.proofs.Entering.{Entered, opens-entered, resumes-entered}
+use Rattle.entry.specs.Entry.{openingOf}
+use Rattle.entry.specs.declared.Opening.{Opening}
+use Rattle.entry.specs.declared.Opening.the-variants.{Denied, Granted}
+use Rattle.entry.proofs.Entering.{Entered, granted-entered}
 use Rattle.clauses.specs.Formed.{Formed}
 use Rattle.clauses.proofs.Forming.{formed-values, formed-marked, formed-shape}
 use Rattle.clauses.proofs.Entered.{entered-formed}
@@ -38,19 +38,18 @@ module _ (t : Tables) (st : State) where
       G : Formed (st .v) (st .n) (st .n) false (t .clauses) (t .literals) (f .variables)
       G = formed-values F (K .classes) (K .rows)
 
-      go : (b : Bool) → Shape (withVariables (f .variables) t) (elim b as (λ x. State) [ true ↦ marked st | false ↦ state (st .v) (st .n) Idle true false ])
+      go : (b : Bool) → Shape (withVariables (f .variables) t) (elim b as (λ x. State) [ true ↦ marked st | false ↦ closed true st ])
       go true = formed-shape (withVariables (f .variables) t) (marked st) (formed-marked G) (S .times-room) (S .links-room) tt (λ e. S .fresh)
-      go false = formed-shape (withVariables (f .variables) t) (state (st .v) (st .n) Idle true false) G (S .times-room) (S .links-room) tt (λ e. S .fresh)
+      go false = formed-shape (withVariables (f .variables) t) (closed true st) G (S .times-room) (S .links-room) tt (λ e. S .fresh)
 
-  entered-shape : Entered 0 t st → (b : Bool) → st .fresh ≡ b → Shape (unlessStale b t st .tables) (unlessStale b t st .state)
-  entered-shape E true e = fresh-shape (entered-formed E (λ z. omega arith)) (shape-stamped (E .shape) e)
+  entered-shape : Entered Idle t st → (b : Bool) → st .fresh ≡ b → Shape (unlessStale b t st .tables) (unlessStale b t st .state)
+  entered-shape E true e = fresh-shape (entered-formed E tt) (shape-stamped (E .shape) e)
   entered-shape E false e = E .shape
 
   pub failed-shape : Shape t st → Shape (failedCall t st .tables) (failedCall t st .state)
   unfolding failedCall
-  failed-shape S = go (entryOf 0 t st) refl
+  failed-shape S = go (openingOf t st) refl
     where
-      go : (x : Entry) → entryOf 0 t st ≡ x → Shape (failedBy x t st .tables) (failedBy x t st .state)
-      go (No r) e = S
-      go Opens e = entered-shape (opens-entered 0 t st e) (st .fresh) refl
-      go Resumes e = entered-shape (resumes-entered 0 t st e) (st .fresh) refl
+      go : (x : Opening) → openingOf t st ≡ x → Shape (failedBy x t st .tables) (failedBy x t st .state)
+      go (Denied r) e = S
+      go Granted e = entered-shape (granted-entered t st e) (st .fresh) refl

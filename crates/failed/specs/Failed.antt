@@ -8,16 +8,17 @@ use Rattle.literal.specs.Literals.{litAt, twin}
 use Rattle.walk.specs.Walk.{Stamps}
 use Rattle.stamps.specs.Columns.{columns}
 use Rattle.hidden.specs.Failed.{sameStart, failedSlot}
+use Rattle.state.specs.States.{closed, marked}
 use Rattle.state.specs.declared.State.{State}
 use Rattle.state.specs.declared.Pass.the-variants.{Idle}
 use Rattle.state.specs.declared.Refusal.the-variants.{Stale}
 use Rattle.state.specs.declared.Answer.the-variants.{Failed}
 use Rattle.tables.specs.Tables.{Tables, tables}
 use Rattle.tables.specs.Values.{isTrue, isFalse, setTrue}
-use Rattle.tables.specs.Calls.{After, answered, refuse, state, marked}
-use Rattle.shape.specs.Entry.{entryOf}
-use Rattle.shape.specs.declared.Entry.{Entry}
-use Rattle.shape.specs.declared.Entry.the-variants.{No, Opens, Resumes}
+use Rattle.tables.specs.Calls.{After, answered, refuse}
+use Rattle.entry.specs.Entry.{openingOf}
+use Rattle.entry.specs.declared.Opening.{Opening}
+use Rattle.entry.specs.declared.Opening.the-variants.{Denied, Granted}
 
 -- the variable table, how many values were set, and whether the opposite value was met
 pub record Found : Type 0 where
@@ -48,7 +49,7 @@ withVariables variables t = tables (t .clauses) (t .literals) variables (t .time
 
 abbrev pub failedReply : Found → Tables → State → After
 failedReply f t st =
-    answered (Failed (f .set)) (elim (f .opposite) [ true ↦ marked st | false ↦ state (st .v) (st .n) Idle true false ]) (withVariables (f .variables) t)
+    answered (Failed (f .set)) (elim (f .opposite) [ true ↦ marked st | false ↦ closed true st ]) (withVariables (f .variables) t)
 
 unfoldable pub failedFresh : Tables → State → After
 failedFresh t st = failedReply (failedFrom (columns (t .times) (t .links)) (2 * st .v) (st .v) 0 (found (t .variables) 0 false)) t st
@@ -57,11 +58,9 @@ abbrev pub unlessStale : Bool → Tables → State → After
 unlessStale true t st = failedFresh t st
 unlessStale false t st = refuse Stale st t
 
-abbrev pub failedBy : Entry → Tables → State → After
-failedBy (No r) t st = refuse r st t
-failedBy Opens t st = unlessStale (st .fresh) t st
-failedBy Resumes t st = unlessStale (st .fresh) t st
+abbrev pub failedBy : Opening → Tables → State → After
+failedBy (Denied r) t st = refuse r st t
+failedBy Granted t st = unlessStale (st .fresh) t st
 
--- Failed resumes no pass
 unfoldable pub failedCall : Tables → State → After
-failedCall t st = failedBy (entryOf 0 t st) t st
+failedCall t st = failedBy (openingOf t st) t st

@@ -1,8 +1,7 @@
 // Failed: by fresh stamps, the literals that imply their own complement, whose complements become true.
-use shape::Entry;
+use entry::Opening;
 use state::Answer;
 use state::Outcome;
-use state::Pass;
 use state::Refusal;
 use state::State;
 ghost use mathlib.Core.Path.{_≡_};
@@ -15,7 +14,7 @@ ghost use Rattle.literal.specs.Literals.{twin};
 ghost use Rattle.stamps.specs.Columns.{columns};
 ghost use Rattle.hidden.specs.Hidden.{holds};
 ghost use Rattle.hidden.specs.Failed.{sameStart, failedSlot};
-ghost use Rattle.tables.specs.Tables.{tables};
+ghost use Rattle.tables.specs.Lent.{lent, returned, unlent};
 ghost use Rattle.tables.specs.Calls.{after};
 ghost use Rattle.clauses.specs.Formed.{Variables, Known};
 ghost use Rattle.failed.specs.Failed.{found, assert, failedAt, failedFrom, failedFresh, unlessStale, failedCall};
@@ -139,8 +138,8 @@ fn fail_from(variables: &mut [i32], times: &[u32], links: &[i32], v: u32) -> Tal
 // The call on fresh stamps, for every content of the clause and literal tables, which it does not read.
 pub fn failed_fresh(variables: &mut [i32], times: &[u32], links: &[i32], st: State) -> Outcome
     requires { ⌜ Stamped (st .v) (now times) (now links) × Variables (st .v) (now variables) ⌝ }
-    ensures { λ r. ⌜ ((clauses : List ℕ) (literals : List ℤ) → after r (tables clauses literals (now (variables .exit)) (now (times .entry)) (now (links .entry)))
-        ≡ failedFresh (tables clauses literals (now (variables .entry)) (now (times .entry)) (now (links .entry))) st) ⌝ }
+    ensures { λ r. ⌜ ((clauses : List ℕ) (literals : List ℤ) → after r (returned (unlent clauses) (unlent literals) variables times links)
+        ≡ failedFresh (lent (unlent clauses) (unlent literals) variables times links) st) ⌝ }
 {
     let v = st.v;
     let t = fail_from(variables, times, links, v);
@@ -149,32 +148,20 @@ pub fn failed_fresh(variables: &mut [i32], times: &[u32], links: &[i32], st: Sta
         // no assignment is left: the mark, which spends the stamps
         return Outcome {
             answer: Answer::Failed(set),
-            state: State {
-                v: st.v,
-                n: st.n,
-                pass: Pass::Idle,
-                fresh: false,
-                mark: true,
-            },
+            state: st.marked(),
         };
     }
     Outcome {
         answer: Answer::Failed(set),
-        state: State {
-            v: st.v,
-            n: st.n,
-            pass: Pass::Idle,
-            fresh: true,
-            mark: false,
-        },
+        state: st.closed(true),
     }
 }
 
 // Refusal 9 where the stamps are not fresh, and otherwise the call. Run enters here.
 pub fn unless_stale(variables: &mut [i32], times: &[u32], links: &[i32], st: State) -> Outcome
     requires { ⌜ Callable st (now variables) (now times) (now links) ⌝ }
-    ensures { λ r. ⌜ ((clauses : List ℕ) (literals : List ℤ) → after r (tables clauses literals (now (variables .exit)) (now (times .entry)) (now (links .entry)))
-        ≡ unlessStale (st .fresh) (tables clauses literals (now (variables .entry)) (now (times .entry)) (now (links .entry))) st) ⌝ }
+    ensures { λ r. ⌜ ((clauses : List ℕ) (literals : List ℤ) → after r (returned (unlent clauses) (unlent literals) variables times links)
+        ≡ unlessStale (st .fresh) (lent (unlent clauses) (unlent literals) variables times links) st) ⌝ }
 {
     if st.fresh {
         return failed_fresh(variables, times, links, st);
@@ -194,17 +181,15 @@ pub fn failed(
     links: &[i32],
     st: State,
 ) -> Outcome
-    ensures { λ r. ⌜ after r (tables (now (clauses .entry)) (now (literals .entry)) (now (variables .exit)) (now (times .entry)) (now (links .entry)))
-        ≡ failedCall (tables (now (clauses .entry)) (now (literals .entry)) (now (variables .entry)) (now (times .entry)) (now (links .entry))) st ⌝ }
+    ensures { λ r. ⌜ after r (returned clauses literals variables times links)
+        ≡ failedCall (lent clauses literals variables times links) st ⌝ }
 {
-    let entry = shape::entry_of(clauses, literals, variables, times, links, st, 0);
-    match entry {
-        Entry::No(r) => Outcome {
+    let opening = entry::may_open(clauses, literals, variables, times, links, st);
+    match opening {
+        Opening::Denied(r) => Outcome {
             answer: Answer::Refused(r),
             state: st,
         },
-        Entry::Opens => unless_stale(variables, times, links, st),
-        // Failed resumes no pass, so that here too none is open
-        Entry::Resumes => unless_stale(variables, times, links, st),
+        Opening::Granted => unless_stale(variables, times, links, st),
     }
 }

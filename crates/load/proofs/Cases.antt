@@ -11,12 +11,13 @@ use native.Mathlib.Omega.{arith}
 use lib.ListN.{length, take, drop, replicate}
 use lib.IntN.{ℤ, pos, negsuc}
 use Rattle.base.specs.Decide.{and?, so?}
+use Rattle.state.specs.States.{state, loadedState}
 use Rattle.state.specs.Answers.{Reply, reply, refusalNumber, refusalPlace}
 use Rattle.state.specs.declared.State.{State}
 use Rattle.state.specs.declared.Pass.the-variants.{Idle, Sweep}
 use Rattle.tables.specs.Tables.{Tables, tables}
 use Rattle.tables.specs.Long.{longOk, long?}
-use Rattle.tables.specs.Calls.{After, state}
+use Rattle.tables.specs.Calls.{After}
 use Rattle.dimacs.specs.Words.{wordsAt}
 use Rattle.dimacs.specs.Header.{header, headerRest}
 use Rattle.dimacs.specs.Text.{judge, judgeText, clausesOf}
@@ -69,8 +70,8 @@ abbrev pub Holds : Case → Type 0
 Holds (loads text v n mark c l w) =
     view (length c) (length l) (length w) (loadCall text (lent 12289) before)
     ≡ record {
-      reply = reply 0 [];
-      state = state v n Idle false mark;
+      reply = reply 1 0 [];
+      state = loadedState v n mark;
       clauses = c;
       literals = l;
       variables = w;
@@ -78,7 +79,7 @@ Holds (loads text v n mark c l w) =
       literalsEnd = pos 0 ∷ pos 7 ∷ [];
       variablesEnd = pos 0 ∷ pos 7 ∷ [];
     }
-Holds (short text) = loadCall text (lent 12287) before ≡ record { reply = reply 1 (0 ∷ []); state = before; tables = lent 12287 }
+Holds (short text) = loadCall text (lent 12287) before ≡ record { reply = reply 0 1 (0 ∷ []); state = before; tables = lent 12287 }
 
 abbrev pub All : List Case → Type 0
 All [] = Unit
@@ -123,7 +124,7 @@ refused text number place = record { text = text; number = number; place = place
 
 -- long tables and the state stay as they are, and the reply is the refusal's number and place
 abbrev pub Refused : Bad → Type 0
-Refused b = (t : Tables) (st : State) → longOk t ≡ true → loadCall (b .text) t st ≡ record { reply = reply (b .number) (b .place ∷ []); state = st; tables = t }
+Refused b = (t : Tables) (st : State) → longOk t ≡ true → loadCall (b .text) t st ≡ record { reply = reply 0 (b .number) (b .place ∷ []); state = st; tables = t }
 
 abbrev pub AllRefused : List Bad → Type 0
 AllRefused [] = Unit
@@ -214,7 +215,7 @@ by-answer : (b : Bad) → answer (judgeText (b .text)) ≡ b .number ∷ b .plac
 unfolding loadCall
 by-answer b e t st h = go (judgeText (b .text)) refl
   where
-    go : (x : Verdict) → judgeText (b .text) ≡ x → loadCall (b .text) t st ≡ record { reply = reply (b .number) (b .place ∷ []); state = st; tables = t }
+    go : (x : Verdict) → judgeText (b .text) ≡ x → loadCall (b .text) t st ≡ record { reply = reply 0 (b .number) (b .place ∷ []); state = st; tables = t }
     go (No r) q =
         let a : refusalNumber r ∷ refusalPlace r ∷ [] ≡ b .number ∷ b .place ∷ [] = rw q at e in
         let n : refusalNumber r ≡ b .number = cc in

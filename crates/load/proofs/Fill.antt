@@ -9,13 +9,14 @@ use lib.ListN.{length, take, drop, set, replicate, length-set, length-append, ta
 use lib.Seq.{take-suc-set, drop-set-lt, length-take-le, sets, sets-eq, take-at}
 use lib.IntN.{ℤ, pos}
 use Rattle.base.specs.Decide.{Decides, agrees, does-exact}
+use Rattle.state.specs.States.{loadedState}
 use Rattle.state.specs.declared.State.{State}
 use Rattle.state.specs.declared.Pass.the-variants.{Idle}
 use Rattle.state.specs.declared.Refusal.the-variants.{Shape}
 use Rattle.state.specs.declared.Answer.the-variants.{Loaded}
 use Rattle.tables.specs.Tables.{Tables, tables}
 use Rattle.tables.specs.Long.{Long, long?, longOk}
-use Rattle.tables.specs.Calls.{answered, state}
+use Rattle.tables.specs.Calls.{answered}
 use Rattle.dimacs.specs.Words.{wordsAt}
 use Rattle.dimacs.specs.Text.{judgeText, bodyOf, clausesOf}
 use Rattle.dimacs.specs.declared.Verdict.{Verdict}
@@ -121,14 +122,14 @@ module _ {text : List ℕ} {body : ℕ} {c₀ : List ℕ} {l₀ : List ℤ} {c :
     (times : List ℕ) (links : List ℤ) (st : State) where
   pub lay-done : LaidBy text body c₀ l₀ c l p → 12288 ≤ length c₀ → 16384 ≤ length l₀
       → c₂ ≡ cleared 0 c (3 * p .clauses) 12288 → l₂ ≡ cleared (pos 0) l (p .start) 16384 → w₂ ≡ filled (pos 0) 2048 (variableRecords 1 v) w₀
-      → answered Loaded (state v n Idle false (p .mark)) (tables c₂ l₂ w₂ times links)
+      → answered Loaded (loadedState v n (p .mark)) (tables c₂ l₂ w₂ times links)
       ≡ loadBy (Fits v n body) (bodyOf text (Fits v n body)) (tables c₀ l₀ w₀ times links) st
   unfolding laid
   lay-done h hc hl ec el ew =
       let cs : List (List ℤ) = clausesOf [] (wordsAt (drop body text) body) in
       let pc = ec ∙ cleared-filled 0 c₀ c (clauseRecords 0 cs) (3 * p .clauses) 12288 (h .records) (omega (arith, h .within .0, h .sizes .0)) (h .beyond .0) in
       let pl = el ∙ cleared-filled (pos 0) l₀ l (literalPlaces cs) (p .start) 16384 (h .places) (omega (arith, h .within .1, h .sizes .1)) (h .beyond .1) in
-      λ i. answered Loaded (state v n Idle false (h .marks i)) (tables (pc i) (pl i) (ew i) times links)
+      λ i. answered Loaded (loadedState v n (h .marks i)) (tables (pc i) (pl i) (ew i) times links)
 
 pub long-agrees : (t : Tables) {b : Bool} → Decides b (Long t) → b ≡ longOk t
 unfolding longOk

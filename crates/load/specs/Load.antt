@@ -8,13 +8,14 @@ use lib.ListN.{length, drop, replicate}
 use lib.Dec.{eqb}
 use lib.IntN.{ℤ, pos}
 use Rattle.literal.specs.Clauses.{distinct, tautology}
+use Rattle.state.specs.States.{loadedState}
 use Rattle.state.specs.declared.State.{State}
 use Rattle.state.specs.declared.Pass.the-variants.{Idle}
 use Rattle.state.specs.declared.Refusal.the-variants.{Shape}
 use Rattle.state.specs.declared.Answer.the-variants.{Loaded}
 use Rattle.tables.specs.Tables.{Tables, tables}
 use Rattle.tables.specs.Long.{longOk}
-use Rattle.tables.specs.Calls.{After, answered, refuse, state}
+use Rattle.tables.specs.Calls.{After, answered, refuse}
 use Rattle.dimacs.specs.Text.{judgeText, bodyOf}
 use Rattle.dimacs.specs.declared.Verdict.{Verdict}
 use Rattle.dimacs.specs.declared.Verdict.the-variants.{Refused, Fits}
@@ -54,7 +55,7 @@ laid v cs t =
 
 abbrev pub loadBy : Verdict → List (List ℤ) → Tables → State → After
 loadBy (Refused r) cs t st = refuse r st t
-loadBy (Fits v n _) cs t st = answered Loaded (state v n Idle false (anyEmpty cs)) (laid v cs t)
+loadBy (Fits v n _) cs t st = answered Loaded (loadedState v n (anyEmpty cs)) (laid v cs t)
 
 -- the call: a table that is shorter than stated gets 1; else the text is judged, and its clauses are laid
 unfoldable pub loadCall : List ℕ → Tables → State → After

@@ -9,7 +9,7 @@ ghost use lib.IntN.{ℤ, pos};
 ghost use Rattle.dimacs.specs.Text.{signed, bodyOf};
 ghost use Rattle.dimacs.specs.declared.Verdict;
 ghost use Rattle.state.specs.declared.State.{State};
-ghost use Rattle.tables.specs.Tables.{tables};
+ghost use Rattle.tables.specs.Lent.{lent, returned, unlent};
 ghost use Rattle.tables.specs.Calls.{after};
 ghost use Rattle.load.specs.Load.{variableRecords, filled, loadBy, loadCall};
 ghost use Rattle.load.specs.Laid.{work, keptEnd, flag, recordAt, endClause, addLiteral, cleared, Ending, Adding, Accepted, LaidBy, LayReady, askLoad};
@@ -17,7 +17,6 @@ use dimacs::Token;
 use dimacs::Verdict;
 use state::Answer;
 use state::Outcome;
-use state::Pass;
 use state::Refusal;
 use state::State;
 
@@ -202,8 +201,8 @@ fn lay(
     variables: &mut [i32],
 ) -> Outcome
     requires { ⌜ LayReady (now text) v n body (length (now clauses)) (length (now literals)) (length (now variables)) ⌝ }
-    ensures { λ r. ⌜ ((times : List ℕ) (links : List ℤ) (st : State) → after r (tables (now (clauses .exit)) (now (literals .exit)) (now (variables .exit)) times links)
-        ≡ loadBy (Verdict.Fits v n body) (bodyOf (now (text .entry)) (Verdict.Fits v n body)) (tables (now (clauses .entry)) (now (literals .entry)) (now (variables .entry)) times links) st) ⌝ }
+    ensures { λ r. ⌜ ((times : List ℕ) (links : List ℤ) (st : State) → after r (returned clauses literals variables (unlent times) (unlent links))
+        ≡ loadBy (Verdict.Fits v n body) (bodyOf (now (text .entry)) (Verdict.Fits v n body)) (lent clauses literals variables (unlent times) (unlent links)) st) ⌝ }
 {
     let mut seen = [0u32; 2048];
     let p = lay_clauses(text, body, clauses, literals, &mut seen);
@@ -212,13 +211,7 @@ fn lay(
     lay_variables(variables, v);
     Outcome {
         answer: Answer::Loaded,
-        state: State {
-            v,
-            n,
-            pass: Pass::Idle,
-            fresh: false,
-            mark: p.mark,
-        },
+        state: State::loaded(v, n, p.mark),
     }
 }
 
@@ -231,7 +224,7 @@ fn ask_load(
     times: &[u32],
     links: &[i32],
 ) -> Verdict
-    ensures { λ r. ⌜ r ≡ askLoad (now (text .entry)) (tables (now (clauses .entry)) (now (literals .entry)) (now (variables .entry)) (now (times .entry)) (now (links .entry))) ⌝ }
+    ensures { λ r. ⌜ r ≡ askLoad (now (text .entry)) (lent clauses literals variables times links) ⌝ }
 {
     if tables::long_ok(clauses, literals, variables, times, links) {
         dimacs::judge_text(text)
@@ -251,8 +244,8 @@ pub fn load(
     links: &[i32],
     st: State,
 ) -> Outcome
-    ensures { λ r. ⌜ after r (tables (now (clauses .exit)) (now (literals .exit)) (now (variables .exit)) (now (times .entry)) (now (links .entry)))
-        ≡ loadCall (now (text .entry)) (tables (now (clauses .entry)) (now (literals .entry)) (now (variables .entry)) (now (times .entry)) (now (links .entry))) st ⌝ }
+    ensures { λ r. ⌜ after r (returned clauses literals variables times links)
+        ≡ loadCall (now (text .entry)) (lent clauses literals variables times links) st ⌝ }
 {
     match ask_load(text, clauses, literals, variables, times, links) {
         Verdict::Refused(r) => Outcome {

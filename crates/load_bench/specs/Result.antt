@@ -1,6 +1,6 @@
 -- What a load gives to C: V, or the refusal's number, negative. Assumes nothing: these are definitions.
 use lib.IntN.{ℤ}
-use Rattle.results.specs.Results.{resultBy}
+use Rattle.state.specs.Answers.{resultBy}
 use Rattle.tables.specs.Calls.{After}
 
 abbrev pub resultOf : After → ℤ

@@ -1,12 +1,14 @@
 // One load as a C function, by which a load is measured.
 ghost use mathlib.Core.Path.{_≡_};
-ghost use Rattle.tables.specs.Tables.{Tables, tables};
-ghost use Rattle.tables.specs.Calls.{after, emptyState};
+ghost use Rattle.state.specs.States.{emptyState};
+ghost use Rattle.tables.specs.Tables.{Tables};
+ghost use Rattle.tables.specs.Lent.{lent, returned};
+ghost use Rattle.tables.specs.Calls.{after};
 ghost use Rattle.load.specs.Load.{loadCall};
 ghost use Rattle.load_bench.specs.Result.{resultOf};
-use results::refused;
 use state::Answer;
 use state::Outcome;
+use state::State;
 
 // V, or the refusal's number, negative.
 fn result_of(outcome: Outcome) -> i64
@@ -16,7 +18,7 @@ fn result_of(outcome: Outcome) -> i64
     let st = outcome.state;
     let v = st.v as i64;
     match answer {
-        Answer::Refused(refusal) => refused(refusal),
+        Answer::Refused(refusal) => refusal.result(),
         Answer::Loaded => v,
         Answer::Open(_) => v,
         Answer::Done(_) => v,
@@ -37,11 +39,11 @@ pub extern "C" fn load_text(
     times: &[u32],
     links: &[i32],
 ) -> i64
-    ensures { λ r. ⌜ r ≡ resultOf (loadCall (now (text .entry)) (tables (now (clauses .entry)) (now (literals .entry)) (now (variables .entry)) (now (times .entry)) (now (links .entry))) emptyState) ⌝ }
-    ensures { λ _. ⌜ tables (now (clauses .exit)) (now (literals .exit)) (now (variables .exit)) (now (times .entry)) (now (links .entry))
-        ≡ loadCall (now (text .entry)) (tables (now (clauses .entry)) (now (literals .entry)) (now (variables .entry)) (now (times .entry)) (now (links .entry))) emptyState .tables ⌝ }
+    ensures { λ r. ⌜ r ≡ resultOf (loadCall (now (text .entry)) (lent clauses literals variables times links) emptyState) ⌝ }
+    ensures { λ _. ⌜ returned clauses literals variables times links
+        ≡ loadCall (now (text .entry)) (lent clauses literals variables times links) emptyState .tables ⌝ }
 {
-    let st = tables::empty_state();
+    let st = State::empty();
     let outcome = load::load(text, clauses, literals, variables, times, links, st);
     result_of(outcome)
 }

@@ -9,27 +9,25 @@ use lib.IntN.{ℤ}
 use borrow.Author.Tests.{lt-ltb, le-ltb}
 use Rattle.base.specs.Decide.{le-or}
 use Rattle.base.specs.Lists.{first}
+use Rattle.state.specs.States.{marked}
 use Rattle.state.specs.declared.State.{State}
 use Rattle.state.specs.declared.Counts.{Counts}
-use Rattle.state.specs.declared.Pass.{Pass}
-use Rattle.state.specs.declared.Pass.the-variants.{Idle, Propagate, Merge, Sweep}
 use Rattle.state.specs.declared.Refusal.{Refusal}
 use Rattle.state.specs.declared.Refusal.the-variants.{Unsettled}
 use Rattle.state.specs.declared.Answer.the-variants.{Done}
 use Rattle.tables.specs.Tables.{Tables, tables}
 use Rattle.tables.specs.Clauses.{gone}
 use Rattle.tables.specs.Passes.{unsettled, firstUnsettled}
-use Rattle.tables.specs.Calls.{After, answered, refuse, marked}
-use Rattle.shape.specs.Shape.{settledTo, Cursor}
-use Rattle.shape.specs.Entry.{passNumber, entryOf}
-use Rattle.shape.specs.declared.Entry.{Entry}
-use Rattle.shape.specs.declared.Entry.the-variants.{No, Opens, Resumes}
-use Rattle.shape.proofs.Entering.{opens-entered, resumes-entered}
+use Rattle.tables.specs.Calls.{After, answered, refuse}
+use Rattle.entry.specs.Entry.{entryOf}
+use Rattle.entry.specs.declared.PassName.the-variants as own
+use Rattle.entry.specs.declared.Entry.{Entry}
+use Rattle.entry.specs.declared.Entry.the-variants.{No, Opens, Resumes}
+use Rattle.entry.proofs.Entering.{opens-entered, resumes-entered}
 use Rattle.clauses.specs.Formed.{Formed}
-use Rattle.clauses.proofs.Forming.{shape-formed}
 use Rattle.clauses.proofs.Counting.{none-gone}
-use Rattle.clauses.proofs.Entered.{entered-formed, entered-cursor}
-use Rattle.merge.specs.Merge.{edgesOf, clashes, representative, regrouped, mergedClasses, mergeFrom, mergeOpen, mergeSettled, mergeCursor, mergeBy, mergeCall}
+use Rattle.clauses.proofs.Entered.{entered-to, entered-formed, entered-cursor}
+use Rattle.merge.specs.Merge.{edgesOf, clashes, representative, regrouped, mergedClasses, mergeFrom, mergeOpen, mergeSettled, mergeBy, mergeCall}
 use Rattle.merge.specs.Opening.{openedClasses}
 use Rattle.merge.specs.Steps.{Ready}
 use Rattle.merge.proofs.Merged.{merged-formed}
@@ -131,40 +129,21 @@ settled-cases steps st t P refused opens =
 -- ---- the three ways of the call
 
 module _ (steps : ℕ) (t : Tables) (st : State) where
-  pub call-refused : (r : Refusal) → entryOf 2 t st ≡ No r → refuse r st t ≡ mergeCall steps t st
+  pub call-refused : (r : Refusal) → entryOf own.Merge t st ≡ No r → refuse r st t ≡ mergeCall steps t st
   unfolding mergeCall
   call-refused r e = ap (λ (x : Entry). mergeBy x steps t st) (sym e)
 
-  pub call-opens : entryOf 2 t st ≡ Opens → mergeSettled steps t st ≡ mergeCall steps t st
+  pub call-opens : entryOf own.Merge t st ≡ Opens → mergeSettled steps t st ≡ mergeCall steps t st
   unfolding mergeCall
   call-opens e = ap (λ (x : Entry). mergeBy x steps t st) (sym e)
 
-  pub call-resumes : entryOf 2 t st ≡ Resumes → mergeFrom (st .fresh) steps (mergeCursor (st .pass)) t st ≡ mergeCall steps t st
+  pub call-resumes : (k : ℕ) (changed : Bool) → entryOf own.Merge t st ≡ Resumes k changed → mergeFrom (st .fresh) steps k t st ≡ mergeCall steps t st
   unfolding mergeCall
-  call-resumes e = ap (λ (x : Entry). mergeBy x steps t st) (sym e)
+  call-resumes k changed e = ap (λ (x : Entry). mergeBy x steps t st) (sym e)
 
-  pub opens-formed : entryOf 2 t st ≡ Opens → Formed (st .v) (st .n) (st .n) false (t .clauses) (t .literals) (t .variables)
-  opens-formed e = entered-formed (opens-entered 2 t st e) (λ z. omega arith)
+  pub opens-formed : entryOf own.Merge t st ≡ Opens → Formed (st .v) (st .n) (st .n) false (t .clauses) (t .literals) (t .variables)
+  opens-formed e = entered-formed (opens-entered own.Merge t st e) tt
 
 -- an open Merge has visited the clauses before its cursor
-merge-settled : (p : Pass) (n : ℕ) → passNumber p ≡ 2 → settledTo p n ≡ mergeCursor p
-merge-settled Idle n e = absurd (omega (arith, e))
-merge-settled (Propagate k c) n e = absurd (omega (arith, e))
-merge-settled (Merge k) n e = refl
-merge-settled (Sweep k) n e = absurd (omega (arith, e))
-
-merge-within : (p : Pass) (n : ℕ) → passNumber p ≡ 2 → Cursor p n false → mergeCursor p ≤ n
-merge-within Idle n e C = absurd (omega (arith, e))
-merge-within (Propagate k c) n e C = absurd (omega (arith, e))
-merge-within (Merge k) n e C = omega (arith, C .0)
-merge-within (Sweep k) n e C = absurd (omega (arith, e))
-
-pub resumes-ready : (t : Tables) (st : State) → entryOf 2 t st ≡ Resumes → Ready st (mergeCursor (st .pass)) (t .clauses) (t .literals) (t .variables)
-resumes-ready t st e =
-    let E = resumes-entered 2 t st e in
-    record {
-      formed =
-          subst (λ (b : Bool). Formed (st .v) (st .n) (mergeCursor (st .pass)) b (t .clauses) (t .literals) (t .variables)) (E .unmarked)
-          (subst (λ (s : ℕ). Formed (st .v) (st .n) s (st .mark) (t .clauses) (t .literals) (t .variables)) (merge-settled (st .pass) (st .n) (E .pass)) (shape-formed (E .shape)));
-      within = merge-within (st .pass) (st .n) (E .pass) (entered-cursor E);
-    }
+pub resumes-ready : (t : Tables) (st : State) (k : ℕ) (changed : Bool) → entryOf own.Merge t st ≡ Resumes k changed → Ready st k (t .clauses) (t .literals) (t .variables)
+resumes-ready t st k changed e = let E = resumes-entered own.Merge t st k changed e in record { formed = entered-to E; within = omega (arith, entered-cursor E .0) }

@@ -6,21 +6,23 @@ use mathlib.Core.Path.{_≡_, refl, subst}
 use mathlib.Core.Bool.{Bool, true, false, false≢true}
 use lib.ListN.{length}
 use Rattle.stamps.specs.Fresh.{FreshStamps}
+use Rattle.state.specs.States.{opened, closed, marked}
 use Rattle.state.specs.declared.State.{State}
 use Rattle.state.specs.declared.Pass.the-variants.{Idle, Merge}
 use Rattle.tables.specs.Tables.{Tables, tables}
 use Rattle.tables.specs.Fates.{visits}
 use Rattle.tables.specs.Passes.{firstUnsettled}
-use Rattle.tables.specs.Calls.{After, state, marked}
+use Rattle.tables.specs.Calls.{After}
 use Rattle.shape.specs.Shape.{Shape}
-use Rattle.shape.specs.Entry.{entryOf}
-use Rattle.shape.specs.declared.Entry.{Entry}
-use Rattle.shape.specs.declared.Entry.the-variants.{No, Opens, Resumes}
+use Rattle.entry.specs.Entry.{entryOf}
+use Rattle.entry.specs.declared.PassName.the-variants as own
+use Rattle.entry.specs.declared.Entry.{Entry}
+use Rattle.entry.specs.declared.Entry.the-variants.{No, Opens, Resumes}
 use Rattle.clauses.proofs.Forming.{formed-marked, formed-shape}
 use Rattle.clauses.proofs.Visiting.{Beside, visits-beside}
 use Rattle.clauses.proofs.Keeping.{FormedTo, formed-shape-as}
 use Rattle.clauses.proofs.Advancing.{advance-cases}
-use Rattle.merge.specs.Merge.{mergedClasses, mergeClause, mergeFrom, mergeOpen, mergeCursor, mergeBy, mergeCall}
+use Rattle.merge.specs.Merge.{mergedClasses, mergeClause, mergeFrom, mergeOpen, mergeBy, mergeCall}
 use Rattle.merge.proofs.Merged.{classes-formed}
 use Rattle.merge.proofs.Visiting.{merge-shrinks}
 use Rattle.merge.proofs.Keeping.{formed-visits}
@@ -51,9 +53,9 @@ module _ (fresh : Bool) (steps k : ℕ) (t : Tables) (st : State) (F : FormedTo 
   pub from-shaped : Shaped (mergeFrom fresh steps k t st)
   from-shaped =
       advance-cases Merge fresh fresh (mergeClause (t .variables)) steps k t st Shaped
-      (λ counts lt. formed-shape-as t t′ (state (st .v) (st .n) (Merge (k + m)) fresh false) (B .stamps) times links stamps F′ (lt, refl))
+      (λ counts lt. formed-shape-as t t′ (opened (Merge (k + m)) fresh st) (B .stamps) times links stamps F′ (lt, refl))
       (λ counts done.
-      formed-shape-as t t′ (state (st .v) (st .n) Idle fresh false) (B .stamps) times links stamps
+      formed-shape-as t t′ (closed fresh st) (B .stamps) times links stamps
       (subst (λ (x : ℕ). FormedTo (st .v) (st .n) x t′) (let q : k + m ≡ st .n = omega (arith, ends, done) in q) F′) tt)
 
 -- ---- the call
@@ -69,9 +71,9 @@ module _ (steps : ℕ) (t : Tables) (st : State) (S : Shape t st) where
   -- THE LAW
   pub merge-shaped : Shaped (mergeCall steps t st)
   unfolding mergeCall
-  merge-shaped = go (entryOf 2 t st) refl
+  merge-shaped = go (entryOf own.Merge t st) refl
     where
-      go : (x : Entry) → entryOf 2 t st ≡ x → Shaped (mergeBy x steps t st)
+      go : (x : Entry) → entryOf own.Merge t st ≡ x → Shaped (mergeBy x steps t st)
       go (No r) e = S
       go Opens e = settled-cases steps st t Shaped S (open-shaped (opens-formed steps t st e))
-      go Resumes e = let R = resumes-ready t st e in from-shaped (st .fresh) steps (mergeCursor (st .pass)) t st (R .formed) (R .within) (S .long .times) (S .long .links) (S .stamps)
+      go (Resumes k changed) e = let R = resumes-ready t st k changed e in from-shaped (st .fresh) steps k t st (R .formed) (R .within) (S .long .times) (S .long .links) (S .stamps)

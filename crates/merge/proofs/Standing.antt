@@ -12,6 +12,7 @@ use Rattle.base.specs.Decide.{same-or}
 use Rattle.literal.specs.Literals.{Literal}
 use Rattle.literal.specs.Clauses.{tautology}
 use Rattle.literal.specs.Assignments.{Assignment, holds, someHolds}
+use Rattle.state.specs.States.{opened}
 use Rattle.state.specs.declared.State.{State}
 use Rattle.state.specs.declared.Pass.{Pass}
 use Rattle.state.specs.declared.Pass.the-variants.{Idle, Merge}
@@ -20,12 +21,13 @@ use Rattle.tables.specs.Values.{classLiteral}
 use Rattle.tables.specs.Clauses.{literalsOf}
 use Rattle.tables.specs.Fates.{Fate, left, dropped, store, visit, visits, shortened, droppedAt}
 use Rattle.tables.specs.Passes.{firstUnsettled}
-use Rattle.tables.specs.Calls.{After, state}
+use Rattle.tables.specs.Calls.{After}
 use Rattle.tables.specs.Stands.{Stands}
-use Rattle.shape.specs.Entry.{entryOf}
-use Rattle.shape.specs.declared.Entry.{Entry}
-use Rattle.shape.specs.declared.Entry.the-variants.{No, Opens, Resumes}
-use Rattle.shape.proofs.Entering.{opens-entered, resumes-entered}
+use Rattle.entry.specs.Entry.{entryOf}
+use Rattle.entry.specs.declared.PassName.the-variants as own
+use Rattle.entry.specs.declared.Entry.{Entry}
+use Rattle.entry.specs.declared.Entry.the-variants.{No, Opens, Resumes}
+use Rattle.entry.proofs.Entering.{opens-entered, resumes-entered}
 use Rattle.clauses.specs.Formed.{Formed, Known}
 use Rattle.clauses.proofs.Stores.{recorded, recorded-here, recorded-other, storedAt, stored-view, stored-other}
 use Rattle.clauses.proofs.Forming.{clause-fits, record-inside, recorded-same}
@@ -33,7 +35,7 @@ use Rattle.clauses.proofs.Known.{known-row}
 use Rattle.clauses.proofs.Visiting.{visit-beside}
 use Rattle.clauses.proofs.Keeping.{FormedTo, formed-cases}
 use Rattle.clauses.proofs.Advancing.{advance-cases}
-use Rattle.merge.specs.Merge.{mergedClasses, mergeClause, mergeFrom, mergeOpen, mergeCursor, mergeBy, mergeCall}
+use Rattle.merge.specs.Merge.{mergedClasses, mergeClause, mergeFrom, mergeOpen, mergeBy, mergeCall}
 use Rattle.merge.specs.Visits.{substituted}
 use Rattle.merge.proofs.Merged.{classes-formed}
 use Rattle.merge.proofs.Equal.{opening-keeps, opening-adds-none, clash-stands}
@@ -168,7 +170,7 @@ visits-stand (suc m) k w t st τ same le F =
 -- ---- the call
 
 -- V, N and the mark are all of the state that matters
-stands-state : (t : Tables) (st : State) (τ : Assignment) (p : Pass) (fresh : Bool) → st .mark ≡ false → Stands t (state (st .v) (st .n) p fresh false) τ ↔ Stands t st τ
+stands-state : (t : Tables) (st : State) (τ : Assignment) (p : Pass) (fresh : Bool) → st .mark ≡ false → Stands t (opened p fresh st) τ ↔ Stands t st τ
 stands-state t st τ p fresh e = (
   λ S. record { unmarked = e; clauses = S .clauses; classes = S .classes; truths = S .truths; falsehoods = S .falsehoods },
   λ S. record { unmarked = refl; clauses = S .clauses; classes = S .classes; truths = S .truths; falsehoods = S .falsehoods },
@@ -196,9 +198,9 @@ module _ (st : State) (unmarked : st .mark ≡ false) (τ : Assignment) where
 -- THE THEOREM
 pub merge-keeps : (steps : ℕ) (t : Tables) (st : State) (τ : Assignment) → Stands (mergeCall steps t st .tables) (mergeCall steps t st .state) τ ↔ Stands t st τ
 unfolding mergeCall
-merge-keeps steps t st τ = go (entryOf 2 t st) refl
+merge-keeps steps t st τ = go (entryOf own.Merge t st) refl
   where
-    go : (x : Entry) → entryOf 2 t st ≡ x → Kept τ (mergeBy x steps t st) t st
+    go : (x : Entry) → entryOf own.Merge t st ≡ x → Kept τ (mergeBy x steps t st) t st
     go (No r) e = Iff·rfl
-    go Opens e = settled-cases steps st t (λ (a : After). Kept τ a t st) Iff·rfl (open-keeps st (opens-entered 2 t st e .unmarked) τ steps t (opens-formed steps t st e))
-    go Resumes e = let R = resumes-ready t st e in from-keeps st (resumes-entered 2 t st e .unmarked) τ (st .fresh) steps (mergeCursor (st .pass)) t (R .formed) (R .within)
+    go Opens e = settled-cases steps st t (λ (a : After). Kept τ a t st) Iff·rfl (open-keeps st (opens-entered own.Merge t st e .unmarked) τ steps t (opens-formed steps t st e))
+    go (Resumes k changed) e = let R = resumes-ready t st k changed e in from-keeps st (resumes-entered own.Merge t st k changed e .unmarked) τ (st .fresh) steps k t (R .formed) (R .within)

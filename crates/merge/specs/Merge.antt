@@ -11,9 +11,9 @@ use Rattle.literal.specs.Literals.{slotOf, litAt}
 use Rattle.literal.specs.Clauses.{distinct, tautology}
 use Rattle.graph.specs.Clauses.{implications}
 use Rattle.groups.specs.Groups.{connected, leastMutual}
+use Rattle.state.specs.States.{marked}
 use Rattle.state.specs.declared.State.{State}
-use Rattle.state.specs.declared.Pass.{Pass}
-use Rattle.state.specs.declared.Pass.the-variants.{Idle, Propagate, Merge, Sweep}
+use Rattle.state.specs.declared.Pass.the-variants.{Merge}
 use Rattle.state.specs.declared.Refusal.the-variants.{Unsettled}
 use Rattle.state.specs.declared.Answer.the-variants.{Done}
 use Rattle.tables.specs.Tables.{Tables, tables}
@@ -21,10 +21,11 @@ use Rattle.tables.specs.Values.{classLiteral}
 use Rattle.tables.specs.Clauses.{slotsFrom, gone}
 use Rattle.tables.specs.Fates.{Fate, left, dropped}
 use Rattle.tables.specs.Passes.{advance, firstUnsettled}
-use Rattle.tables.specs.Calls.{After, answered, refuse, marked}
-use Rattle.shape.specs.Entry.{entryOf}
-use Rattle.shape.specs.declared.Entry.{Entry}
-use Rattle.shape.specs.declared.Entry.the-variants.{No, Opens, Resumes}
+use Rattle.tables.specs.Calls.{After, answered, refuse}
+use Rattle.entry.specs.Entry.{entryOf}
+use Rattle.entry.specs.declared.PassName.the-variants as own
+use Rattle.entry.specs.declared.Entry.{Entry}
+use Rattle.entry.specs.declared.Entry.the-variants.{No, Opens, Resumes}
 
 -- ---- the groups
 
@@ -76,16 +77,10 @@ unfoldable pub mergeSettled : ℕ → Tables → State → After
 mergeSettled steps t st =
     elim (ltb (firstUnsettled t (st .n)) (st .n)) [ true ↦ refuse (Unsettled (firstUnsettled t (st .n) + 1)) st t | false ↦ mergeOpen steps t st ]
 
-abbrev pub mergeCursor : Pass → ℕ
-mergeCursor (Merge k) = k
-mergeCursor Idle = 0
-mergeCursor (Propagate k changed) = 0
-mergeCursor (Sweep k) = 0
-
 abbrev pub mergeBy : Entry → ℕ → Tables → State → After
 mergeBy (No r) steps t st = refuse r st t
 mergeBy Opens steps t st = mergeSettled steps t st
-mergeBy Resumes steps t st = mergeFrom (st .fresh) steps (mergeCursor (st .pass)) t st
+mergeBy (Resumes k changed) steps t st = mergeFrom (st .fresh) steps k t st
 
 unfoldable pub mergeCall : ℕ → Tables → State → After
-mergeCall steps t st = mergeBy (entryOf 2 t st) steps t st
+mergeCall steps t st = mergeBy (entryOf own.Merge t st) steps t st

@@ -5,21 +5,22 @@ use mathlib.Core.Bool.{Bool, true, false}
 use mathlib.Core.List.{List}
 use lib.Dec.{ltb}
 use lib.IntN.{ℤ}
+use Rattle.state.specs.States.{opened, closed}
 use Rattle.state.specs.declared.State.{State}
 use Rattle.state.specs.declared.Counts.{Counts}
 use Rattle.state.specs.declared.Pass.the-variants.{Idle, Merge}
 use Rattle.state.specs.declared.Answer.the-variants.{Open, Done}
 use Rattle.tables.specs.Tables.{Tables, tables}
 use Rattle.tables.specs.Passes.{firstUnsettled}
-use Rattle.tables.specs.Calls.{After, answered, state}
+use Rattle.tables.specs.Calls.{After, answered}
 use Rattle.clauses.specs.Formed.{Formed}
 
 -- the answer of a call that has made its visits and stands before clause k: `reached`, by the counts
 abbrev pub repliedAt : Bool → Counts → ℕ → State → Tables → After
 repliedAt fresh counts k st t =
     elim (ltb k (st .n)) [
-      | true ↦ answered (Open counts) (state (st .v) (st .n) (Merge k) fresh false) t
-      | false ↦ answered (Done counts) (state (st .v) (st .n) Idle fresh false) t
+      | true ↦ answered (Open counts) (opened (Merge k) fresh st) t
+      | false ↦ answered (Done counts) (closed fresh st) t
     ]
 
 -- tables without the mark, in which a Merge has visited the clauses before k

@@ -1,6 +1,7 @@
 // Merge, resumable. Its opening makes the strongly connected components of the implication graph classes, unless one has a variable with both signs;
 // its visits put class literals into the clauses.
-use shape::Entry;
+use entry::Entry;
+use entry::PassName;
 use state::Answer;
 use state::Counts;
 use state::Outcome;
@@ -14,7 +15,8 @@ ghost use Prim.Native.Nat.{ℕ, _+_, _*_, _-_, _≤_, _<_};
 ghost use lib.ListN.{length};
 ghost use lib.IntN.{ℤ};
 ghost use Rattle.literal.specs.Clauses.{distinct, tautology};
-ghost use Rattle.tables.specs.Tables.{Tables, tables};
+ghost use Rattle.tables.specs.Tables.{Tables};
+ghost use Rattle.tables.specs.Lent.{lent, returned, unlent};
 ghost use Rattle.tables.specs.Values.{classLiteral};
 ghost use Rattle.tables.specs.Fates.{visit, visits};
 ghost use Rattle.tables.specs.Calls.{after};
@@ -23,7 +25,7 @@ ghost use Rattle.graph.specs.Clauses.{implications};
 ghost use Rattle.tables.specs.Clauses.{slotsFrom};
 ghost use Rattle.clauses.specs.Formed.{Formed};
 ghost use Rattle.clauses.specs.Holding.{holding};
-ghost use Rattle.merge.specs.Merge.{clashes, regrouped, mergeClause, mergeFrom, mergeOpen, mergeSettled, mergeCursor, mergeCall};
+ghost use Rattle.merge.specs.Merge.{clashes, regrouped, mergeClause, mergeFrom, mergeOpen, mergeSettled, mergeCall};
 ghost use Rattle.merge.specs.Opening.{openedClasses, through, Regroups};
 ghost use Rattle.merge.specs.Visits.{EachSmall, substituted, partOf, partAfter, recordAfter, Visitable};
 ghost use Rattle.merge.specs.Steps.{repliedAt, Ready, Openable};
@@ -179,8 +181,8 @@ fn put_record(clauses: &mut [u32], k: usize, seen: Visited)
 // A visit to clause k. Its part of the literal table is lent on; a dropped clause has none, and its visit changes nothing.
 fn visit_clause(clauses: &mut [u32], literals: &mut [i32], variables: &[i32], k: usize)
     requires { ⌜ Visitable k (k + 1) (now clauses) (now literals) (now variables) ⌝ }
-    ensures { λ _. ⌜ ((times : List ℕ) (links : List ℤ) → tables (now (clauses .exit)) (now (literals .exit)) (now (variables .entry)) times links
-        ≡ visit (mergeClause (now (variables .entry))) k (tables (now (clauses .entry)) (now (literals .entry)) (now (variables .entry)) times links)) ⌝ }
+    ensures { λ _. ⌜ ((times : List ℕ) (links : List ℤ) → returned clauses literals variables (unlent times) (unlent links)
+        ≡ visit (mergeClause (now (variables .entry))) k (lent clauses literals variables (unlent times) (unlent links))) ⌝ }
 {
     let flag = clauses[3 * k + 2];
     if flag == 0 {
@@ -195,8 +197,8 @@ fn visit_clause(clauses: &mut [u32], literals: &mut [i32], variables: &[i32], k:
 // The visits to the clauses from `k` on, up to clause `end`.
 pub fn visit_some(clauses: &mut [u32], literals: &mut [i32], variables: &[i32], k: u32, end: u32)
     requires { ⌜ Visitable k end (now clauses) (now literals) (now variables) ⌝ }
-    ensures { λ _. ⌜ ((times : List ℕ) (links : List ℤ) → tables (now (clauses .exit)) (now (literals .exit)) (now (variables .entry)) times links
-        ≡ visits (mergeClause (now (variables .entry))) (end - k) k (tables (now (clauses .entry)) (now (literals .entry)) (now (variables .entry)) times links)) ⌝ }
+    ensures { λ _. ⌜ ((times : List ℕ) (links : List ℤ) → returned clauses literals variables (unlent times) (unlent links)
+        ≡ visits (mergeClause (now (variables .entry))) (end - k) k (lent clauses literals variables (unlent times) (unlent links))) ⌝ }
 {
     let mut i = k;
     while i < end {
@@ -211,31 +213,15 @@ pub fn visit_some(clauses: &mut [u32], literals: &mut [i32], variables: &[i32], 
 fn answer(st: State, fresh: bool, counts: Counts, k: u32) -> Outcome
     ensures { λ r. ⌜ ((t : Tables) → after r t ≡ repliedAt fresh counts k st t) ⌝ }
 {
-    let v = st.v;
-    let n = st.n;
-    if k < n {
-        let state = State {
-            v,
-            n,
-            pass: Pass::Merge(k),
-            fresh,
-            mark: false,
-        };
+    if k < st.n {
         return Outcome {
             answer: Answer::Open(counts),
-            state,
+            state: st.opened(Pass::Merge(k), fresh),
         };
     }
-    let state = State {
-        v,
-        n,
-        pass: Pass::Idle,
-        fresh,
-        mark: false,
-    };
     Outcome {
         answer: Answer::Done(counts),
-        state,
+        state: st.closed(fresh),
     }
 }
 
@@ -250,8 +236,8 @@ pub fn merge_from(
     cursor: u32,
 ) -> Outcome
     requires { ⌜ Ready st cursor (now clauses) (now literals) (now variables) ⌝ }
-    ensures { λ r. ⌜ ((times : List ℕ) (links : List ℤ) → after r (tables (now (clauses .exit)) (now (literals .exit)) (now (variables .entry)) times links)
-        ≡ mergeFrom fresh steps cursor (tables (now (clauses .entry)) (now (literals .entry)) (now (variables .entry)) times links) st) ⌝ }
+    ensures { λ r. ⌜ ((times : List ℕ) (links : List ℤ) → after r (returned clauses literals variables (unlent times) (unlent links))
+        ≡ mergeFrom fresh steps cursor (lent clauses literals variables (unlent times) (unlent links)) st) ⌝ }
 {
     let n = st.n;
     let visits = clauses::fewer(steps, n - cursor);
@@ -272,8 +258,8 @@ pub fn merge_open(
     steps: u32,
 ) -> Outcome
     requires { ⌜ Openable st (now clauses) (now literals) (now variables) ⌝ }
-    ensures { λ r. ⌜ ((times : List ℕ) (links : List ℤ) → after r (tables (now (clauses .exit)) (now (literals .exit)) (now (variables .exit)) times links)
-        ≡ mergeOpen steps (tables (now (clauses .entry)) (now (literals .entry)) (now (variables .entry)) times links) st) ⌝ }
+    ensures { λ r. ⌜ ((times : List ℕ) (links : List ℤ) → after r (returned clauses literals variables (unlent times) (unlent links))
+        ≡ mergeOpen steps (lent clauses literals variables (unlent times) (unlent links)) st) ⌝ }
 {
     let v = st.v;
     let n = st.n;
@@ -283,16 +269,9 @@ pub fn merge_open(
             clauses: 0,
             literals: 0,
         };
-        let state = State {
-            v,
-            n,
-            pass: Pass::Idle,
-            fresh: false,
-            mark: true,
-        };
         return Outcome {
             answer: Answer::Done(none),
-            state,
+            state: st.marked(),
         };
     }
     merge_from(clauses, literals, variables, st, false, steps, 0)
@@ -307,8 +286,8 @@ pub fn merge_settled(
     steps: u32,
 ) -> Outcome
     requires { ⌜ Formed (st .v) (st .n) (st .n) false (now clauses) (now literals) (now variables) ⌝ }
-    ensures { λ r. ⌜ ((times : List ℕ) (links : List ℤ) → after r (tables (now (clauses .exit)) (now (literals .exit)) (now (variables .exit)) times links)
-        ≡ mergeSettled steps (tables (now (clauses .entry)) (now (literals .entry)) (now (variables .entry)) times links) st) ⌝ }
+    ensures { λ r. ⌜ ((times : List ℕ) (links : List ℤ) → after r (returned clauses literals variables (unlent times) (unlent links))
+        ≡ mergeSettled steps (lent clauses literals variables (unlent times) (unlent links)) st) ⌝ }
 {
     let n = st.n as usize;
     let first = settled::first_unsettled(clauses, literals, variables, n);
@@ -321,36 +300,6 @@ pub fn merge_settled(
     merge_open(clauses, literals, variables, st, steps)
 }
 
-// Where an open Merge stands.
-fn cursor_of(st: State) -> u32
-    ensures { λ r. ⌜ r ≡ mergeCursor (st .pass) ⌝ }
-{
-    let p = st.pass;
-    match p {
-        Pass::Merge(k) => k,
-        Pass::Idle => 0,
-        Pass::Propagate(_, _) => 0,
-        Pass::Sweep(_) => 0,
-    }
-}
-
-// A call that goes on where the pass was left.
-fn merge_resume(
-    clauses: &mut [u32],
-    literals: &mut [i32],
-    variables: &[i32],
-    st: State,
-    steps: u32,
-) -> Outcome
-    requires { ⌜ Ready st (mergeCursor (st .pass)) (now clauses) (now literals) (now variables) ⌝ }
-    ensures { λ r. ⌜ ((times : List ℕ) (links : List ℤ) → after r (tables (now (clauses .exit)) (now (literals .exit)) (now (variables .entry)) times links)
-        ≡ mergeFrom (st .fresh) steps (mergeCursor (st .pass)) (tables (now (clauses .entry)) (now (literals .entry)) (now (variables .entry)) times links) st) ⌝ }
-{
-    let fresh = st.fresh;
-    let cursor = cursor_of(st);
-    merge_from(clauses, literals, variables, st, fresh, steps, cursor)
-}
-
 // The exported call.
 pub fn merge(
     clauses: &mut [u32],
@@ -361,16 +310,20 @@ pub fn merge(
     st: State,
     n: u16,
 ) -> Outcome
-    ensures { λ r. ⌜ after r (tables (now (clauses .exit)) (now (literals .exit)) (now (variables .exit)) (now (times .entry)) (now (links .entry)))
-        ≡ mergeCall n (tables (now (clauses .entry)) (now (literals .entry)) (now (variables .entry)) (now (times .entry)) (now (links .entry))) st ⌝ }
+    ensures { λ r. ⌜ after r (returned clauses literals variables times links)
+        ≡ mergeCall n (lent clauses literals variables times links) st ⌝ }
 {
-    let entry = shape::entry_of(clauses, literals, variables, times, links, st, 2);
+    let own = PassName::Merge;
+    let entry = entry::entry_of(clauses, literals, variables, times, links, st, own);
     match entry {
         Entry::No(r) => Outcome {
             answer: Answer::Refused(r),
             state: st,
         },
         Entry::Opens => merge_settled(clauses, literals, variables, st, n as u32),
-        Entry::Resumes => merge_resume(clauses, literals, variables, st, n as u32),
+        Entry::Resumes(k, _) => {
+            let fresh = st.fresh;
+            merge_from(clauses, literals, variables, st, fresh, n as u32, k)
+        }
     }
 }

@@ -89,8 +89,8 @@ pub fn put_next_signed(out: &mut [u8], at: usize, n: i32) -> usize {
 
 fn put_refusal(out: &mut [u8], at: usize, refusal: Refusal) -> usize {
     let word = put_bytes(out, at, b"refused");
-    let number = put_next_long(out, word, reporting::number_of(refusal));
-    put_next_long(out, number, reporting::place_of(refusal))
+    let number = put_next_long(out, word, refusal.number());
+    put_next_long(out, number, refusal.place())
 }
 
 fn put_counts(out: &mut [u8], at: usize, counts: Counts) -> usize {

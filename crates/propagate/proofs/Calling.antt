@@ -1,22 +1,22 @@
 -- The call: with no clause it is done at once, and each way of its entry is a way of `propagateCall`. Assumes nothing.
 use Prim.Native.Nat.{ℕ, zero, suc}
-use native.Mathlib.Omega.{arith}
 use mathlib.Core.Path.{_≡_, refl, sym, ap, _∙_}
-use mathlib.Core.Bool.{false}
+use mathlib.Core.Bool.{Bool, false}
 use Rattle.state.specs.declared.State.{State}
 use Rattle.state.specs.declared.Counts.{Counts}
 use Rattle.state.specs.declared.Refusal.{Refusal}
 use Rattle.tables.specs.Tables.{Tables}
 use Rattle.tables.specs.Calls.{refuse}
-use Rattle.shape.specs.Entry.{entryOf}
-use Rattle.shape.specs.declared.Entry.{Entry}
-use Rattle.shape.specs.declared.Entry.the-variants.{No, Opens, Resumes}
-use Rattle.shape.proofs.Entering.{opens-entered, resumes-entered}
+use Rattle.entry.specs.Entry.{entryOf}
+use Rattle.entry.specs.declared.PassName.the-variants as own
+use Rattle.entry.specs.declared.Entry.{Entry}
+use Rattle.entry.specs.declared.Entry.the-variants.{No, Opens, Resumes}
+use Rattle.entry.proofs.Entering.{opens-entered, resumes-entered}
 use Rattle.clauses.specs.Formed.{Formed}
 use Rattle.clauses.proofs.Counting.{none-gone}
 use Rattle.clauses.proofs.Entered.{entered-formed, entered-cursor}
-use Rattle.propagate.specs.Propagate.{Progress, going, settled, begin, resumed, Reached, replied, propagateVisits, propagateFrom, propagateBy, propagateCall}
-use Rattle.propagate.specs.Steps.{repliedWith, Resumable}
+use Rattle.propagate.specs.Propagate.{Progress, going, settled, begin, Reached, replied, propagateVisits, propagateFrom, propagateBy, propagateCall}
+use Rattle.propagate.specs.Steps.{repliedWith, Ready}
 use Rattle.propagate.specs.declared.Stand.the-variants.{Settled}
 
 -- ---- with no clause
@@ -40,20 +40,20 @@ begin-some (suc n) t d = refl
 -- ---- the three ways of the call
 
 module _ (steps : ℕ) (t : Tables) (st : State) where
-  pub call-refused : (r : Refusal) → entryOf 1 t st ≡ No r → refuse r st t ≡ propagateCall steps t st
+  pub call-refused : (r : Refusal) → entryOf own.Propagate t st ≡ No r → refuse r st t ≡ propagateCall steps t st
   unfolding propagateCall
   call-refused r e = ap (λ (x : Entry). propagateBy x steps t st) (sym e)
 
-  pub call-opens : entryOf 1 t st ≡ Opens → propagateFrom false steps (begin (st .n) t) t st ≡ propagateCall steps t st
+  pub call-opens : entryOf own.Propagate t st ≡ Opens → propagateFrom false steps (begin (st .n) t) t st ≡ propagateCall steps t st
   unfolding propagateCall
   call-opens e = ap (λ (x : Entry). propagateBy x steps t st) (sym e)
 
-  pub call-resumes : entryOf 1 t st ≡ Resumes → propagateFrom (st .fresh) steps (resumed (st .pass) t) t st ≡ propagateCall steps t st
+  pub call-resumes : (k : ℕ) (changed : Bool) → entryOf own.Propagate t st ≡ Resumes k changed → propagateFrom (st .fresh) steps (going k changed t) t st ≡ propagateCall steps t st
   unfolding propagateCall
-  call-resumes e = ap (λ (x : Entry). propagateBy x steps t st) (sym e)
+  call-resumes k changed e = ap (λ (x : Entry). propagateBy x steps t st) (sym e)
 
-  pub opens-formed : entryOf 1 t st ≡ Opens → Formed (st .v) (st .n) (st .n) false (t .clauses) (t .literals) (t .variables)
-  opens-formed e = entered-formed (opens-entered 1 t st e) (λ z. omega arith)
+  pub opens-formed : entryOf own.Propagate t st ≡ Opens → Formed (st .v) (st .n) (st .n) false (t .clauses) (t .literals) (t .variables)
+  opens-formed e = entered-formed (opens-entered own.Propagate t st e) tt
 
-  pub resumes-resumable : entryOf 1 t st ≡ Resumes → Resumable st (t .clauses) (t .literals) (t .variables)
-  resumes-resumable e = let E = resumes-entered 1 t st e in record { formed = entered-formed E (λ z. omega arith); cursor = entered-cursor E; pass = E .pass }
+  pub resumes-ready : (k : ℕ) (changed : Bool) → entryOf own.Propagate t st ≡ Resumes k changed → Ready (st .n) k (t .clauses) (t .literals) (t .variables)
+  resumes-ready k changed e = let E = resumes-entered own.Propagate t st k changed e in record { vars = st .v; formed = entered-formed E tt; below = entered-cursor E .0 }

@@ -6,20 +6,19 @@ use mathlib.Core.Bool.{Bool, true, false, _||_, false≢true}
 use mathlib.Core.List.{List}
 use lib.Dec.{ltb}
 use Rattle.state.specs.declared.State.{State}
-use Rattle.state.specs.declared.Pass.{Pass}
-use Rattle.state.specs.declared.Pass.the-variants.{Idle, Propagate, Merge, Sweep}
 use Rattle.tables.specs.Tables.{Tables, lengthOf, classOf}
 use Rattle.tables.specs.Fates.{Fate, kept, left, dropped, unit, conflict, store, fateAt}
 use Rattle.stamps.specs.Fresh.{FreshStamps}
-use Rattle.shape.specs.Shape.{Cursor, Shape}
-use Rattle.shape.specs.Entry.{entryOf}
-use Rattle.shape.specs.declared.Entry.{Entry}
-use Rattle.shape.specs.declared.Entry.the-variants.{No, Opens, Resumes}
-use Rattle.shape.proofs.Entering.{opens-entered, resumes-entered}
+use Rattle.shape.specs.Shape.{Shape}
+use Rattle.entry.specs.Entry.{entryOf}
+use Rattle.entry.specs.declared.PassName.the-variants as own
+use Rattle.entry.specs.declared.Entry.{Entry}
+use Rattle.entry.specs.declared.Entry.the-variants.{No, Opens, Resumes}
+use Rattle.entry.proofs.Entering.{opens-entered, resumes-entered}
 use Rattle.clauses.proofs.Visiting.{SameStamps, stamps-same, stamps-join, store-stamps}
 use Rattle.clauses.proofs.Keeping.{FormedIn, formed-shape-as}
 use Rattle.clauses.proofs.Entered.{entered-formed, entered-cursor}
-use Rattle.propagate.specs.Propagate.{Progress, going, settled, contradicted, onward, changes, visited, propagateClause, propagateVisit, propagateVisits, replied, propagateFrom, begin, resumed, propagateBy, propagateCall}
+use Rattle.propagate.specs.Propagate.{Progress, going, settled, contradicted, onward, changes, visited, propagateClause, propagateVisit, propagateVisits, replied, propagateFrom, begin, propagateBy, propagateCall}
 use Rattle.propagate.proofs.Keeping.{visit-classes}
 use Rattle.propagate.proofs.Stepping.{Good, visit-good, visits-good}
 
@@ -72,12 +71,6 @@ pub begin-tables : (n : ℕ) (t : Tables) → tablesAt (begin n t) ≡ t
 begin-tables zero t = refl
 begin-tables (suc n) t = refl
 
-pub resumed-tables : (p : Pass) (t : Tables) → tablesAt (resumed p t) ≡ t
-resumed-tables Idle t = refl
-resumed-tables (Propagate j c) t = refl
-resumed-tables (Merge j) t = refl
-resumed-tables (Sweep j) t = refl
-
 pub replied-tables : (fresh : Bool) (before : List ℕ) (st : State) (m : ℕ) (p : Progress) → replied fresh before st m p .tables ≡ tablesAt p
 replied-tables fresh before st m (going k changed t) = refl
 replied-tables fresh before st m (settled t) = refl
@@ -103,22 +96,16 @@ pub begin-good : (v n : ℕ) (t : Tables) → FormedIn v n t → Good v n (begin
 begin-good v zero t F = F
 begin-good v (suc n) t F = (F, omega arith)
 
-pub resumed-good : (v n : ℕ) (p : Pass) (t : Tables) → FormedIn v n t → Cursor p n false → Good v n (resumed p t)
-resumed-good v n Idle t F C = F
-resumed-good v n (Propagate j c) t F C = (F, C .0)
-resumed-good v n (Merge j) t F C = F
-resumed-good v n (Sweep j) t F C = F
-
 -- THE THEOREM: a call of Propagate keeps the shape rule
 pub propagate-shaped : (steps : ℕ) (t : Tables) (st : State) → Shape t st → Shape (propagateCall steps t st .tables) (propagateCall steps t st .state)
 unfolding propagateCall
-propagate-shaped steps t st S = by (entryOf 1 t st) refl
+propagate-shaped steps t st S = by (entryOf own.Propagate t st) refl
   where
-    by : (e : Entry) → entryOf 1 t st ≡ e → Shape (propagateBy e steps t st .tables) (propagateBy e steps t st .state)
+    by : (e : Entry) → entryOf own.Propagate t st ≡ e → Shape (propagateBy e steps t st .tables) (propagateBy e steps t st .state)
     by (No r) q = S
     by Opens q =
-        let F = entered-formed (opens-entered 1 t st q) (λ z. omega arith) in
+        let F = entered-formed (opens-entered own.Propagate t st q) tt in
         from-shaped t st S false (λ e. absurd (false≢true e)) steps (begin (st .n) t) (begin-good (st .v) (st .n) t F) (begin-tables (st .n) t)
-    by Resumes q =
-        let E = resumes-entered 1 t st q in
-        from-shaped t st S (st .fresh) (S .stamps) steps (resumed (st .pass) t) (resumed-good (st .v) (st .n) (st .pass) t (entered-formed E (λ z. omega arith)) (entered-cursor E)) (resumed-tables (st .pass) t)
+    by (Resumes k changed) q =
+        let E = resumes-entered own.Propagate t st k changed q in
+        from-shaped t st S (st .fresh) (S .stamps) steps (going k changed t) (entered-formed E tt, entered-cursor E .0) refl

@@ -8,18 +8,19 @@ use lib.ListN.{length}
 use lib.Dec.{ltb}
 use lib.IntN.{ℤ}
 use Rattle.base.specs.Lists.{any, filter}
+use Rattle.state.specs.States.{opened, closed, marked}
 use Rattle.state.specs.declared.State.{State}
-use Rattle.state.specs.declared.Pass.{Pass}
-use Rattle.state.specs.declared.Pass.the-variants.{Idle, Propagate, Merge, Sweep}
+use Rattle.state.specs.declared.Pass.the-variants.{Propagate}
 use Rattle.state.specs.declared.Answer.the-variants.{Open, Done}
 use Rattle.tables.specs.Tables.{Tables, lengthOf}
 use Rattle.tables.specs.Values.{isTrue, isFalse}
 use Rattle.tables.specs.Clauses.{gone}
 use Rattle.tables.specs.Fates.{Fate, kept, left, dropped, unit, conflict, store, fateAt}
-use Rattle.tables.specs.Calls.{After, answered, refuse, state, marked}
-use Rattle.shape.specs.Entry.{entryOf}
-use Rattle.shape.specs.declared.Entry.{Entry}
-use Rattle.shape.specs.declared.Entry.the-variants.{No, Opens, Resumes}
+use Rattle.tables.specs.Calls.{After, answered, refuse}
+use Rattle.entry.specs.Entry.{entryOf}
+use Rattle.entry.specs.declared.PassName.the-variants as own
+use Rattle.entry.specs.declared.Entry.{Entry}
+use Rattle.entry.specs.declared.Entry.the-variants.{No, Opens, Resumes}
 
 -- ---- one clause
 
@@ -90,25 +91,18 @@ begin (suc n) t = going 0 false t
 
 -- Open exactly if visits are left; the mark closes the pass and spends the stamps
 abbrev pub replied : Bool → List ℕ → State → ℕ → Progress → After
-replied fresh before st m (going k changed t) = answered (Open (gone m (st .n) before (t .clauses))) (state (st .v) (st .n) (Propagate k changed) fresh false) t
-replied fresh before st m (settled t) = answered (Done (gone m (st .n) before (t .clauses))) (state (st .v) (st .n) Idle fresh false) t
+replied fresh before st m (going k changed t) = answered (Open (gone m (st .n) before (t .clauses))) (opened (Propagate k changed) fresh st) t
+replied fresh before st m (settled t) = answered (Done (gone m (st .n) before (t .clauses))) (closed fresh st) t
 replied fresh before st m (contradicted t) = answered (Done (gone m (st .n) before (t .clauses))) (marked st) t
 
 unfoldable pub propagateFrom : Bool → ℕ → Progress → Tables → State → After
 propagateFrom fresh steps p t st = replied fresh (t .clauses) st (propagateVisits (st .n) steps 0 p .visits) (propagateVisits (st .n) steps 0 p .progress)
 
--- where an open Propagate stands
-abbrev pub resumed : Pass → Tables → Progress
-resumed (Propagate k changed) t = going k changed t
-resumed Idle t = settled t
-resumed (Merge k) t = settled t
-resumed (Sweep k) t = settled t
-
 -- opening spends the stamps, for any step count
 abbrev pub propagateBy : Entry → ℕ → Tables → State → After
 propagateBy (No r) steps t st = refuse r st t
 propagateBy Opens steps t st = propagateFrom false steps (begin (st .n) t) t st
-propagateBy Resumes steps t st = propagateFrom (st .fresh) steps (resumed (st .pass) t) t st
+propagateBy (Resumes k changed) steps t st = propagateFrom (st .fresh) steps (going k changed t) t st
 
 unfoldable pub propagateCall : ℕ → Tables → State → After
-propagateCall steps t st = propagateBy (entryOf 1 t st) steps t st
+propagateCall steps t st = propagateBy (entryOf own.Propagate t st) steps t st

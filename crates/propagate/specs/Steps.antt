@@ -5,14 +5,13 @@ use mathlib.Core.Bool.{Bool, true, false, _||_}
 use mathlib.Core.List.{List}
 use lib.Dec.{ltb}
 use lib.IntN.{ℤ}
+use Rattle.state.specs.States.{opened, closed, marked}
 use Rattle.state.specs.declared.State.{State}
 use Rattle.state.specs.declared.Counts.{Counts}
-use Rattle.state.specs.declared.Pass.the-variants.{Idle, Propagate}
+use Rattle.state.specs.declared.Pass.the-variants.{Propagate}
 use Rattle.state.specs.declared.Answer.the-variants.{Open, Done}
 use Rattle.tables.specs.Tables.{Tables}
-use Rattle.tables.specs.Calls.{After, answered, state, marked}
-use Rattle.shape.specs.Shape.{Cursor}
-use Rattle.shape.specs.Entry.{passNumber}
+use Rattle.tables.specs.Calls.{After, answered}
 use Rattle.clauses.specs.Formed.{Formed}
 use Rattle.propagate.specs.Propagate.{Progress, going, settled, contradicted, onward, Reached, reached}
 use Rattle.propagate.specs.declared.Visited.{Visited}
@@ -45,12 +44,6 @@ pub record Ready (n k : ℕ) (clauses : List ℕ) (literals variables : List ℤ
 
 -- the answer of a call that has made its visits: `replied`, by where the pass stands
 abbrev pub repliedWith : Bool → Counts → State → Stand → Tables → After
-repliedWith fresh counts st (Going k changed) t = answered (Open counts) (state (st .v) (st .n) (Propagate k changed) fresh false) t
-repliedWith fresh counts st Settled t = answered (Done counts) (state (st .v) (st .n) Idle fresh false) t
+repliedWith fresh counts st (Going k changed) t = answered (Open counts) (opened (Propagate k changed) fresh st) t
+repliedWith fresh counts st Settled t = answered (Done counts) (closed fresh st) t
 repliedWith fresh counts st Contradicted t = answered (Done counts) (marked st) t
-
--- an open Propagate, in tables without the mark
-pub record Resumable (st : State) (clauses : List ℕ) (literals variables : List ℤ) : Type 0 where
-  pub formed : Formed (st .v) (st .n) (st .n) false clauses literals variables
-  pub cursor : Cursor (st .pass) (st .n) false
-  pub pass : passNumber (st .pass) ≡ 1

@@ -1,10 +1,10 @@
 // Propagate: unit propagation over the clauses in the tables, resumable.
-use shape::Entry;
+use entry::Entry;
+use entry::PassName;
 use state::Answer;
 use state::Counts;
 use state::Outcome;
 use state::Pass;
-use state::Refusal;
 use state::State;
 ghost use mathlib.Core.Path.{_≡_};
 ghost use mathlib.Core.Bool.{false};
@@ -13,14 +13,15 @@ ghost use lib.ListN.{length, replicate};
 ghost use Rattle.base.specs.Lists.{any};
 ghost use Rattle.tables.specs.Values.{isTrue};
 ghost use Rattle.clauses.specs.Formed.{EachKnown, Formed};
-ghost use Rattle.propagate.specs.Propagate.{notFalse, propagateClause, going, onward, propagateVisit, propagateVisits, begin, resumed, propagateFrom, propagateCall};
+ghost use Rattle.propagate.specs.Propagate.{notFalse, propagateClause, going, onward, propagateVisit, propagateVisits, begin, propagateFrom, propagateCall};
 ghost use Rattle.propagate.specs.Visits.{partOf, partAfter, recordAfter, visitOf, visitAt, Visitable};
-ghost use Rattle.propagate.specs.Steps.{progressOf, standAfter, reachedAs, repliedWith, Ready, Resumable};
+ghost use Rattle.propagate.specs.Steps.{progressOf, standAfter, reachedAs, repliedWith, Ready};
 ghost use Rattle.propagate.specs.Listed.{Listed, Advanced};
 ghost use Rattle.propagate.specs.declared.Visited.the-variants.{Conflict};
 ghost use Rattle.propagate.specs.declared.Stand.the-variants.{Contradicted};
 ghost use Rattle.tables.specs.Calls.{after};
-ghost use Rattle.tables.specs.Tables.{Tables, tables};
+ghost use Rattle.tables.specs.Tables.{Tables};
+ghost use Rattle.tables.specs.Lent.{lent, returned, unlent};
 ghost use mathlib.Core.List.{List, _++_};
 ghost use lib.IntN.{ℤ, pos};
 
@@ -136,8 +137,8 @@ fn visit_clause(
     k: usize,
 ) -> Visited
     requires { ⌜ Visitable k (now clauses) (now literals) (now variables) ⌝ }
-    ensures { λ r. ⌜ ((times : List ℕ) (links : List ℤ) → visitOf r (tables (now (clauses .exit)) (now (literals .exit)) (now (variables .exit)) times links)
-        ≡ visitAt k (tables (now (clauses .entry)) (now (literals .entry)) (now (variables .entry)) times links)) ⌝ }
+    ensures { λ r. ⌜ ((times : List ℕ) (links : List ℤ) → visitOf r (returned clauses literals variables (unlent times) (unlent links))
+        ≡ visitAt k (lent clauses literals variables (unlent times) (unlent links))) ⌝ }
 {
     let flag = clauses[3 * k + 2];
     if flag == 0 {
@@ -187,8 +188,8 @@ fn step(
     changed: bool,
 ) -> Stand
     requires { ⌜ Ready n k (now clauses) (now literals) (now variables) ⌝ }
-    ensures { λ r. ⌜ ((times : List ℕ) (links : List ℤ) → progressOf r (tables (now (clauses .exit)) (now (literals .exit)) (now (variables .exit)) times links)
-        ≡ propagateVisit n k changed (tables (now (clauses .entry)) (now (literals .entry)) (now (variables .entry)) times links)) ⌝ }
+    ensures { λ r. ⌜ ((times : List ℕ) (links : List ℤ) → progressOf r (returned clauses literals variables (unlent times) (unlent links))
+        ≡ propagateVisit n k changed (lent clauses literals variables (unlent times) (unlent links))) ⌝ }
 {
     let at = k as usize;
     let size = clauses[3 * at + 1];
@@ -207,8 +208,8 @@ fn visit_each(
     flag: bool,
 ) -> Reach
     requires { ⌜ Ready n cursor (now clauses) (now literals) (now variables) ⌝ }
-    ensures { λ r. ⌜ ((times : List ℕ) (links : List ℤ) → reachedAs r (tables (now (clauses .exit)) (now (literals .exit)) (now (variables .exit)) times links)
-        ≡ propagateVisits n steps 0 (going cursor flag (tables (now (clauses .entry)) (now (literals .entry)) (now (variables .entry)) times links))) ⌝ }
+    ensures { λ r. ⌜ ((times : List ℕ) (links : List ℤ) → reachedAs r (returned clauses literals variables (unlent times) (unlent links))
+        ≡ propagateVisits n steps 0 (going cursor flag (lent clauses literals variables (unlent times) (unlent links)))) ⌝ }
 {
     let mut visits: u32 = 0;
     let mut k = cursor;
@@ -242,8 +243,8 @@ fn visit_pending(
 ) -> Visited
     requires { ⌜ Ready n k (now clauses) (now literals) (now variables) ⌝ }
     requires { ⌜ Listed n (now heads) (now places) (now pending) (now blocks) (now clauses) (now literals) (now variables) ⌝ }
-    ensures { λ r. ⌜ ((times : List ℕ) (links : List ℤ) → visitOf r (tables (now (clauses .exit)) (now (literals .exit)) (now (variables .exit)) times links)
-        ≡ visitAt k (tables (now (clauses .entry)) (now (literals .entry)) (now (variables .entry)) times links)) ⌝ }
+    ensures { λ r. ⌜ ((times : List ℕ) (links : List ℤ) → visitOf r (returned clauses literals variables (unlent times) (unlent links))
+        ≡ visitAt k (lent clauses literals variables (unlent times) (unlent links))) ⌝ }
     ensures { λ r. ⌜ ((r ≡ Conflict → ⊥) → Listed n (now (heads .entry)) (now (places .entry)) (now (pending .exit)) (now (blocks .exit)) (now (clauses .exit)) (now (literals .exit)) (now (variables .exit))) ⌝ }
 {
     let at = k as usize;
@@ -325,8 +326,8 @@ fn visit_skipping(
 ) -> Reach
     requires { ⌜ Ready n cursor (now clauses) (now literals) (now variables) ⌝ }
     requires { ⌜ Listed n (now heads) (now places) (now pending) (now blocks) (now clauses) (now literals) (now variables) ⌝ }
-    ensures { λ r. ⌜ ((times : List ℕ) (links : List ℤ) → reachedAs r (tables (now (clauses .exit)) (now (literals .exit)) (now (variables .exit)) times links)
-        ≡ propagateVisits n steps 0 (going cursor flag (tables (now (clauses .entry)) (now (literals .entry)) (now (variables .entry)) times links))) ⌝ }
+    ensures { λ r. ⌜ ((times : List ℕ) (links : List ℤ) → reachedAs r (returned clauses literals variables (unlent times) (unlent links))
+        ≡ propagateVisits n steps 0 (going cursor flag (lent clauses literals variables (unlent times) (unlent links)))) ⌝ }
 {
     let mut visits: u32 = 0;
     let mut k = cursor;
@@ -371,8 +372,8 @@ fn visit_listed(
     flag: bool,
 ) -> Reach
     requires { ⌜ Ready n cursor (now clauses) (now literals) (now variables) ⌝ }
-    ensures { λ r. ⌜ ((times : List ℕ) (links : List ℤ) → reachedAs r (tables (now (clauses .exit)) (now (literals .exit)) (now (variables .exit)) times links)
-        ≡ propagateVisits n steps 0 (going cursor flag (tables (now (clauses .entry)) (now (literals .entry)) (now (variables .entry)) times links))) ⌝ }
+    ensures { λ r. ⌜ ((times : List ℕ) (links : List ℤ) → reachedAs r (returned clauses literals variables (unlent times) (unlent links))
+        ≡ propagateVisits n steps 0 (going cursor flag (lent clauses literals variables (unlent times) (unlent links)))) ⌝ }
 {
     let mut heads = [0u32; 1025];
     let mut places = [0u32; 32768];
@@ -405,8 +406,8 @@ pub fn visit_some(
     flag: bool,
 ) -> Reach
     requires { ⌜ Ready n cursor (now clauses) (now literals) (now variables) ⌝ }
-    ensures { λ r. ⌜ ((times : List ℕ) (links : List ℤ) → reachedAs r (tables (now (clauses .exit)) (now (literals .exit)) (now (variables .exit)) times links)
-        ≡ propagateVisits n steps 0 (going cursor flag (tables (now (clauses .entry)) (now (literals .entry)) (now (variables .entry)) times links))) ⌝ }
+    ensures { λ r. ⌜ ((times : List ℕ) (links : List ℤ) → reachedAs r (returned clauses literals variables (unlent times) (unlent links))
+        ≡ propagateVisits n steps 0 (going cursor flag (lent clauses literals variables (unlent times) (unlent links)))) ⌝ }
 {
     let first = clauses::fewer(4 * n, steps);
     let reach = visit_each(clauses, literals, variables, n, first, cursor, flag);
@@ -432,33 +433,15 @@ fn answer(st: State, fresh: bool, counts: Counts, stand: Stand) -> Outcome
     match stand {
         Stand::Going(k, changed) => Outcome {
             answer: Answer::Open(counts),
-            state: State {
-                v: st.v,
-                n: st.n,
-                pass: Pass::Propagate(k, changed),
-                fresh,
-                mark: false,
-            },
+            state: st.opened(Pass::Propagate(k, changed), fresh),
         },
         Stand::Settled => Outcome {
             answer: Answer::Done(counts),
-            state: State {
-                v: st.v,
-                n: st.n,
-                pass: Pass::Idle,
-                fresh,
-                mark: false,
-            },
+            state: st.closed(fresh),
         },
         Stand::Contradicted => Outcome {
             answer: Answer::Done(counts),
-            state: State {
-                v: st.v,
-                n: st.n,
-                pass: Pass::Idle,
-                fresh: false,
-                mark: true,
-            },
+            state: st.marked(),
         },
     }
 }
@@ -475,9 +458,9 @@ pub fn propagate_from(
     flag: bool,
 ) -> Outcome
     requires { ⌜ Ready (st .n) cursor (now clauses) (now literals) (now variables) ⌝ }
-    ensures { λ r. ⌜ ((times : List ℕ) (links : List ℤ) → after r (tables (now (clauses .exit)) (now (literals .exit)) (now (variables .exit)) times links)
-        ≡ propagateFrom fresh steps (going cursor flag (tables (now (clauses .entry)) (now (literals .entry)) (now (variables .entry)) times links))
-        (tables (now (clauses .entry)) (now (literals .entry)) (now (variables .entry)) times links) st) ⌝ }
+    ensures { λ r. ⌜ ((times : List ℕ) (links : List ℤ) → after r (returned clauses literals variables (unlent times) (unlent links))
+        ≡ propagateFrom fresh steps (going cursor flag (lent clauses literals variables (unlent times) (unlent links)))
+        (lent clauses literals variables (unlent times) (unlent links)) st) ⌝ }
 {
     let n = st.n;
     let before = clauses::count_standing(clauses, n as usize);
@@ -498,9 +481,9 @@ pub fn open_pass(
     steps: u32,
 ) -> Outcome
     requires { ⌜ Formed (st .v) (st .n) (st .n) false (now clauses) (now literals) (now variables) ⌝ }
-    ensures { λ r. ⌜ ((times : List ℕ) (links : List ℤ) → after r (tables (now (clauses .exit)) (now (literals .exit)) (now (variables .exit)) times links)
-        ≡ propagateFrom false steps (begin (st .n) (tables (now (clauses .entry)) (now (literals .entry)) (now (variables .entry)) times links))
-        (tables (now (clauses .entry)) (now (literals .entry)) (now (variables .entry)) times links) st) ⌝ }
+    ensures { λ r. ⌜ ((times : List ℕ) (links : List ℤ) → after r (returned clauses literals variables (unlent times) (unlent links))
+        ≡ propagateFrom false steps (begin (st .n) (lent clauses literals variables (unlent times) (unlent links)))
+        (lent clauses literals variables (unlent times) (unlent links)) st) ⌝ }
 {
     let n = st.n;
     if n == 0 {
@@ -514,46 +497,6 @@ pub fn open_pass(
     propagate_from(clauses, literals, variables, st, false, steps, 0, false)
 }
 
-// A call that goes on where the pass was left.
-fn resume_pass(
-    clauses: &mut [u32],
-    literals: &mut [i32],
-    variables: &mut [i32],
-    st: State,
-    steps: u32,
-) -> Outcome
-    requires { ⌜ Resumable st (now clauses) (now literals) (now variables) ⌝ }
-    ensures { λ r. ⌜ ((times : List ℕ) (links : List ℤ) → after r (tables (now (clauses .exit)) (now (literals .exit)) (now (variables .exit)) times links)
-        ≡ propagateFrom (st .fresh) steps (resumed (st .pass) (tables (now (clauses .entry)) (now (literals .entry)) (now (variables .entry)) times links))
-        (tables (now (clauses .entry)) (now (literals .entry)) (now (variables .entry)) times links) st) ⌝ }
-{
-    let fresh = st.fresh;
-    let pass = st.pass;
-    match pass {
-        Pass::Propagate(k, changed) => propagate_from(
-            clauses,
-            literals,
-            variables,
-            st,
-            fresh,
-            steps,
-            k,
-            changed,
-        ),
-        // another pass is never resumed here
-        Pass::Idle => refuse(st),
-        Pass::Merge(_) => refuse(st),
-        Pass::Sweep(_) => refuse(st),
-    }
-}
-
-fn refuse(st: State) -> Outcome {
-    Outcome {
-        answer: Answer::Refused(Refusal::OtherPass),
-        state: st,
-    }
-}
-
 // The exported call.
 pub fn propagate(
     clauses: &mut [u32],
@@ -564,16 +507,21 @@ pub fn propagate(
     st: State,
     n: u16,
 ) -> Outcome
-    ensures { λ r. ⌜ after r (tables (now (clauses .exit)) (now (literals .exit)) (now (variables .exit)) (now (times .entry)) (now (links .entry)))
-        ≡ propagateCall n (tables (now (clauses .entry)) (now (literals .entry)) (now (variables .entry)) (now (times .entry)) (now (links .entry))) st ⌝ }
+    ensures { λ r. ⌜ after r (returned clauses literals variables times links)
+        ≡ propagateCall n (lent clauses literals variables times links) st ⌝ }
 {
-    let entry = shape::entry_of(clauses, literals, variables, times, links, st, 1);
+    let own = PassName::Propagate;
+    let entry = entry::entry_of(clauses, literals, variables, times, links, st, own);
     match entry {
         Entry::No(r) => Outcome {
             answer: Answer::Refused(r),
             state: st,
         },
         Entry::Opens => open_pass(clauses, literals, variables, st, n as u32),
-        Entry::Resumes => resume_pass(clauses, literals, variables, st, n as u32),
+        Entry::Resumes(k, changed) => {
+            let fresh = st.fresh;
+            let steps = n as u32;
+            propagate_from(clauses, literals, variables, st, fresh, steps, k, changed)
+        }
     }
 }

@@ -173,7 +173,7 @@ fn case(name: &[u8], lent: usize)
     let order: [i32; 8] = [1, -1, 2, -2, 3, -3, 4, -4];
     print(name);
     end_line();
-    let empty = tables::empty_state();
+    let empty = State::empty();
     let loaded = report(load::load(
         text,
         &mut clauses,

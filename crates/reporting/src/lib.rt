@@ -1,6 +1,4 @@
 // What the programs of cases print: numbers, refusals and answers in the words of document 01.
-ghost use mathlib.Core.Path.{_≡_};
-ghost use Rattle.state.specs.Answers.{refusalNumber, refusalPlace};
 use libc::STDOUT_FILENO;
 use state::Answer;
 use state::Counts;
@@ -20,46 +18,10 @@ pub fn end_line() {
     print(b"\n");
 }
 
-// ---- refusals in numbers
-
-pub fn number_of(refusal: Refusal) -> u64
-    ensures { λ r. ⌜ r ≡ refusalNumber refusal ⌝ }
-{
-    match refusal {
-        Refusal::Shape => 1,
-        Refusal::Grammar(_) => 2,
-        Refusal::Limit(_) => 3,
-        Refusal::OtherPass => 4,
-        Refusal::Marked => 5,
-        Refusal::Unsettled(_) => 6,
-        Refusal::Cyclic => 7,
-        Refusal::Order(_) => 8,
-        Refusal::Stale => 9,
-        Refusal::Short(_) => 10,
-    }
-}
-
-pub fn place_of(refusal: Refusal) -> u64
-    ensures { λ r. ⌜ r ≡ refusalPlace refusal ⌝ }
-{
-    match refusal {
-        Refusal::Shape => 0,
-        Refusal::Grammar(at) => at as u64,
-        Refusal::Limit(at) => at as u64,
-        Refusal::OtherPass => 0,
-        Refusal::Marked => 0,
-        Refusal::Unsettled(clause) => clause as u64,
-        Refusal::Cyclic => 0,
-        Refusal::Order(index) => index as u64,
-        Refusal::Stale => 0,
-        Refusal::Short(needed) => needed as u64,
-    }
-}
-
 pub fn print_refusal(refusal: Refusal) {
     print(b"refused");
-    print_number(number_of(refusal));
-    print_number(place_of(refusal));
+    print_number(refusal.number());
+    print_number(refusal.place());
 }
 
 // ---- answers

@@ -10,17 +10,18 @@ use Rattle.state.specs.declared.Pass.the-variants.{Merge}
 use Rattle.tables.specs.Tables.{Tables}
 use Rattle.tables.specs.Passes.{firstUnsettled}
 use Rattle.tables.specs.Calls.{After}
-use Rattle.shape.specs.Entry.{entryOf}
-use Rattle.shape.specs.declared.Entry.{Entry}
-use Rattle.shape.specs.declared.Entry.the-variants.{No, Opens, Resumes}
-use Rattle.shape.proofs.Entering.{opens-entered, resumes-entered}
+use Rattle.entry.specs.Entry.{entryOf}
+use Rattle.entry.specs.declared.PassName.the-variants as own
+use Rattle.entry.specs.declared.Entry.{Entry}
+use Rattle.entry.specs.declared.Entry.the-variants.{No, Opens, Resumes}
+use Rattle.entry.proofs.Entering.{opens-entered, resumes-entered}
 use Rattle.clauses.proofs.Entered.{entered-formed, entered-cursor}
 use Rattle.clauses.proofs.Keeping.{FormedTo}
 use Rattle.clauses.proofs.Advancing.{advance-cases}
-use Rattle.propagate.specs.Propagate.{Progress, going, settled, contradicted, begin, resumed, propagateVisits, propagateFrom, replied, propagateBy, propagateCall}
+use Rattle.propagate.specs.Propagate.{Progress, going, settled, contradicted, begin, propagateVisits, propagateFrom, replied, propagateBy, propagateCall}
 use Rattle.propagate.proofs.Stepping.{Good}
-use Rattle.propagate.proofs.Shaped.{begin-good, resumed-good}
-use Rattle.merge.specs.Merge.{mergedClasses, mergeClause, mergeFrom, mergeOpen, mergeCursor, mergeBy, mergeCall}
+use Rattle.propagate.proofs.Shaped.{begin-good}
+use Rattle.merge.specs.Merge.{mergedClasses, mergeClause, mergeFrom, mergeOpen, mergeBy, mergeCall}
 use Rattle.merge.proofs.Merged.{classes-formed}
 use Rattle.merge.proofs.Calling.{open-cases, settled-cases, opens-formed, resumes-ready}
 use Rattle.demand.specs.Core as core
@@ -28,7 +29,7 @@ use Rattle.demand.specs.Moves as moves
 use Rattle.represented.specs.Represented.{Represented}
 use Rattle.represented.proofs.Propagated.{Simulated}
 use Rattle.represented.proofs.Propagation.{Tied, Follows, visits-follow, moves-join}
-use Rattle.represented.proofs.PropagateKeeps.{begin-tied, resumed-tied}
+use Rattle.represented.proofs.PropagateKeeps.{begin-tied}
 use Rattle.represented.proofs.Merging.{visits-simulated, clash-simulated, opening-simulated}
 
 -- the call's answer, state and tables, and what stood before it
@@ -55,16 +56,16 @@ module _ (st : State) (k : core.Core) where
 
 pub propagate-reached : (steps : ℕ) (t : Tables) (st : State) (k : core.Core) → Represented (st .v) (st .n) (st .mark) t k → Reached st k (propagateCall steps t st)
 unfolding propagateCall
-propagate-reached steps t st k R = by (entryOf 1 t st) refl
+propagate-reached steps t st k R = by (entryOf own.Propagate t st) refl
   where
-    by : (e : Entry) → entryOf 1 t st ≡ e → Reached st k (propagateBy e steps t st)
+    by : (e : Entry) → entryOf own.Propagate t st ≡ e → Reached st k (propagateBy e steps t st)
     by (No r) q = refused st R
     by Opens q =
-        let E = opens-entered 1 t st q in
-        propagate-from st k false steps (begin (st .n) t) t (begin-good (st .v) (st .n) t (entered-formed E (λ z. omega arith))) (begin-tied (st .v) (st .n) t k (unmarked st (E .unmarked) R))
-    by Resumes q =
-        let E = resumes-entered 1 t st q in
-        propagate-from st k (st .fresh) steps (resumed (st .pass) t) t (resumed-good (st .v) (st .n) (st .pass) t (entered-formed E (λ z. omega arith)) (entered-cursor E)) (resumed-tied (st .v) (st .n) (st .pass) t k (unmarked st (E .unmarked) R))
+        let E = opens-entered own.Propagate t st q in
+        propagate-from st k false steps (begin (st .n) t) t (begin-good (st .v) (st .n) t (entered-formed E tt)) (begin-tied (st .v) (st .n) t k (unmarked st (E .unmarked) R))
+    by (Resumes i changed) q =
+        let E = resumes-entered own.Propagate t st i changed q in
+        propagate-from st k (st .fresh) steps (going i changed t) t (entered-formed E tt, entered-cursor E .0) (unmarked st (E .unmarked) R)
 
 -- ---- Merge
 
@@ -84,9 +85,9 @@ module _ (st : State) where
 
 pub merge-reached : (steps : ℕ) (t : Tables) (st : State) (k : core.Core) → Represented (st .v) (st .n) (st .mark) t k → Reached st k (mergeCall steps t st)
 unfolding mergeCall
-merge-reached steps t st k R = by (entryOf 2 t st) refl
+merge-reached steps t st k R = by (entryOf own.Merge t st) refl
   where
-    by : (e : Entry) → entryOf 2 t st ≡ e → Reached st k (mergeBy e steps t st)
+    by : (e : Entry) → entryOf own.Merge t st ≡ e → Reached st k (mergeBy e steps t st)
     by (No r) q = refused st R
-    by Opens q = settled-cases steps st t (Reached st k) (refused st R) (merge-open st steps t k (opens-formed steps t st q) (unmarked st (opens-entered 2 t st q .unmarked) R))
-    by Resumes q = let P = resumes-ready t st q in merge-from st (st .fresh) steps (mergeCursor (st .pass)) t k (P .formed) (P .within) (unmarked st (resumes-entered 2 t st q .unmarked) R)
+    by Opens q = settled-cases steps st t (Reached st k) (refused st R) (merge-open st steps t k (opens-formed steps t st q) (unmarked st (opens-entered own.Merge t st q .unmarked) R))
+    by (Resumes i changed) q = let P = resumes-ready t st i changed q in merge-from st (st .fresh) steps i t k (P .formed) (P .within) (unmarked st (resumes-entered own.Merge t st i changed q .unmarked) R)

@@ -27,9 +27,11 @@ use Rattle.tables.specs.Stands as stands
 use Rattle.tables.specs.Calls.{After, refuse}
 use Rattle.shape.specs.Shape.{Shape, settledTo}
 use Rattle.shape.specs.Decision.{shapeOk}
-use Rattle.shape.specs.declared.Entry.{Entry}
+use Rattle.entry.specs.declared.PassName.the-variants as own
+use Rattle.entry.specs.declared.Entry.{Entry}
+use Rattle.entry.specs.declared.Opening.{Opening}
 use Rattle.shape.proofs.Reading.{shaped}
-use Rattle.shape.proofs.Entering.{entry-misshapen}
+use Rattle.entry.proofs.Entering.{entry-misshapen, opening-misshapen}
 use Rattle.clauses.proofs.Forming.{shape-formed, clause-fits}
 use Rattle.dimacs.specs.Text.{judgeText, textClauses}
 use Rattle.dimacs.specs.declared.Verdict.the-variants.{Fits}
@@ -69,11 +71,11 @@ call-held (sweep steps) t st H = sweep-held steps t st H
 -- a call on tables that break the shape rule, short ones among them, changes nothing
 call-refused : (c : Call) (t : Tables) (st : State) → shapeOk t st ≡ false → callOn c t st ≡ refuse refusal.Shape st t
 unfolding propagateCall mergeCall stampCall failedCall sweepCall
-call-refused (propagate steps) t st e = ap (λ (x : Entry). propagateBy x steps t st) (entry-misshapen 1 t st e)
-call-refused (merge steps) t st e = ap (λ (x : Entry). mergeBy x steps t st) (entry-misshapen 2 t st e)
-call-refused (stamp order) t st e = ap (λ (x : Entry). stampBy x order t st) (entry-misshapen 0 t st e)
-call-refused failed t st e = ap (λ (x : Entry). failedBy x t st) (entry-misshapen 0 t st e)
-call-refused (sweep steps) t st e = ap (λ (x : Entry). sweepBy x steps t st) (entry-misshapen 3 t st e)
+call-refused (propagate steps) t st e = ap (λ (x : Entry). propagateBy x steps t st) (entry-misshapen own.Propagate t st e)
+call-refused (merge steps) t st e = ap (λ (x : Entry). mergeBy x steps t st) (entry-misshapen own.Merge t st e)
+call-refused (stamp order) t st e = ap (λ (x : Opening). stampBy x order t st) (opening-misshapen t st e)
+call-refused failed t st e = ap (λ (x : Opening). failedBy x t st) (opening-misshapen t st e)
+call-refused (sweep steps) t st e = ap (λ (x : Entry). sweepBy x steps t st) (entry-misshapen own.Sweep t st e)
 
 -- ---- what is lent, and given back
 

@@ -4,12 +4,12 @@ use Prim.Native.Nat.{ℕ, _+_, _-_, _*_, _<_, min}
 use native.Mathlib.Omega.{arith}
 use mathlib.Core.Path.{_≡_, refl, sym, subst, subst₂}
 use mathlib.Core.Bool.{Bool, true, false}
-use mathlib.Core.Logic.{_⊎_, inl, inr, ⊎-elim}
 use mathlib.Core.List.{List, List·Memᴰ}
 use lib.Dec.{ltb}
 use Rattle.walk.specs.Walk.{Stamps}
 use Rattle.stamps.specs.Columns.{columns}
 use Rattle.hidden.proofs.Agree.{Agree}
+use Rattle.state.specs.States.{opened, closed, marked}
 use Rattle.state.specs.declared.State.{State}
 use Rattle.state.specs.declared.Pass.{Pass}
 use Rattle.state.specs.declared.Pass.the-variants.{Idle, Propagate, Merge, Sweep}
@@ -19,15 +19,16 @@ use Rattle.tables.specs.Tables.{Tables}
 use Rattle.tables.specs.Clauses.{gone}
 use Rattle.tables.specs.Fates.{visits}
 use Rattle.tables.specs.Passes.{advance, firstUnsettled}
-use Rattle.tables.specs.Calls.{After, answered, refuse, marked, state}
+use Rattle.tables.specs.Calls.{After, answered, refuse}
 use Rattle.shape.specs.Shape.{Shape}
-use Rattle.shape.specs.Entry.{entryOf, passNumber}
-use Rattle.shape.specs.declared.Entry.{Entry}
-use Rattle.shape.specs.declared.Entry.the-variants.{No, Opens, Resumes}
-use Rattle.shape.proofs.Entering.{resumes-entered}
-use Rattle.propagate.specs.Propagate.{Progress, going, settled, contradicted, begin, resumed, propagateVisits, propagateFrom, replied, propagateBy, propagateCall}
+use Rattle.entry.specs.Entry.{entryOf}
+use Rattle.entry.specs.declared.PassName.the-variants as own
+use Rattle.entry.specs.declared.Entry.{Entry}
+use Rattle.entry.specs.declared.Entry.the-variants.{No, Opens, Resumes}
+use Rattle.entry.proofs.Entering.{resumes-entered}
+use Rattle.propagate.specs.Propagate.{Progress, going, settled, contradicted, begin, propagateVisits, propagateFrom, replied, propagateBy, propagateCall}
 use Rattle.propagate.proofs.Shaped.{propagate-shaped}
-use Rattle.merge.specs.Merge.{edgesOf, clashes, mergedClasses, mergeClause, mergeFrom, mergeOpen, mergeSettled, mergeCursor, mergeBy, mergeCall}
+use Rattle.merge.specs.Merge.{edgesOf, clashes, mergedClasses, mergeClause, mergeFrom, mergeOpen, mergeSettled, mergeBy, mergeCall}
 use Rattle.merge.proofs.Shaped.{merge-shaped}
 use Rattle.sound.specs.Formula.{Clause, standing}
 use Rattle.demand.specs.Core.{Core, load}
@@ -76,13 +77,19 @@ held-spent {f} H a E S R = record {
 }
 
 -- an open Propagate or Merge has no fresh stamps
-at-resumed : (p : Pass) (c : ℕ) → At p c → (passNumber p ≡ 0) ⊎ (passNumber p ≡ 3)
-at-resumed Idle c a = inl refl
-at-resumed (Sweep i) c a = inr refl
+abbrev Spent : Pass → Type 0
+Spent Idle = ⊥
+Spent (Propagate i changed) = Unit
+Spent (Merge i) = Unit
+Spent (Sweep i) = ⊥
 
-pub resumed-stale : {t : Tables} {st : State} {w : Freshness} (own : ℕ) → 0 < own → own < 3 → passNumber (st .pass) ≡ own → StampsOf t st w → st .fresh ≡ false
-resumed-stale own above below e (stale h) = h
-resumed-stale {st = st} own above below e (from σ c A at) = absurd (⊎-elim (λ z. omega (arith, z, e, above)) (λ z. omega (arith, z, e, below)) (at-resumed (st .pass) c at))
+at-spent : (p : Pass) (c : ℕ) → At p c → Spent p → ⊥
+at-spent Idle c a s = s
+at-spent (Sweep i) c a s = s
+
+pub resumed-stale : {t : Tables} {st : State} {w : Freshness} (p : Pass) → Spent p → st .pass ≡ p → StampsOf t st w → st .fresh ≡ false
+resumed-stale p s e (stale h) = h
+resumed-stale {st = st} p s e (from σ c A at) = absurd (at-spent p c (subst (λ (q : Pass). At q c) e at) s)
 
 -- ---- Propagate
 
@@ -97,14 +104,14 @@ propagate-spends st b e steps p t = replied-spends st b e (propagateVisits (st .
 
 pub propagate-held : {f : List Clause} (steps : ℕ) (t : Tables) (st : State) → Held f t st → Held f (propagateCall steps t st .tables) (propagateCall steps t st .state)
 unfolding propagateCall
-propagate-held {f} steps t st H = by (entryOf 1 t st) refl (propagate-shaped steps t st (H .shape)) (propagate-reached steps t st (H .core) (H .tied))
+propagate-held {f} steps t st H = by (entryOf own.Propagate t st) refl (propagate-shaped steps t st (H .shape)) (propagate-reached steps t st (H .core) (H .tied))
   where
-    by : (e : Entry) → entryOf 1 t st ≡ e → Shape (propagateBy e steps t st .tables) (propagateBy e steps t st .state) → Reached st (H .core) (propagateBy e steps t st) → Held f (propagateBy e steps t st .tables) (propagateBy e steps t st .state)
+    by : (e : Entry) → entryOf own.Propagate t st ≡ e → Shape (propagateBy e steps t st .tables) (propagateBy e steps t st .state) → Reached st (H .core) (propagateBy e steps t st) → Held f (propagateBy e steps t st .tables) (propagateBy e steps t st .state)
     by (No r) q S R = H
     by Opens q S R = held-spent H (propagateFrom false steps (begin (st .n) t) t st) (propagate-spends st false refl steps (begin (st .n) t) t) S R
-    by Resumes q S R =
-        held-spent H (propagateFrom (st .fresh) steps (resumed (st .pass) t) t st)
-        (propagate-spends st (st .fresh) (resumed-stale 1 (omega arith) (omega arith) (resumes-entered 1 t st q .pass) (H .stamps)) steps (resumed (st .pass) t) t) S R
+    by (Resumes i changed) q S R =
+        held-spent H (propagateFrom (st .fresh) steps (going i changed t) t st)
+        (propagate-spends st (st .fresh) (resumed-stale (Propagate i changed) tt (resumes-entered own.Propagate t st i changed q .pass) (H .stamps)) steps (going i changed t) t) S R
 
 -- ---- Merge
 
@@ -113,8 +120,8 @@ unfolding advance
 merge-spends st b e steps c t = go (ltb (c + min steps (st .n - c)) (st .n))
   where
     go : (x : Bool) → Spends st (elim x as (λ y. After) [
-      | true ↦ answered (Open (gone (min steps (st .n - c)) (st .n) (t .clauses) (visits (mergeClause (t .variables)) (min steps (st .n - c)) c t .clauses))) (state (st .v) (st .n) (Merge (c + min steps (st .n - c))) b false) (visits (mergeClause (t .variables)) (min steps (st .n - c)) c t)
-      | false ↦ answered (Done (gone (min steps (st .n - c)) (st .n) (t .clauses) (visits (mergeClause (t .variables)) (min steps (st .n - c)) c t .clauses))) (state (st .v) (st .n) Idle b false) (visits (mergeClause (t .variables)) (min steps (st .n - c)) c t)
+      | true ↦ answered (Open (gone (min steps (st .n - c)) (st .n) (t .clauses) (visits (mergeClause (t .variables)) (min steps (st .n - c)) c t .clauses))) (opened (Merge (c + min steps (st .n - c))) b st) (visits (mergeClause (t .variables)) (min steps (st .n - c)) c t)
+      | false ↦ answered (Done (gone (min steps (st .n - c)) (st .n) (t .clauses) (visits (mergeClause (t .variables)) (min steps (st .n - c)) c t .clauses))) (closed b st) (visits (mergeClause (t .variables)) (min steps (st .n - c)) c t)
     ])
     go true = record { v = refl; n = refl; fresh = e }
     go false = record { v = refl; n = refl; fresh = e }
@@ -132,7 +139,7 @@ open-spends st steps t = go (clashes (edgesOf t (st .n)) (st .v))
 
 pub merge-held : {f : List Clause} (steps : ℕ) (t : Tables) (st : State) → Held f t st → Held f (mergeCall steps t st .tables) (mergeCall steps t st .state)
 unfolding mergeCall mergeSettled
-merge-held {f} steps t st H = by (entryOf 2 t st) refl (merge-shaped steps t st (H .shape)) (merge-reached steps t st (H .core) (H .tied))
+merge-held {f} steps t st H = by (entryOf own.Merge t st) refl (merge-shaped steps t st (H .shape)) (merge-reached steps t st (H .core) (H .tied))
   where
     opens : (b : Bool) → Shape (elim b as (λ x. After) [ true ↦ refuse (Unsettled (firstUnsettled t (st .n) + 1)) st t | false ↦ mergeOpen steps t st ] .tables) (elim b as (λ x. After) [ true ↦ refuse (Unsettled (firstUnsettled t (st .n) + 1)) st t | false ↦ mergeOpen steps t st ] .state)
         → Reached st (H .core) (elim b as (λ x. After) [ true ↦ refuse (Unsettled (firstUnsettled t (st .n) + 1)) st t | false ↦ mergeOpen steps t st ])
@@ -140,9 +147,9 @@ merge-held {f} steps t st H = by (entryOf 2 t st) refl (merge-shaped steps t st 
     opens true S R = H
     opens false S R = held-spent H (mergeOpen steps t st) (open-spends st steps t) S R
 
-    by : (e : Entry) → entryOf 2 t st ≡ e → Shape (mergeBy e steps t st .tables) (mergeBy e steps t st .state) → Reached st (H .core) (mergeBy e steps t st) → Held f (mergeBy e steps t st .tables) (mergeBy e steps t st .state)
+    by : (e : Entry) → entryOf own.Merge t st ≡ e → Shape (mergeBy e steps t st .tables) (mergeBy e steps t st .state) → Reached st (H .core) (mergeBy e steps t st) → Held f (mergeBy e steps t st .tables) (mergeBy e steps t st .state)
     by (No r) q S R = H
     by Opens q S R = opens (ltb (firstUnsettled t (st .n)) (st .n)) S R
-    by Resumes q S R =
-        held-spent H (mergeFrom (st .fresh) steps (mergeCursor (st .pass)) t st)
-        (merge-spends st (st .fresh) (resumed-stale 2 (omega arith) (omega arith) (resumes-entered 2 t st q .pass) (H .stamps)) steps (mergeCursor (st .pass)) t) S R
+    by (Resumes i changed) q S R =
+        held-spent H (mergeFrom (st .fresh) steps i t st)
+        (merge-spends st (st .fresh) (resumed-stale (Merge i) tt (resumes-entered own.Merge t st i changed q .pass) (H .stamps)) steps i t) S R

@@ -12,17 +12,17 @@ use Rattle.walk.specs.Walk.{Stamps}
 use Rattle.stamps.specs.Columns.{columns}
 use Rattle.hidden.specs.Failed.{sameStart, failedSlot}
 use Rattle.hidden.proofs.Agree.{Agree, same-agree, failed-agree}
+use Rattle.state.specs.States.{closed, marked}
 use Rattle.state.specs.declared.State.{State}
 use Rattle.state.specs.declared.Pass.{Pass}
-use Rattle.state.specs.declared.Pass.the-variants.{Idle, Sweep}
+use Rattle.state.specs.declared.Pass.the-variants.{Idle}
 use Rattle.tables.specs.Tables.{Tables}
 use Rattle.tables.specs.Values as values
-use Rattle.tables.specs.Calls.{marked, state}
 use Rattle.shape.specs.Shape.{Shape}
-use Rattle.shape.specs.Entry.{entryOf, passNumber}
-use Rattle.shape.specs.declared.Entry.{Entry}
-use Rattle.shape.specs.declared.Entry.the-variants.{No, Opens, Resumes}
-use Rattle.shape.proofs.Entering.{Entered, opens-entered, resumes-entered}
+use Rattle.entry.specs.Entry.{openingOf}
+use Rattle.entry.specs.declared.Opening.{Opening}
+use Rattle.entry.specs.declared.Opening.the-variants.{Denied, Granted}
+use Rattle.entry.proofs.Entering.{Entered, granted-entered}
 use Rattle.clauses.specs.Formed.{Variables}
 use Rattle.clauses.proofs.Entered.{entered-formed}
 use Rattle.failed.specs.Failed.{Found, found, assert, failedAt, failedFrom, withVariables, failedReply, failedFresh, unlessStale, failedBy, failedCall}
@@ -121,20 +121,19 @@ module _ (f : List Clause) (v n : ℕ) (t : Tables) (S : Stamped v (t .times) (t
 -- ---- the call
 
 -- only Idle lets Failed begin
-at-idle : (p : Pass) (c : ℕ) → passNumber p ≡ 0 → At p c → c ≡ 0
-at-idle Idle c e a = a
-at-idle (Sweep i) c e a = absurd (omega (arith, e))
+at-idle : (p : Pass) (c : ℕ) → p ≡ Idle → At p c → c ≡ 0
+at-idle p c e a = subst (λ (q : Pass). At q c) e a
 
 module _ {f : List Clause} {t : Tables} {st : State} (H : Held f t st) where
   replied-held : (σ : Stamps) → Agree (2 * st .v) (columns (t .times) (t .links)) σ → (x : Found) → Shape (failedReply x t st .tables) (failedReply x t st .state)
       → (b : Bool) → x .opposite ≡ b → (elim b as (λ y. Type 0) [ true ↦ Going f (st .v) (st .n) true spent (withVariables (x .variables) t) | false ↦ Going f (st .v) (st .n) false (fresh σ 0) (withVariables (x .variables) t) ])
-      → Held f (withVariables (x .variables) t) (elim b as (λ y. State) [ true ↦ marked st | false ↦ state (st .v) (st .n) Idle true false ])
+      → Held f (withVariables (x .variables) t) (elim b as (λ y. State) [ true ↦ marked st | false ↦ closed true st ])
   replied-held σ A x Q true e G = record {
     core = G .core;
     stamped = spent;
     moves = G .moves;
     within = H .within;
-    shape = subst (λ (b : Bool). Shape (withVariables (x .variables) t) (elim b as (λ y. State) [ true ↦ marked st | false ↦ state (st .v) (st .n) Idle true false ])) e Q;
+    shape = subst (λ (b : Bool). Shape (withVariables (x .variables) t) (elim b as (λ y. State) [ true ↦ marked st | false ↦ closed true st ])) e Q;
     tied = G .tied;
     stamps = stale refl;
   }
@@ -143,13 +142,13 @@ module _ {f : List Clause} {t : Tables} {st : State} (H : Held f t st) where
     stamped = fresh σ 0;
     moves = G .moves;
     within = H .within;
-    shape = subst (λ (b : Bool). Shape (withVariables (x .variables) t) (elim b as (λ y. State) [ true ↦ marked st | false ↦ state (st .v) (st .n) Idle true false ])) e Q;
+    shape = subst (λ (b : Bool). Shape (withVariables (x .variables) t) (elim b as (λ y. State) [ true ↦ marked st | false ↦ closed true st ])) e Q;
     tied = G .tied;
     stamps = from σ 0 A refl;
   }
 
   -- on fresh stamps
-  fresh-held : Entered 0 t st → st .fresh ≡ true → Shape (failedFresh t st .tables) (failedFresh t st .state) → Held f (failedFresh t st .tables) (failedFresh t st .state)
+  fresh-held : Entered Idle t st → st .fresh ≡ true → Shape (failedFresh t st .tables) (failedFresh t st .state) → Held f (failedFresh t st .tables) (failedFresh t st .state)
   unfolding failedFresh
   fresh-held E e Q = by-stamps (H .stamps) (H .moves)
     where
@@ -164,19 +163,18 @@ module _ {f : List Clause} {t : Tables} {st : State} (H : Held f t st) where
             core = H .core;
             moves = subst (λ (y : ℕ). Moves (st .v) (load f) spent (H .core) (fresh σ y)) (at-idle (st .pass) c (E .pass) at) ms;
             tied = record { number = R .number; clauses = R .clauses; classes = R .classes; facts = R .facts; beyond = R .beyond; marks = R .marks };
-            rows = entered-formed E (λ z. omega arith) .vars;
+            rows = entered-formed E tt .vars;
           } in
           replied-held σ A x Q (x .opposite) refl (variables-going f (st .v) (st .n) t (shape-stamped (H .shape) e) σ 0 A (st .v) 0 (omega arith) (found (t .variables) 0 false) begun)
 
 pub failed-held : {f : List Clause} (t : Tables) (st : State) → Held f t st → Held f (failedCall t st .tables) (failedCall t st .state)
 unfolding failedCall
-failed-held {f} t st H = by (entryOf 0 t st) refl (failed-shape t st (H .shape))
+failed-held {f} t st H = by (openingOf t st) refl (failed-shape t st (H .shape))
   where
-    unless : {k : ℕ} → Entered k t st → k ≡ 0 → (b : Bool) → st .fresh ≡ b → Shape (unlessStale b t st .tables) (unlessStale b t st .state) → Held f (unlessStale b t st .tables) (unlessStale b t st .state)
-    unless E z true e Q = fresh-held H (subst (λ (k : ℕ). Entered k t st) z E) e Q
-    unless E z false e Q = H
+    unless : Entered Idle t st → (b : Bool) → st .fresh ≡ b → Shape (unlessStale b t st .tables) (unlessStale b t st .state) → Held f (unlessStale b t st .tables) (unlessStale b t st .state)
+    unless E true e Q = fresh-held H E e Q
+    unless E false e Q = H
 
-    by : (e : Entry) → entryOf 0 t st ≡ e → Shape (failedBy e t st .tables) (failedBy e t st .state) → Held f (failedBy e t st .tables) (failedBy e t st .state)
-    by (No r) q Q = H
-    by Opens q Q = unless (opens-entered 0 t st q) refl (st .fresh) refl Q
-    by Resumes q Q = unless (resumes-entered 0 t st q) refl (st .fresh) refl Q
+    by : (e : Opening) → openingOf t st ≡ e → Shape (failedBy e t st .tables) (failedBy e t st .state) → Held f (failedBy e t st .tables) (failedBy e t st .state)
+    by (Denied r) q Q = H
+    by Granted q Q = unless (granted-entered t st q) (st .fresh) refl Q

@@ -12,7 +12,7 @@ use Rattle.state.specs.declared.State.{State}
 use Rattle.state.specs.declared.Pass.{Pass}
 use Rattle.tables.specs.Tables.{Tables}
 use Rattle.tables.specs.Clauses.{slotsFrom}
-use Rattle.tables.specs.Calls.{After, state}
+use Rattle.tables.specs.Calls.{After}
 use Rattle.shape.specs.Shape.{settledTo}
 use Rattle.clauses.specs.Formed.{Formed}
 use Rattle.clauses.proofs.Forming.{shape-formed}

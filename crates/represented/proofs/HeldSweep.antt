@@ -12,25 +12,26 @@ use Rattle.stamps.specs.Fresh.{FreshStamps}
 use Rattle.hidden.proofs.Intervals.{Nested}
 use Rattle.hidden.proofs.Agree.{Agree}
 use Rattle.hidden.proofs.Columns.{fresh-nested}
+use Rattle.state.specs.States.{opened, closed}
 use Rattle.state.specs.declared.State.{State}
 use Rattle.state.specs.declared.Pass.{Pass}
-use Rattle.state.specs.declared.Pass.the-variants.{Idle, Sweep}
+use Rattle.state.specs.declared.Pass.the-variants.{Idle, Propagate, Merge, Sweep}
 use Rattle.tables.specs.Tables.{Tables}
 use Rattle.tables.specs.Fates.{visits}
-use Rattle.tables.specs.Calls.{After, state}
-use Rattle.shape.specs.Entry.{entryOf}
-use Rattle.shape.specs.declared.Entry.{Entry}
-use Rattle.shape.specs.declared.Entry.the-variants.{No, Opens, Resumes}
-use Rattle.shape.proofs.Entering.{Entered, opens-entered, resumes-entered}
+use Rattle.tables.specs.Calls.{After}
+use Rattle.entry.specs.Entry.{entryOf}
+use Rattle.entry.specs.declared.PassName.the-variants as own
+use Rattle.entry.specs.declared.Entry.{Entry}
+use Rattle.entry.specs.declared.Entry.the-variants.{No, Opens, Resumes}
+use Rattle.entry.proofs.Entering.{Entered, opens-entered, resumes-entered}
 use Rattle.clauses.specs.Formed.{Formed}
-use Rattle.clauses.proofs.Entered.{entered-formed, entered-cursor}
+use Rattle.clauses.proofs.Entered.{NoMerge, entered-formed, entered-cursor}
 use Rattle.clauses.proofs.Visiting.{SameStamps, visits-beside}
 use Rattle.clauses.proofs.Keeping.{formed-shape-as}
 use Rattle.clauses.proofs.Advancing.{advance-cases}
-use Rattle.sweep.specs.Sweep.{sweepClause, sweepFrom, sweepCursor, unlessStale, sweepBy, sweepCall}
+use Rattle.sweep.specs.Sweep.{sweepClause, sweepFrom, unlessStale, sweepBy, sweepCall}
 use Rattle.sweep.proofs.Visiting.{sweep-shrinks}
 use Rattle.sweep.proofs.Keeping.{formed-visits}
-use Rattle.sweep.proofs.Entering.{sweep-within}
 use Rattle.sound.specs.Formula.{Clause}
 use Rattle.sound.specs.Sweep as sound
 use Rattle.demand.specs.Core.{Core, load, withClauses}
@@ -74,24 +75,24 @@ module _ {f : List Clause} {t : Tables} {st : State} (H : Held f t st) (F : Form
     agree-still : Agree (2 * st .v) (columns (t′ .times) (t′ .links)) σ
     agree-still = subst (λ (x : List ℕ). Agree (2 * st .v) (columns x (t′ .links)) σ) (sym (B .times)) (subst (λ (x : List ℤ). Agree (2 * st .v) (columns (t .times) x) σ) (sym (B .links)) A)
 
-    open-held : c + m < st .n → Held f t′ (state (st .v) (st .n) (Sweep (c + m)) true false)
+    open-held : c + m < st .n → Held f t′ (opened (Sweep (c + m)) true st)
     open-held lt = record {
       core = k′;
       stamped = fresh σ (c + m);
       moves = go since (sweep m);
       within = H .within;
-      shape = formed-shape-as t t′ (state (st .v) (st .n) (Sweep (c + m)) true false) B (H .shape .long .times) (H .shape .long .links) (λ e. stamps) formed (lt, refl);
+      shape = formed-shape-as t t′ (opened (Sweep (c + m)) true st) B (H .shape .long .times) (H .shape .long .links) (λ e. stamps) formed (lt, refl);
       tied = tied;
       stamps = from σ (c + m) agree-still refl;
     }
 
-    done-held : Held f t′ (state (st .v) (st .n) Idle false false)
+    done-held : Held f t′ (closed false st)
     done-held = record {
       core = k′;
       stamped = spent;
       moves = go (go since (sweep m)) spend;
       within = H .within;
-      shape = formed-shape-as t t′ (state (st .v) (st .n) Idle false false) B (H .shape .long .times) (H .shape .long .links) (λ e. absurd (false≢true e)) formed tt;
+      shape = formed-shape-as t t′ (closed false st) B (H .shape .long .times) (H .shape .long .links) (λ e. absurd (false≢true e)) formed tt;
       tied = tied;
       stamps = stale refl;
     }
@@ -101,29 +102,39 @@ module _ {f : List Clause} {t : Tables} {st : State} (H : Held f t st) (F : Form
 
 -- ---- the call
 
--- where Sweep stands is what it has visited
-at-cursor : (p : Pass) (c : ℕ) → At p c → c ≡ sweepCursor p
-at-cursor Idle c a = a
-at-cursor (Sweep i) c a = a
+-- Sweep goes on where its visits so far have ended
+abbrev Begins : Pass → ℕ → Type 0
+Begins Idle k = k ≡ 0
+Begins (Propagate i changed) k = ⊥
+Begins (Merge i) k = ⊥
+Begins (Sweep i) k = k ≡ i
+
+at-cursor : (p : Pass) (c k : ℕ) → At p c → Begins p k → c ≡ k
+at-cursor Idle c k a b = a ∙ sym b
+at-cursor (Sweep i) c k a b = a ∙ sym b
+
+begins-unmerged : (p : Pass) (k : ℕ) → Begins p k → NoMerge p
+begins-unmerged Idle k b = tt
+begins-unmerged (Sweep i) k b = tt
 
 pub sweep-held : {f : List Clause} (steps : ℕ) (t : Tables) (st : State) → Held f t st → Held f (sweepCall steps t st .tables) (sweepCall steps t st .state)
 unfolding sweepCall
-sweep-held {f} steps t st H = by (entryOf 3 t st) refl
+sweep-held {f} steps t st H = by (entryOf own.Sweep t st) refl
   where
-    stamped : {n : ℕ} → Entered n t st → ((n ≡ 2) → ⊥) → st .fresh ≡ true → Held f (sweepFrom steps (sweepCursor (st .pass)) t st .tables) (sweepFrom steps (sweepCursor (st .pass)) t st .state)
-    stamped E d e = by-stamps (H .stamps) (H .moves)
+    stamped : {p : Pass} → Entered p t st → (k : ℕ) → Begins p k → k ≤ st .n → st .fresh ≡ true → Held f (sweepFrom steps k t st .tables) (sweepFrom steps k t st .state)
+    stamped {p} E k b le e = by-stamps (H .stamps) (H .moves)
       where
-        by-stamps : {w : Freshness} → StampsOf t st w → Moves (st .v) (load f) spent (H .core) w → Held f (sweepFrom steps (sweepCursor (st .pass)) t st .tables) (sweepFrom steps (sweepCursor (st .pass)) t st .state)
+        by-stamps : {w : Freshness} → StampsOf t st w → Moves (st .v) (load f) spent (H .core) w → Held f (sweepFrom steps k t st .tables) (sweepFrom steps k t st .state)
         by-stamps (stale h) ms = absurd (false≢true (sym h ∙ e))
         by-stamps (from σ c A at) ms =
-            from-held H (entered-formed E d) (subst (λ (b : Bool). Represented (st .v) (st .n) b t (H .core)) (E .unmarked) (H .tied)) (H .shape .stamps e) (sweepCursor (st .pass)) (sweep-within (st .pass) (st .n) (entered-cursor E)) σ A
-            (subst (λ (x : ℕ). Moves (st .v) (load f) spent (H .core) (fresh σ x)) (at-cursor (st .pass) c at) ms) steps
+            from-held H (entered-formed E (begins-unmerged p k b)) (subst (λ (b : Bool). Represented (st .v) (st .n) b t (H .core)) (E .unmarked) (H .tied)) (H .shape .stamps e) k le σ A
+            (subst (λ (x : ℕ). Moves (st .v) (load f) spent (H .core) (fresh σ x)) (at-cursor p c k (subst (λ (q : Pass). At q c) (E .pass) at) b) ms) steps
 
-    unless : {n : ℕ} → Entered n t st → ((n ≡ 2) → ⊥) → (b : Bool) → st .fresh ≡ b → Held f (unlessStale b steps t st .tables) (unlessStale b steps t st .state)
-    unless E d true e = stamped E d e
-    unless E d false e = H
+    unless : {p : Pass} → Entered p t st → (k : ℕ) → Begins p k → k ≤ st .n → (b : Bool) → st .fresh ≡ b → Held f (unlessStale b steps k t st .tables) (unlessStale b steps k t st .state)
+    unless E k b le true e = stamped E k b le e
+    unless E k b le false e = H
 
-    by : (e : Entry) → entryOf 3 t st ≡ e → Held f (sweepBy e steps t st .tables) (sweepBy e steps t st .state)
+    by : (e : Entry) → entryOf own.Sweep t st ≡ e → Held f (sweepBy e steps t st .tables) (sweepBy e steps t st .state)
     by (No r) q = H
-    by Opens q = unless (opens-entered 3 t st q) (λ z. omega arith) (st .fresh) refl
-    by Resumes q = unless (resumes-entered 3 t st q) (λ z. omega arith) (st .fresh) refl
+    by Opens q = unless (opens-entered own.Sweep t st q) 0 refl (omega arith) (st .fresh) refl
+    by (Resumes k changed) q = let E = resumes-entered own.Sweep t st k changed q in unless E k refl (omega (arith, entered-cursor E .0)) (st .fresh) refl

@@ -14,13 +14,14 @@ use Rattle.literal.specs.Literals.{Literal, slotOf, litAt, eqZ, signBy}
 use Rattle.literal.specs.Clauses.{distinct, tautology}
 use Rattle.literal.specs.Assignments.{Assignment, someHolds, Satisfies}
 use Rattle.literal.proofs.Laws.{slot-lit, slot-below}
+use Rattle.state.specs.States.{loadedState}
 use Rattle.state.specs.declared.State.{State}
 use Rattle.state.specs.declared.Pass.the-variants.{Idle}
 use Rattle.tables.specs.Tables.{Tables}
 use Rattle.tables.specs.Tables as T
 use Rattle.tables.specs.Long.{Long}
 use Rattle.tables.specs.Clauses.{literalsOf}
-use Rattle.tables.specs.Calls.{After, state}
+use Rattle.tables.specs.Calls.{After}
 use Rattle.clauses.specs.Formed.{Formed}
 use Rattle.clauses.proofs.Forming.{formed-shape}
 use Rattle.dimacs.specs.Text.{judgeText, textClauses}
@@ -236,7 +237,7 @@ module _ (text : List ℕ) (v n body : ℕ) (accepted : judgeText text ≡ Fits 
   pub each : InClauses v cs
   each = text-within text v n body accepted .1 .1 .each
 
-  laid-held : (b : Bool) → anyEmpty cs ≡ b → Held (loadedClauses cs) (laid v cs t) (state v (length cs) Idle false b)
+  laid-held : (b : Bool) → anyEmpty cs ≡ b → Held (loadedClauses cs) (laid v cs t) (loadedState v (length cs) b)
   unfolding laid
   laid-held true e =
       let z = empty-at cs e in
@@ -245,7 +246,7 @@ module _ (text : List ℕ) (v n body : ℕ) (accepted : judgeText text ≡ Fits 
         stamped = spent;
         moves = go stay (change (conflict (z .0) (z .2)));
         within = loaded-within v cs each;
-        shape = formed-shape (laid v cs t) (state v (length cs) Idle false true) (subst (λ (b : Bool). Formed v (length cs) (length cs) b (laid v cs t .clauses) (laid v cs t .literals) (laid v cs t .variables)) e (laid-formed v cs t few many fits each)) (L .times) (L .links) tt (λ q. absurd (false≢true q));
+        shape = formed-shape (laid v cs t) (loadedState v (length cs) true) (subst (λ (b : Bool). Formed v (length cs) (length cs) b (laid v cs t .clauses) (laid v cs t .literals) (laid v cs t .variables)) e (laid-formed v cs t few many fits each)) (L .times) (L .links) tt (λ q. absurd (false≢true q));
         tied = mark-represented (loaded-represented v cs t few many fits each);
         stamps = stale refl;
       }
@@ -254,7 +255,7 @@ module _ (text : List ℕ) (v n body : ℕ) (accepted : judgeText text ≡ Fits 
     stamped = spent;
     moves = stay;
     within = loaded-within v cs each;
-    shape = formed-shape (laid v cs t) (state v (length cs) Idle false false) (subst (λ (b : Bool). Formed v (length cs) (length cs) b (laid v cs t .clauses) (laid v cs t .literals) (laid v cs t .variables)) e (laid-formed v cs t few many fits each)) (L .times) (L .links) tt (λ q. absurd (false≢true q));
+    shape = formed-shape (laid v cs t) (loadedState v (length cs) false) (subst (λ (b : Bool). Formed v (length cs) (length cs) b (laid v cs t .clauses) (laid v cs t .literals) (laid v cs t .variables)) e (laid-formed v cs t few many fits each)) (L .times) (L .links) tt (λ q. absurd (false≢true q));
     tied = loaded-represented v cs t few many fits each;
     stamps = stale refl;
   }

@@ -8,19 +8,18 @@ use mathlib.Core.Logic.{_↔_, Iff·rfl, Iff·trans, Iff·symm}
 use mathlib.Core.List.{List}
 use Rattle.literal.specs.Assignments.{Assignment}
 use Rattle.state.specs.declared.State.{State}
-use Rattle.state.specs.declared.Pass.{Pass}
-use Rattle.state.specs.declared.Pass.the-variants.{Idle, Propagate, Merge, Sweep}
 use Rattle.tables.specs.Tables.{Tables}
 use Rattle.tables.specs.Stands as stands
-use Rattle.shape.specs.Entry.{entryOf}
-use Rattle.shape.specs.declared.Entry.{Entry}
-use Rattle.shape.specs.declared.Entry.the-variants.{No, Opens, Resumes}
-use Rattle.shape.proofs.Entering.{opens-entered, resumes-entered}
+use Rattle.entry.specs.Entry.{entryOf}
+use Rattle.entry.specs.declared.PassName.the-variants as own
+use Rattle.entry.specs.declared.Entry.{Entry}
+use Rattle.entry.specs.declared.Entry.the-variants.{No, Opens, Resumes}
+use Rattle.entry.proofs.Entering.{opens-entered, resumes-entered}
 use Rattle.clauses.specs.Formed.{Formed}
 use Rattle.clauses.proofs.Entered.{entered-formed, entered-cursor}
-use Rattle.propagate.specs.Propagate.{Progress, going, settled, contradicted, begin, resumed, propagateVisits, propagateFrom, replied, propagateBy, propagateCall}
+use Rattle.propagate.specs.Propagate.{Progress, going, settled, contradicted, begin, propagateVisits, propagateFrom, replied, propagateBy, propagateCall}
 use Rattle.propagate.proofs.Stepping.{Good, visits-good}
-use Rattle.propagate.proofs.Shaped.{begin-good, resumed-good}
+use Rattle.propagate.proofs.Shaped.{begin-good}
 use Rattle.demand.specs.Core as core
 use Rattle.demand.proofs.Keeps.{moves-kept}
 use Rattle.represented.specs.Represented.{Represented, coreOf}
@@ -60,24 +59,18 @@ pub begin-tied : (v n : ℕ) (t : Tables) (k : core.Core) → Represented v n fa
 begin-tied v zero t k R = R
 begin-tied v (suc n) t k R = R
 
-pub resumed-tied : (v n : ℕ) (p : Pass) (t : Tables) (k : core.Core) → Represented v n false t k → Tied v n (resumed p t) k
-resumed-tied v n Idle t k R = R
-resumed-tied v n (Propagate j c) t k R = R
-resumed-tied v n (Merge j) t k R = R
-resumed-tied v n (Sweep j) t k R = R
-
 -- THE THEOREM
 pub propagate-keeps : (steps : ℕ) (t : Tables) (st : State) (τ : Assignment) → stands.Stands (propagateCall steps t st .tables) (propagateCall steps t st .state) τ ↔ stands.Stands t st τ
 unfolding propagateCall k
-propagate-keeps steps t st τ = by (entryOf 1 t st) refl
+propagate-keeps steps t st τ = by (entryOf own.Propagate t st) refl
   where
-    by : (e : Entry) → entryOf 1 t st ≡ e → stands.Stands (propagateBy e steps t st .tables) (propagateBy e steps t st .state) τ ↔ stands.Stands t st τ
+    by : (e : Entry) → entryOf own.Propagate t st ≡ e → stands.Stands (propagateBy e steps t st .tables) (propagateBy e steps t st .state) τ ↔ stands.Stands t st τ
     by (No r) q = Iff·rfl
     by Opens q =
-        let E = opens-entered 1 t st q in
-        let F = entered-formed E (λ z. omega arith) in
+        let E = opens-entered own.Propagate t st q in
+        let F = entered-formed E tt in
         from-keeps t st F (E .unmarked) τ false steps (begin (st .n) t) (begin-good (st .v) (st .n) t F) (begin-tied (st .v) (st .n) t (coreOf (st .v) (st .n) false t) (core-represented (st .v) (st .n) false t))
-    by Resumes q =
-        let E = resumes-entered 1 t st q in
-        let F = entered-formed E (λ z. omega arith) in
-        from-keeps t st F (E .unmarked) τ (st .fresh) steps (resumed (st .pass) t) (resumed-good (st .v) (st .n) (st .pass) t F (entered-cursor E)) (resumed-tied (st .v) (st .n) (st .pass) t (coreOf (st .v) (st .n) false t) (core-represented (st .v) (st .n) false t))
+    by (Resumes i changed) q =
+        let E = resumes-entered own.Propagate t st i changed q in
+        let F = entered-formed E tt in
+        from-keeps t st F (E .unmarked) τ (st .fresh) steps (going i changed t) (F, entered-cursor E .0) (core-represented (st .v) (st .n) false t)

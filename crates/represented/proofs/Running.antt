@@ -15,9 +15,12 @@ use Rattle.tables.specs.Long.{Long}
 use Rattle.tables.specs.Stands as stands
 use Rattle.tables.specs.Passes.{firstUnsettled}
 use Rattle.tables.specs.Calls.{After}
-use Rattle.shape.specs.Entry.{passNumber, entryOf}
-use Rattle.shape.specs.declared.Entry.{Entry}
-use Rattle.shape.specs.declared.Entry.the-variants.{No, Opens, Resumes}
+use Rattle.entry.specs.Entry.{openingOf}
+use Rattle.entry.specs.declared.PassName.the-variants as own
+use Rattle.entry.specs.declared.Entry.{Entry}
+use Rattle.entry.specs.declared.Entry.the-variants.{Opens}
+use Rattle.entry.specs.declared.Opening.{Opening}
+use Rattle.entry.specs.declared.Opening.the-variants.{Denied, Granted}
 use Rattle.dimacs.specs.Text.{judgeText, textClauses}
 use Rattle.dimacs.specs.declared.Verdict.the-variants.{Fits}
 use Rattle.load.specs.Load.{loadCall}
@@ -31,10 +34,10 @@ use Rattle.settle.proofs.Splitting.{Calls, none, more, whole-calls}
 use Rattle.run.specs.Run.{orderOf, programme, follow, round, unchanged, Rounds, rounds, runFrom, runBy, runCall}
 use Rattle.run.specs.Steps.{Runs}
 use Rattle.run.proofs.Resting.{rests-runs}
-use Rattle.run.proofs.Running.{runs-opens}
+use Rattle.run.proofs.Running.{runs-opens, runs-granted}
 use Rattle.run.proofs.Settling.{propagate-rests, propagate-settled, merge-opens, merge-rests}
 use Rattle.run.proofs.Keeping.{follow-runs, round-runs}
-use Rattle.run.proofs.Calling.{opens-runs, resumes-runs}
+use Rattle.run.proofs.Calling.{granted-runs}
 use Rattle.unhiding.specs.Lists.{propagate, merge, stamp, failed, sweep}
 use Rattle.represented.proofs.Made.{Made, made-none, made-call, made-then}
 use Rattle.represented.proofs.Loaded.{load-held}
@@ -50,7 +53,7 @@ calls-made {w} none = made-none w
 calls-made (more {x} C steps h) = made-then (calls-made C) (made-call (propagate steps) h x)
 
 propagated-made : (w : Standing) → Runs w → Made w (propagated w)
-propagated-made w R = calls-made (whole-calls (w .tables) (w .state) (R .shape) (ap passNumber (R .idle)) (R .unmarked))
+propagated-made w R = calls-made (whole-calls (w .tables) (w .state) (R .shape) (R .idle) (R .unmarked))
 
 -- a Merge that refusal 6 does not stop
 merged-made : (w : Standing) → Runs w → firstUnsettled (w .tables) (w .state .n) ≡ w .state .n → Made w (merged w)
@@ -92,17 +95,17 @@ settled-made (suc fuel) w R = by (λ x Q. settled-made fuel x Q) (p .state .mark
 
 -- ---- a round
 
-stamp-made : (order : List ℤ) (w : Standing) → Runs w → Made w (between (stampBy Opens order (w .tables) (w .state)))
+stamp-made : (order : List ℤ) (w : Standing) → Runs w → Made w (between (stampBy Granted order (w .tables) (w .state)))
 unfolding stampCall
-stamp-made order w R = subst (λ (x : Entry). Made w (between (stampBy x order (w .tables) (w .state)))) (runs-opens R 0) (made-call (stamp order) tt w)
+stamp-made order w R = subst (λ (x : Opening). Made w (between (stampBy x order (w .tables) (w .state)))) (runs-granted R) (made-call (stamp order) tt w)
 
-failed-made : (w : Standing) → Runs w → Made w (between (failedBy Opens (w .tables) (w .state)))
+failed-made : (w : Standing) → Runs w → Made w (between (failedBy Granted (w .tables) (w .state)))
 unfolding failedCall
-failed-made w R = subst (λ (x : Entry). Made w (between (failedBy x (w .tables) (w .state)))) (runs-opens R 0) (made-call failed tt w)
+failed-made w R = subst (λ (x : Opening). Made w (between (failedBy x (w .tables) (w .state)))) (runs-granted R) (made-call failed tt w)
 
 sweep-made : (w : Standing) → Runs w → Made w (between (sweepBy Opens (w .state .n) (w .tables) (w .state)))
 unfolding sweepCall
-sweep-made w R = subst (λ (x : Entry). Made w (between (sweepBy x (w .state .n) (w .tables) (w .state)))) (runs-opens R 3) (made-call (sweep (w .state .n)) (few-clauses R) w)
+sweep-made w R = subst (λ (x : Entry). Made w (between (sweepBy x (w .state .n) (w .tables) (w .state)))) (runs-opens R own.Sweep) (made-call (sweep (w .state .n)) (few-clauses R) w)
 
 follow-made : (k code : ℕ) (w : Standing) → Runs w → Made w (follow k code w)
 unfolding follow settle
@@ -111,9 +114,9 @@ follow-made k code w R = by (eqb code 1) (eqb code 2) (eqb code 3) (eqb code 4)
     by : (a b c d : Bool) → Made w (elim a as (λ x. Standing) [
       | true ↦ settleFor (w .state .v + 1) w
       | false ↦ elim b as (λ x. Standing) [
-        | true ↦ between (stampBy Opens (orderOf (w .state .v) k) (w .tables) (w .state))
+        | true ↦ between (stampBy Granted (orderOf (w .state .v) k) (w .tables) (w .state))
         | false ↦ elim c as (λ x. Standing) [
-          | true ↦ between (failedBy Opens (w .tables) (w .state))
+          | true ↦ between (failedBy Granted (w .tables) (w .state))
           | false ↦ elim d as (λ x. Standing) [ true ↦ between (sweepBy Opens (w .state .n) (w .tables) (w .state)) | false ↦ w ]
         ]
       ]
@@ -149,12 +152,11 @@ run-made codes (suc m) k w R = by (round k codes w .state .mark) refl (unchanged
 -- THE THEOREM: a call of Run, refused or not, is a list of calls
 pub run-calls : (count : ℕ) (t : Tables) (st : State) → Made (standingIn t st) (between (runCall count t st))
 unfolding runCall
-run-calls count t st = by (entryOf 0 t st) refl
+run-calls count t st = by (openingOf t st) refl
   where
-    by : (x : Entry) → entryOf 0 t st ≡ x → Made (standingIn t st) (between (runBy x count t st))
-    by (No r) e = made-none (standingIn t st)
-    by Opens e = run-made programme count 0 (standingIn t st) (opens-runs t st e)
-    by Resumes e = run-made programme count 0 (standingIn t st) (resumes-runs t st e)
+    by : (x : Opening) → openingOf t st ≡ x → Made (standingIn t st) (between (runBy x count t st))
+    by (Denied r) e = made-none (standingIn t st)
+    by Granted e = run-made programme count 0 (standingIn t st) (granted-runs t st e)
 
 -- so demand 3 holds of it: an accepted load and a run
 module _ (text : List ℕ) (v n body : ℕ) (accepted : judgeText text ≡ Fits v n body) (t : Tables) (L : Long t) (st : State) where
@@ -167,7 +169,7 @@ module _ (text : List ℕ) (v n body : ℕ) (accepted : judgeText text ≡ Fits 
       subst (λ (w : Standing). stands.Stands (w .tables) (w .state) τ ↔ Satisfies τ (textClauses text)) (M .ends) (list.demand-3 text v n body accepted t L st (M .calls) τ)
 
   -- and it is not refused, unless the load has set the mark
-  pub run-taken : loaded .state .mark ≡ false → entryOf 0 (loaded .tables) (loaded .state) ≡ Opens
+  pub run-taken : loaded .state .mark ≡ false → openingOf (loaded .tables) (loaded .state) ≡ Granted
   run-taken clear =
       let idle : loaded .state .pass ≡ Idle = ap (λ (a : After). a .state .pass) (text-loads text v n body accepted t L st) in
-      runs-opens (record { shape = load-held text v n body accepted t L st .shape; idle = idle; unmarked = clear }) 0
+      runs-granted (record { shape = load-held text v n body accepted t L st .shape; idle = idle; unmarked = clear })

@@ -6,9 +6,9 @@ use mathlib.Core.List.{List, [], _∷_}
 use lib.IntN.{pos, negsuc}
 use Rattle.base.specs.Decide.{and?, or?, if?, not?, so?, every?, eqᵇ?, eqℤ?}
 use Rattle.stamps.specs.Decision.{literal?, fresh?}
+use Rattle.state.specs.States.{state, loadedState, emptyState}
 use Rattle.state.specs.declared.Pass.the-variants.{Merge}
 use Rattle.tables.specs.Tables.{Tables, tables}
-use Rattle.tables.specs.Calls.{state}
 use Rattle.tables.specs.Long.{long?, longOk}
 use Rattle.shape.specs.Decision.{parts?, literals?, variable?, cursor?, clauses?, shape?, shapeOk}
 use Rattle.dimacs.specs.Words.{wordsAt}
@@ -17,7 +17,7 @@ use Rattle.dimacs.specs.Text.{judge, judgeText, clausesOf}
 use Rattle.load.specs.Load.{clauseRecords, literalPlaces, variableRecords, laid, loadCall}
 use Rattle.printing.specs.Printing.{digits, clauseText, clausesText, textOf}
 use Rattle.write.specs.Write.{writtenClauses, writeText, writeCall}
-use Rattle.roundtrip.specs.Case.{padded, full, settled, Case, case, after, All}
+use Rattle.roundtrip.specs.Case.{padded, full, Case, case, after, All}
 
 -- variable 1 is true, 2 is -1, 3 is false, 4 is 3; the first clause is 1 or -3, the second is dropped
 abbrev valued : Tables
@@ -35,19 +35,19 @@ cases =
     -- comments, a repeat and a clause with v and -v are gone
     ∷ after "c a\np cnf 3 3\n2 1 2 0 3 1 -3 0\n -2 0" 30 0 21 "p cnf 3 2\n2 1 0\n-2 0\n" 9
     -- units, class clauses, the standing clause
-    ∷ case valued (settled 4 2 false) 55 0 54 "p cnf 4 7\n1 0\n-3 0\n2 1 0\n-2 -1 0\n4 -3 0\n-4 3 0\n1 -3 0\n" 1
+    ∷ case valued (loadedState 4 2 false) 55 0 54 "p cnf 4 7\n1 0\n-3 0\n2 1 0\n-2 -1 0\n4 -3 0\n-4 3 0\n1 -3 0\n" 1
     -- an output that fits exactly, and one that is a byte short
-    ∷ case valued (settled 4 2 false) 54 0 54 "p cnf 4 7\n1 0\n-3 0\n2 1 0\n-2 -1 0\n4 -3 0\n-4 3 0\n1 -3 0\n" 0
-    ∷ case valued (settled 4 2 false) 53 10 54 "" 53
+    ∷ case valued (loadedState 4 2 false) 54 0 54 "p cnf 4 7\n1 0\n-3 0\n2 1 0\n-2 -1 0\n4 -3 0\n-4 3 0\n1 -3 0\n" 0
+    ∷ case valued (loadedState 4 2 false) 53 10 54 "" 53
     -- under the mark
     ∷ after "p cnf 2 2\n1 0\n0\n" 12 0 12 "p cnf 2 1\n0\n" 0
     ∷ after "p cnf 2 2\n1 0\n0\n" 11 10 12 "" 11
     -- an open pass is no obstacle
     ∷ case (full (0 ∷ 2 ∷ 1 ∷ []) (pos 1 ∷ negsuc 1 ∷ []) (pos 1 ∷ pos 0 ∷ pos 1 ∷ pos 0 ∷ [])) (state 2 1 (Merge 0) false false) 40 0 31 "p cnf 2 3\n2 -1 0\n-2 1 0\n1 -2 0\n" 9
     -- refusal 1: a short table; a literal out of range; a variable that is not its own class and has a value
-    ∷ case short (settled 0 0 false) 20 1 0 "" 20
-    ∷ case (full (0 ∷ 1 ∷ 1 ∷ []) (pos 3 ∷ []) (pos 1 ∷ pos 0 ∷ pos 2 ∷ pos 0 ∷ [])) (settled 2 1 false) 40 1 0 "" 40
-    ∷ case (full [] [] (pos 1 ∷ pos 0 ∷ pos 1 ∷ pos 1 ∷ [])) (settled 2 0 false) 40 1 0 "" 40
+    ∷ case short emptyState 20 1 0 "" 20
+    ∷ case (full (0 ∷ 1 ∷ 1 ∷ []) (pos 3 ∷ []) (pos 1 ∷ pos 0 ∷ pos 2 ∷ pos 0 ∷ [])) (loadedState 2 1 false) 40 1 0 "" 40
+    ∷ case (full [] [] (pos 1 ∷ pos 0 ∷ pos 1 ∷ pos 1 ∷ [])) (loadedState 2 0 false) 40 1 0 "" 40
     ∷ []
 
 pub hold : All cases

@@ -10,12 +10,13 @@ use lib.Dec.{eqb}
 use borrow.Author.Tests.{eq-eqb}
 use Rattle.base.specs.Decide.{says-yes, agrees}
 use Rattle.literal.specs.Clauses.{tautology}
+use Rattle.state.specs.States.{loadedState}
 use Rattle.state.specs.declared.State.{State}
 use Rattle.state.specs.declared.Pass.the-variants.{Idle}
 use Rattle.state.specs.declared.Answer.the-variants.{Loaded}
 use Rattle.tables.specs.Tables.{Tables, tables}
 use Rattle.tables.specs.Long.{Long, long?, longOk}
-use Rattle.tables.specs.Calls.{After, answered, state}
+use Rattle.tables.specs.Calls.{After, answered}
 use Rattle.dimacs.specs.Text.{judgeText, bodyOf}
 use Rattle.load.specs.Load.{keptOf, clauseRecords, literalPlaces, variableRecords, anyEmpty, laid, loadBy, loadCall}
 use Rattle.load.proofs.Sizes.{records-length, variables-length}
@@ -102,7 +103,7 @@ unfolding laid
 laid-variables v cs t = take-at (variableRecords 1 v) _ (2 * v) (variables-length 1 v)
 
 -- what Write gives after a load of the clauses cs
-pub laid-written : (v : ℕ) (cs : List (List ℤ)) (t : Tables) → writtenClauses (laid v cs t) (state v (length cs) Idle false (anyEmpty cs)) ≡ readClauses cs
+pub laid-written : (v : ℕ) (cs : List (List ℤ)) (t : Tables) → writtenClauses (laid v cs t) (loadedState v (length cs) (anyEmpty cs)) ≡ readClauses cs
 unfolding writtenClauses readClauses
 laid-written v cs t = go (anyEmpty cs)
   where
@@ -117,7 +118,7 @@ long-enough t L = sym (agrees (says-yes L) (long? t))
 
 module _ (v : ℕ) (cs : List (List ℤ)) (h : Writable v cs) (t : Tables) (L : Long t) (st : State) where
   -- the load is not refused; V, N and the mark are those of the formula, no pass is open, and the tables hold it
-  pub loads : loadCall (textOf v cs) t st ≡ answered Loaded (state v (length cs) Idle false (anyEmpty cs)) (laid v cs t)
+  pub loads : loadCall (textOf v cs) t st ≡ answered Loaded (loadedState v (length cs) (anyEmpty cs)) (laid v cs t)
   unfolding loadCall
   loads =
       let q : bodyOf (textOf v cs) (judgeText (textOf v cs)) ≡ cs = read-back v cs h in

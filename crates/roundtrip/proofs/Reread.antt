@@ -9,12 +9,13 @@ use lib.ListN.{length, take}
 use lib.IntN.{ℤ}
 use lib.Dec.{eqb}
 use Rattle.literal.specs.Clauses.{has, distinctFrom, tautology}
+use Rattle.state.specs.States.{loadedState}
 use Rattle.state.specs.declared.State.{State}
 use Rattle.state.specs.declared.Pass.the-variants.{Idle}
 use Rattle.state.specs.declared.Answer.the-variants.{Loaded}
 use Rattle.tables.specs.Tables.{Tables}
 use Rattle.tables.specs.Long.{Long}
-use Rattle.tables.specs.Calls.{After, answered, state}
+use Rattle.tables.specs.Calls.{After, answered}
 use Rattle.dimacs.specs.Text.{judgeText, textClauses}
 use Rattle.dimacs.specs.declared.Verdict.the-variants.{Fits}
 use Rattle.load.specs.Load.{anyEmpty, laid, loadBy, loadCall}
@@ -131,11 +132,11 @@ module _ (text : List ℕ) (v n body : ℕ) (e : judgeText text ≡ Fits v n bod
   within = text-within text v n body e .1 .1
 
   -- the load of it: V, N, the mark and the tables
-  pub text-loads : loadCall text t st ≡ answered Loaded (state v (length (textClauses text)) Idle false (anyEmpty (textClauses text))) (laid v (textClauses text) t)
+  pub text-loads : loadCall text t st ≡ answered Loaded (loadedState v (length (textClauses text)) (anyEmpty (textClauses text))) (laid v (textClauses text) t)
   unfolding loadCall
   text-loads =
       rw (long-enough t L, loadCall) (ap (λ x. loadBy x (textClauses text) t st) e)
-      ∙ ap (λ (m : ℕ). answered Loaded (state v m Idle false (anyEmpty (textClauses text))) (laid v (textClauses text) t)) (sym (within .count))
+      ∙ ap (λ (m : ℕ). answered Loaded (loadedState v m (anyEmpty (textClauses text))) (laid v (textClauses text) t)) (sym (within .count))
 
   -- the clauses that stand are the text's, with repeats removed and those with v and -v left out
   pub text-stands : standingClauses (take (3 * n) (loadCall text t st .tables .clauses)) (loadCall text t st .tables .literals) ≡ keptClauses (textClauses text)
@@ -155,7 +156,7 @@ module _ (text : List ℕ) (v n body : ℕ) (e : judgeText text ≡ Fits v n bod
   read-fits = read-writable v (textClauses text) (text-within text v n body e .0) (omega (arith, within .count, text-within text v n body e .1 .0)) (within .size) (within .each)
 
   module _ (t₂ : Tables) (L₂ : Long t₂) (st₂ : State) where
-    reloads : loadCall (textAfter (loadCall text t st)) t₂ st₂ ≡ answered Loaded (state v (length (readClauses (textClauses text))) Idle false (anyEmpty (readClauses (textClauses text)))) (laid v (readClauses (textClauses text)) t₂)
+    reloads : loadCall (textAfter (loadCall text t st)) t₂ st₂ ≡ answered Loaded (loadedState v (length (readClauses (textClauses text))) (anyEmpty (readClauses (textClauses text)))) (laid v (readClauses (textClauses text)) t₂)
     reloads = ap (λ (s : List ℕ). loadCall s t₂ st₂) text-is ∙ loads v (readClauses (textClauses text)) read-fits t₂ L₂ st₂
 
     -- reading what was read: the same clauses stand, in the same order

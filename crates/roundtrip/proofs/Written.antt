@@ -14,13 +14,14 @@ use borrow.Author.Tests.{ne-eqb}
 use Rattle.base.proofs.Booleans.{or-left, or-right}
 use Rattle.literal.specs.Literals.{eqZ, litBy}
 use Rattle.literal.proofs.Signed.{abs-neg, eqZ-true, eq-eqZ}
+use Rattle.state.specs.States.{loadedState}
 use Rattle.state.specs.declared.State.{State}
 use Rattle.state.specs.declared.Pass.the-variants.{Idle}
 use Rattle.state.specs.declared.Answer.the-variants.{Loaded}
 use Rattle.tables.specs.Tables.{Tables, startOf, lengthOf, standing, classOf, valueOf}
 use Rattle.tables.specs.Clauses.{literalsOf}
 use Rattle.tables.specs.Long.{Long}
-use Rattle.tables.specs.Calls.{After, answered, state}
+use Rattle.tables.specs.Calls.{After, answered}
 use Rattle.shape.specs.Shape.{Variable, Shape}
 use Rattle.dimacs.specs.Text.{judgeText, textClauses}
 use Rattle.dimacs.specs.declared.Verdict.the-variants.{Fits}
@@ -177,11 +178,11 @@ module _ (t : Tables) (st : State) (S : Shape t st) where
 
     module _ (t₂ : Tables) (L : Long t₂) (st₂ : State) where
       -- a load of it into any tables is answered by Loaded; V and the mark are as they were, and N is the number of clauses written
-      pub written-loads : loadCall (writeText t st) t₂ st₂ ≡ answered Loaded (state (st .v) (length (writtenClauses t st)) Idle false (st .mark)) (laid (st .v) (writtenClauses t st) t₂)
+      pub written-loads : loadCall (writeText t st) t₂ st₂ ≡ answered Loaded (loadedState (st .v) (length (writtenClauses t st)) (st .mark)) (laid (st .v) (writtenClauses t st) t₂)
       unfolding writeText
       written-loads =
           loads (st .v) (writtenClauses t st) written-writable t₂ L st₂
-          ∙ ap (λ (b : Bool). answered Loaded (state (st .v) (length (writtenClauses t st)) Idle false b) (laid (st .v) (writtenClauses t st) t₂)) written-mark
+          ∙ ap (λ (b : Bool). answered Loaded (loadedState (st .v) (length (writtenClauses t st)) b) (laid (st .v) (writtenClauses t st) t₂)) written-mark
 
       -- the clauses that stand then are those that were written, in order
       pub written-stand : standingClauses (take (3 * length (writtenClauses t st)) (loadCall (writeText t st) t₂ st₂ .tables .clauses)) (loadCall (writeText t st) t₂ st₂ .tables .literals) ≡ writtenClauses t st

@@ -3,15 +3,14 @@ use Prim.Native.Nat.{ℕ, zero, suc}
 use Prim.Native.Char.{code}
 use Prim.Native.String.{String, [] as nil, _∷_ as cons}
 use mathlib.Core.Path.{_≡_}
-use mathlib.Core.Bool.{Bool, false}
 use mathlib.Core.List.{List, [], _∷_, _++_}
 use lib.ListN.{replicate}
 use lib.IntN.{ℤ, pos}
-use Rattle.state.specs.Answers.{reply}
+use Rattle.state.specs.States.{emptyState}
+use Rattle.state.specs.Answers.{Reply, reply}
 use Rattle.state.specs.declared.State.{State}
-use Rattle.state.specs.declared.Pass.the-variants.{Idle}
 use Rattle.tables.specs.Tables.{Tables, tables}
-use Rattle.tables.specs.Calls.{After, state}
+use Rattle.tables.specs.Calls.{After}
 use Rattle.load.specs.Load.{loadCall}
 use Rattle.write.specs.Write.{AfterWrite, writeCall}
 
@@ -29,12 +28,9 @@ padded z (suc size) (x ∷ xs) = x ∷ padded z size xs
 abbrev pub full : List ℕ → List ℤ → List ℤ → Tables
 full clauses literals variables = tables (padded 0 12288 clauses) (padded (pos 0) 16384 literals) (padded (pos 0) 2048 variables) (padded 0 4096 []) (padded (pos 0) 4096 [])
 
-abbrev pub settled : ℕ → ℕ → Bool → State
-settled v n mark = state v n Idle false mark
-
 -- a load of a text into empty tables
 abbrev pub loaded : String → After
-loaded text = loadCall (bytes text) (full [] [] []) (settled 0 0 false)
+loaded text = loadCall (bytes text) (full [] [] []) emptyState
 
 pub record Case : Type 0 where
   pub tables : Tables
@@ -42,10 +38,15 @@ pub record Case : Type 0 where
   pub out : List ℕ
   pub left : AfterWrite
 
+-- the reply of Write: a length, or a refusal's number and place
+abbrev pub replied : ℕ → ℕ → Reply
+replied zero value = reply 7 0 (value ∷ [])
+replied (suc number) value = reply 0 (suc number) (value ∷ [])
+
 -- tables and a state, an output of so many bytes 7, and what is left: number and value of the reply, the text, and how many bytes 7 stay behind it
 abbrev pub case : Tables → State → ℕ → ℕ → ℕ → String → ℕ → Case
 case t st size number value text behind =
-    record { tables = t; state = st; out = replicate size 7; left = record { reply = reply number (value ∷ []); out = bytes text ++ replicate behind 7 } }
+    record { tables = t; state = st; out = replicate size 7; left = record { reply = replied number value; out = bytes text ++ replicate behind 7 } }
 
 -- the same for what a text is loaded to
 abbrev pub after : String → ℕ → ℕ → ℕ → String → ℕ → Case

@@ -9,12 +9,12 @@ use lib.IntN.{ℤ}
 use Rattle.graph.specs.Clauses.{implications}
 use Rattle.groups.specs.Groups.{cyclic}
 use Rattle.stamps.specs.Columns.{columns}
+use Rattle.state.specs.States.{closed, marked}
 use Rattle.state.specs.declared.State.{State}
-use Rattle.state.specs.declared.Pass.{Pass}
 use Rattle.state.specs.declared.Pass.the-variants.{Idle}
 use Rattle.tables.specs.Tables.{Tables}
 use Rattle.tables.specs.Clauses.{slotsFrom}
-use Rattle.tables.specs.Calls.{After, state, marked}
+use Rattle.tables.specs.Calls.{After}
 use Rattle.shape.specs.Shape.{Shape}
 use Rattle.figures.specs.Stamped.{Stamped}
 use Rattle.stamp.specs.Stamp.{stampAcyclic, stampOrdered}
@@ -25,14 +25,14 @@ use Rattle.stamp.proofs.Asking.{acyclic-no, acyclic-yes}
 use Rattle.stamp.proofs.Shaped.{stamp-shaped}
 use Rattle.failed.specs.Failed.{found, failedFrom, failedFresh}
 use Rattle.failed.specs.Failed as failing
-use Rattle.failed.proofs.Calling.{call-opens}
+use Rattle.failed.proofs.Calling.{call-granted}
 use Rattle.failed.proofs.Shaping.{failed-shape}
-use Rattle.sweep.specs.Sweep.{sweepCursor, sweepFrom}
+use Rattle.sweep.specs.Sweep.{sweepFrom}
 use Rattle.sweep.specs.Sweep as sweeping
 use Rattle.settle.specs.Settle.{Standing, between, settle}
 use Rattle.run.specs.Run.{orderOf, follow, round}
 use Rattle.run.specs.Steps.{Runs}
-use Rattle.run.proofs.Running.{runs-opens, runs-formed, called, stamp-refused, stamp-fit}
+use Rattle.run.proofs.Running.{runs-granted, runs-formed, called, stamp-refused, stamp-fit}
 use Rattle.run.proofs.Resting.{Rests, rests-runs, runs-rests}
 use Rattle.run.proofs.Settling.{settle-rests}
 use Rattle.run.proofs.Sweeping.{sweep-whole}
@@ -72,29 +72,29 @@ module _ {w : Standing} (R : Runs w) where
   unfolding failedFresh
   failed-idle true = go (failedFrom (columns (t .times) (t .links)) (2 * st .v) (st .v) 0 (found (t .variables) 0 false) .opposite)
     where
-      go : (x : Bool) → (elim x as (λ y. State) [ true ↦ marked st | false ↦ state (st .v) (st .n) Idle true false ]) .pass ≡ Idle
+      go : (x : Bool) → (elim x as (λ y. State) [ true ↦ marked st | false ↦ closed true st ]) .pass ≡ Idle
       go true = refl
       go false = refl
   failed-idle false = R .idle
 
   pub failed-rests : Rests (between (failing.unlessStale (st .fresh) t st))
   failed-rests = record {
-    shape = subst (λ (a : After). Shape (a .tables) (a .state)) (sym (call-opens t st (runs-opens R 0))) (failed-shape t st (R .shape));
+    shape = subst (λ (a : After). Shape (a .tables) (a .state)) (sym (call-granted t st (runs-granted R))) (failed-shape t st (R .shape));
     idle = failed-idle (st .fresh);
   }
 
   -- ---- Sweep
 
-  pub sweep-rests : Rests (between (sweeping.unlessStale (st .fresh) (st .n) t st))
+  pub sweep-rests : Rests (between (sweeping.unlessStale (st .fresh) (st .n) 0 t st))
   sweep-rests = go (st .fresh) refl
     where
       stamped : st .fresh ≡ true → Stamped (st .v) (t .times) (t .links)
       stamped f = let S = R .shape in record { few = S .v-limit; timed = omega (arith, S .v-limit, S .long .times); linked = omega (arith, S .v-limit, S .long .links); fresh = S .stamps f }
 
-      go : (b : Bool) → st .fresh ≡ b → Rests (between (sweeping.unlessStale b (st .n) t st))
+      go : (b : Bool) → st .fresh ≡ b → Rests (between (sweeping.unlessStale b (st .n) 0 t st))
       go true e =
           let r = sweep-whole t st (runs-formed R) (stamped e) (R .shape .long .times) (R .shape .long .links) in
-          subst (λ (p : Pass). Rests (between (sweepFrom (st .n) (sweepCursor p) t st))) (sym (R .idle)) (record { shape = r .0; idle = r .1 })
+          record { shape = r .0; idle = r .1 }
       go false e = runs-rests R
 
 -- ---- the codes
@@ -109,7 +109,7 @@ follow-rests k code {w} R = go (eqb code 1) (eqb code 2) (eqb code 3) (eqb code 
         | true ↦ between (stampOrdered (orderOf (w .state .v) k) (w .tables) (w .state))
         | false ↦ elim c as (λ x. Standing) [
           | true ↦ between (failing.unlessStale (w .state .fresh) (w .tables) (w .state))
-          | false ↦ elim d as (λ x. Standing) [ true ↦ between (sweeping.unlessStale (w .state .fresh) (w .state .n) (w .tables) (w .state)) | false ↦ w ]
+          | false ↦ elim d as (λ x. Standing) [ true ↦ between (sweeping.unlessStale (w .state .fresh) (w .state .n) 0 (w .tables) (w .state)) | false ↦ w ]
         ]
       ]
     ])

@@ -1,18 +1,20 @@
 -- What stands between two passes of a run: every call would open its pass, so that the parts of the calls that Run uses have what they ask for. Assumes nothing.
-use Prim.Native.Nat.{ℕ, _≤_}
-use native.Mathlib.Omega.{arith}
+use Prim.Native.Nat.{ℕ}
 use mathlib.Core.Path.{_≡_, refl, sym, ap, _∙_}
 use mathlib.Core.Bool.{Bool, true, false}
 use mathlib.Core.List.{List}
 use lib.IntN.{ℤ}
 use borrow.Author.Tests.{eq-eqb, ne-eqb}
+use Rattle.state.specs.declared.Pass.the-variants.{Idle}
 use Rattle.state.specs.declared.Refusal.{Refusal}
 use Rattle.tables.specs.Calls.{refuse}
 use Rattle.shape.specs.Decision.{shapeOk, shape-exact}
-use Rattle.shape.specs.Entry.{passNumber, entryOf}
-use Rattle.shape.specs.declared.Entry.{Entry}
-use Rattle.shape.specs.declared.Entry.the-variants.{Opens}
-use Rattle.shape.proofs.Entering.{Entered, entry-idle}
+use Rattle.entry.specs.Entry.{entryOf, openingOf}
+use Rattle.entry.specs.declared.PassName.{PassName}
+use Rattle.entry.specs.declared.Entry.the-variants.{Opens}
+use Rattle.entry.specs.declared.Opening.{Opening}
+use Rattle.entry.specs.declared.Opening.the-variants.{Granted}
+use Rattle.entry.proofs.Entering.{Entered, entry-idle, opening-idle}
 use Rattle.clauses.specs.Formed.{Formed}
 use Rattle.clauses.proofs.Entered.{entered-formed}
 use Rattle.stamp.specs.Stamp.{stampAcyclic, stampOrdered, stampBy, stampCall}
@@ -21,7 +23,7 @@ use Rattle.stamp.specs.declared.Ruling.the-variants.{No, Fit}
 use Rattle.stamp.proofs.Asking.{Known, ask-by, fit-known, call-refused, call-fit}
 use Rattle.failed.specs.Failed as failing
 use Rattle.failed.specs.Steps.{Callable}
-use Rattle.failed.proofs.Calling.{opens-callable}
+use Rattle.failed.proofs.Calling.{granted-callable}
 use Rattle.sweep.specs.Sweep as sweeping
 use Rattle.sweep.specs.Visits.{Ready}
 use Rattle.sweep.proofs.Entering.{entered-ready}
@@ -40,30 +42,33 @@ module _ {w : Standing} (R : Runs w) where
       go false e = absurd (shape-exact (w .tables) (w .state) .fails e (R .shape))
 
   -- any call opens its pass
-  pub runs-opens : (own : ℕ) → entryOf own (w .tables) (w .state) ≡ Opens
-  runs-opens own = entry-idle own (w .tables) (w .state) well-shaped (passNumber (w .state .pass)) refl false (R .unmarked) (ap passNumber (R .idle))
+  pub runs-opens : (own : PassName) → entryOf own (w .tables) (w .state) ≡ Opens
+  runs-opens = entry-idle (w .tables) (w .state) well-shaped (R .idle) (R .unmarked)
 
-  pub runs-entered : Entered 0 (w .tables) (w .state)
-  runs-entered = record { shape = R .shape; pass = ap passNumber (R .idle); unmarked = R .unmarked }
+  pub runs-granted : openingOf (w .tables) (w .state) ≡ Granted
+  runs-granted = opening-idle (w .tables) (w .state) well-shaped (R .idle) (R .unmarked)
+
+  pub runs-entered : Entered Idle (w .tables) (w .state)
+  runs-entered = record { shape = R .shape; pass = R .idle; unmarked = R .unmarked }
 
   pub runs-formed : Formed (w .state .v) (w .state .n) (w .state .n) false (w .tables .clauses) (w .tables .literals) (w .tables .variables)
-  runs-formed = entered-formed runs-entered (λ z. omega arith)
+  runs-formed = entered-formed runs-entered tt
 
   pub runs-callable : Callable (w .state) (w .tables .variables) (w .tables .times) (w .tables .links)
-  runs-callable = opens-callable (w .tables) (w .state) (runs-opens 0)
+  runs-callable = granted-callable (w .tables) (w .state) runs-granted
 
-  pub runs-ready : (w .state .fresh ≡ true → Ready (w .state .n) (w .tables .clauses) (w .tables .literals) (w .tables .times) (w .tables .links)) × (sweeping.sweepCursor (w .state .pass) ≤ w .state .n)
-  runs-ready = entered-ready runs-entered (λ z. omega arith)
+  pub runs-ready : w .state .fresh ≡ true → Ready (w .state .n) (w .tables .clauses) (w .tables .literals) (w .tables .times) (w .tables .links)
+  runs-ready = entered-ready runs-entered tt
 
   -- ---- Stamp in a given order
 
   module _ (order : List ℤ) where
     asked : askOrdered order (w .tables) (w .state) ≡ askOf order (w .tables) (w .state)
-    asked = ask-by order (w .tables) (w .state) Opens (runs-opens 0)
+    asked = ask-by order (w .tables) (w .state) Granted runs-granted
 
     pub called : stampCall order (w .tables) (w .state) ≡ stampOrdered order (w .tables) (w .state)
     unfolding stampCall
-    called = ap (λ (e : Entry). stampBy e order (w .tables) (w .state)) (runs-opens 0)
+    called = ap (λ (e : Opening). stampBy e order (w .tables) (w .state)) runs-granted
 
     pub runs-known : askOrdered order (w .tables) (w .state) ≡ Fit → Known order (w .tables) (w .state)
     runs-known e = fit-known (w .tables) (w .state) order (sym asked ∙ e)
@@ -92,7 +97,7 @@ module _ (k code : ℕ) (w : Standing) where
       code-failed e = rw (ne-eqb code 1 a, ne-eqb code 2 b, eq-eqb code 3 e, follow)
 
       module _ (d : code ≡ 3 → ⊥) where
-        pub code-sweep : code ≡ 4 → between (sweeping.unlessStale (w .state .fresh) (w .state .n) (w .tables) (w .state)) ≡ follow k code w
+        pub code-sweep : code ≡ 4 → between (sweeping.unlessStale (w .state .fresh) (w .state .n) 0 (w .tables) (w .state)) ≡ follow k code w
         unfolding follow
         code-sweep e = rw (ne-eqb code 1 a, ne-eqb code 2 b, ne-eqb code 3 d, eq-eqb code 4 e, follow)
 

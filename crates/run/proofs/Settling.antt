@@ -12,7 +12,8 @@ use Rattle.tables.specs.Tables.{Tables}
 use Rattle.tables.specs.Passes.{firstUnsettled}
 use Rattle.tables.specs.Calls.{After}
 use Rattle.shape.specs.Shape.{Shape}
-use Rattle.shape.specs.declared.Entry.{Entry}
+use Rattle.entry.specs.declared.PassName.the-variants as own
+use Rattle.entry.specs.declared.Entry.{Entry}
 use Rattle.propagate.specs.Propagate.{propagateBy, propagateCall}
 use Rattle.propagate.proofs.Shaped.{propagate-shaped}
 use Rattle.merge.specs.Merge.{edgesOf, clashes, mergeOpen, mergeSettled, mergeBy, mergeCall}
@@ -38,7 +39,7 @@ module _ {w : Standing} (R : Runs w) where
 
   propagate-shape : Shape (propagated w .tables) (propagated w .state)
   unfolding propagateCall
-  propagate-shape = subst (λ (a : After). Shape (a .tables) (a .state)) (ap (λ (e : Entry). propagateBy e (enough t st) t st) (runs-opens R 1)) (propagate-shaped (enough t st) t st (R .shape))
+  propagate-shape = subst (λ (a : After). Shape (a .tables) (a .state)) (ap (λ (e : Entry). propagateBy e (enough t st) t st) (runs-opens R own.Propagate)) (propagate-shaped (enough t st) t st (R .shape))
 
   pub propagate-rests : Rests (propagated w)
   propagate-rests = record { shape = propagate-shape; idle = ⊎-elim (λ e. ap (λ (s : State). s .pass) e) (λ e. ap (λ (s : State). s .pass) (e .0)) (ended .ending) }
@@ -55,7 +56,7 @@ module _ {w : Standing} (R : Runs w) where
   module _ (settled : firstUnsettled t (st .n) ≡ st .n) where
     pub merge-opens : mergeCall (st .n) t st ≡ mergeOpen (st .n) t st
     unfolding mergeCall mergeSettled
-    merge-opens = ap (λ (e : Entry). mergeBy e (st .n) t st) (runs-opens R 2) ∙ (let f : ltb (firstUnsettled t (st .n)) (st .n) ≡ false = le-ltb (firstUnsettled t (st .n)) (st .n) (omega (arith, settled)) in rw (f, mergeSettled))
+    merge-opens = ap (λ (e : Entry). mergeBy e (st .n) t st) (runs-opens R own.Merge) ∙ (let f : ltb (firstUnsettled t (st .n)) (st .n) ≡ false = le-ltb (firstUnsettled t (st .n)) (st .n) (omega (arith, settled)) in rw (f, mergeSettled))
 
     pub merge-rests : Rests (merged w)
     merge-rests = record {

@@ -7,11 +7,12 @@ use lib.ListN.{length}
 use Rattle.walk.specs.Walk.{Stamps}
 use Rattle.stamps.specs.Columns.{columns}
 use Rattle.hidden.proofs.Columns.{fresh-nested}
+use Rattle.state.specs.States.{closed}
 use Rattle.state.specs.declared.State.{State}
 use Rattle.state.specs.declared.Pass.the-variants.{Idle, Sweep}
 use Rattle.tables.specs.Tables.{Tables}
 use Rattle.tables.specs.Fates.{visits}
-use Rattle.tables.specs.Calls.{After, state}
+use Rattle.tables.specs.Calls.{After}
 use Rattle.shape.specs.Shape.{Shape}
 use Rattle.clauses.proofs.Visiting.{visits-beside}
 use Rattle.clauses.proofs.Keeping.{FormedIn, formed-shape-as}
@@ -28,7 +29,7 @@ module _ (t : Tables) (st : State) (F : FormedIn (st .v) (st .n) t) (S : Stamped
   pub sweep-whole : Shape (sweepFrom (st .n) 0 t st .tables) (sweepFrom (st .n) 0 t st .state) × (sweepFrom (st .n) 0 t st .state .pass ≡ Idle)
   sweep-whole =
       subst (λ (a : After). Shape (a .tables) (a .state) × (a .state .pass ≡ Idle)) (sym (advance-whole Sweep true false (sweepClause σ) t st)) (
-        formed-shape-as t (visits (sweepClause σ) (st .n) 0 t) (state (st .v) (st .n) Idle false false) (visits-beside (sweepClause σ) (sweep-shrinks σ) (st .n) 0 t .stamps) times links (λ z. absurd (false≢true z))
+        formed-shape-as t (visits (sweepClause σ) (st .n) 0 t) (closed false st) (visits-beside (sweepClause σ) (sweep-shrinks σ) (st .n) 0 t .stamps) times links (λ z. absurd (false≢true z))
             (formed-visits t F σ (fresh-nested (t .times) (t .links) (st .v) (S .fresh)) (st .n) 0 (omega arith)) tt,
         refl,
       )

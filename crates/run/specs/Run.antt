@@ -14,9 +14,10 @@ use Rattle.state.specs.declared.Answer.the-variants.{Ran}
 use Rattle.tables.specs.Tables.{Tables}
 use Rattle.tables.specs.Clauses.{literalsOf}
 use Rattle.tables.specs.Calls.{After, answered, refuse}
-use Rattle.shape.specs.Entry.{entryOf}
-use Rattle.shape.specs.declared.Entry.{Entry}
-use Rattle.shape.specs.declared.Entry.the-variants.{No, Opens, Resumes}
+use Rattle.entry.specs.Entry.{openingOf}
+use Rattle.entry.specs.declared.Entry.the-variants.{Opens}
+use Rattle.entry.specs.declared.Opening.{Opening}
+use Rattle.entry.specs.declared.Opening.the-variants.{Denied, Granted}
 use Rattle.stamp.specs.Stamp.{stampBy}
 use Rattle.failed.specs.Failed.{failedBy}
 use Rattle.sweep.specs.Sweep.{sweepBy}
@@ -43,9 +44,9 @@ follow k code w =
     elim (eqb code 1) [
       | true ↦ settle w
       | false ↦ elim (eqb code 2) [
-        | true ↦ between (stampBy Opens (orderOf (w .state .v) k) (w .tables) (w .state))
+        | true ↦ between (stampBy Granted (orderOf (w .state .v) k) (w .tables) (w .state))
         | false ↦ elim (eqb code 3) [
-          | true ↦ between (failedBy Opens (w .tables) (w .state))
+          | true ↦ between (failedBy Granted (w .tables) (w .state))
           | false ↦ elim (eqb code 4) [ true ↦ between (sweepBy Opens (w .state .n) (w .tables) (w .state)) | false ↦ w ]
         ]
       ]
@@ -87,11 +88,9 @@ runFrom codes (suc m) k w = stopOr k w (round k codes w) (runFrom codes m (suc k
 abbrev pub runReply : Rounds → After
 runReply r = answered (Ran (r .made)) (r .standing .state) (r .standing .tables)
 
-abbrev pub runBy : Entry → ℕ → Tables → State → After
-runBy (No r) count t st = refuse r st t
-runBy Opens count t st = runReply (runFrom programme count 0 (record { tables = t; state = st }))
-runBy Resumes count t st = runReply (runFrom programme count 0 (record { tables = t; state = st }))
+abbrev pub runBy : Opening → ℕ → Tables → State → After
+runBy (Denied r) count t st = refuse r st t
+runBy Granted count t st = runReply (runFrom programme count 0 (record { tables = t; state = st }))
 
--- Run resumes no pass
 unfoldable pub runCall : ℕ → Tables → State → After
-runCall count t st = runBy (entryOf 0 t st) count t st
+runCall count t st = runBy (openingOf t st) count t st

@@ -1,5 +1,5 @@
 // Run: rounds of a constant programme of passes.
-use shape::Entry;
+use entry::Opening;
 use stamp::Ruling;
 use state::Answer;
 use state::Outcome;
@@ -14,7 +14,7 @@ ghost use lib.IntN.{ℤ};
 ghost use Rattle.base.specs.Lists.{allBelow, sameList, numbers};
 ghost use Rattle.literal.specs.Literals.{litAt, eqZ};
 ghost use Rattle.state.specs.declared.State.{State};
-ghost use Rattle.tables.specs.Tables.{tables};
+ghost use Rattle.tables.specs.Lent.{handed, lent, returned, unlent};
 ghost use Rattle.tables.specs.Clauses.{literalsOf};
 ghost use Rattle.tables.specs.Calls.{after};
 ghost use Rattle.stamp.specs.Stamp.{stampOrdered};
@@ -182,8 +182,8 @@ fn same_tables(
 ) -> bool
     requires { ⌜ Comparable v n (now kept) (now parts) (now rows) (now clauses) (now literals) (now variables) ⌝ }
     ensures { λ r. ⌜ ((st st′ : State) (times times′ : List ℕ) (links links′ : List ℤ) → st .v ≡ v → st .n ≡ n →
-        r ≡ unchanged (standingIn (tables (now (kept .entry)) (now (parts .entry)) (now (rows .entry)) times links) st)
-        (standingIn (tables (now (clauses .entry)) (now (literals .entry)) (now (variables .entry)) times′ links′) st′)) ⌝ }
+        r ≡ unchanged (standingIn (lent kept parts rows (unlent times) (unlent links)) st)
+        (standingIn (lent clauses literals variables (unlent times′) (unlent links′)) st′)) ⌝ }
 {
     let records = 3 * n as usize;
     if !same_numbers(&kept[..records], &clauses[..records]) {
@@ -208,9 +208,9 @@ fn stamp_ordered(
     st: State,
     order: &[i32],
 ) -> State
-    requires { ⌜ Runs (standingIn (tables (now clauses) (now literals) (now variables) (now times) (now links)) st) ⌝ }
-    ensures { λ r. ⌜ standingIn (tables (now (clauses .entry)) (now (literals .entry)) (now (variables .entry)) (now (times .exit)) (now (links .exit))) r
-        ≡ between (stampOrdered (now (order .entry)) (tables (now (clauses .entry)) (now (literals .entry)) (now (variables .entry)) (now (times .entry)) (now (links .entry))) st) ⌝ }
+    requires { ⌜ Runs (standingIn (handed clauses literals variables times links) st) ⌝ }
+    ensures { λ r. ⌜ standingIn (returned clauses literals variables times links) r
+        ≡ between (stampOrdered (now (order .entry)) (lent clauses literals variables times links) st) ⌝ }
 {
     let ruling = stamp::ask_ordered(clauses, literals, variables, st, order);
     match ruling {
@@ -233,9 +233,9 @@ fn stamp_turned(
     st: State,
     place: &mut [i32],
 ) -> State
-    requires { ⌜ Runs (standingIn (tables (now clauses) (now literals) (now variables) (now times) (now links)) st) × (length (now place) ≡ 2048) ⌝ }
-    ensures { λ r. ⌜ standingIn (tables (now (clauses .entry)) (now (literals .entry)) (now (variables .entry)) (now (times .exit)) (now (links .exit))) r
-        ≡ between (stampOrdered (orderOf (st .v) k) (tables (now (clauses .entry)) (now (literals .entry)) (now (variables .entry)) (now (times .entry)) (now (links .entry))) st) ⌝ }
+    requires { ⌜ Runs (standingIn (handed clauses literals variables times links) st) × (length (now place) ≡ 2048) ⌝ }
+    ensures { λ r. ⌜ standingIn (returned clauses literals variables times links) r
+        ≡ between (stampOrdered (orderOf (st .v) k) (lent clauses literals variables times links) st) ⌝ }
 {
     let v = st.v;
     let size = 2 * v as usize;
@@ -261,9 +261,9 @@ fn follow_stamp(
     links: &mut [i32],
     st: State,
 ) -> State
-    requires { ⌜ Runs (standingIn (tables (now clauses) (now literals) (now variables) (now times) (now links)) st) ⌝ }
-    ensures { λ r. ⌜ standingIn (tables (now (clauses .entry)) (now (literals .entry)) (now (variables .entry)) (now (times .exit)) (now (links .exit))) r
-        ≡ between (stampOrdered (orderOf (st .v) k) (tables (now (clauses .entry)) (now (literals .entry)) (now (variables .entry)) (now (times .entry)) (now (links .entry))) st) ⌝ }
+    requires { ⌜ Runs (standingIn (handed clauses literals variables times links) st) ⌝ }
+    ensures { λ r. ⌜ standingIn (returned clauses literals variables times links) r
+        ≡ between (stampOrdered (orderOf (st .v) k) (lent clauses literals variables times links) st) ⌝ }
 {
     let mut place = [0i32; 2048];
     stamp_turned(
@@ -281,8 +281,8 @@ fn follow_stamp(
 // Code 3.
 fn follow_failed(variables: &mut [i32], times: &[u32], links: &[i32], st: State) -> State
     requires { ⌜ Callable st (now variables) (now times) (now links) ⌝ }
-    ensures { λ r. ⌜ ((clauses : List ℕ) (literals : List ℤ) → standingIn (tables clauses literals (now (variables .exit)) (now (times .entry)) (now (links .entry))) r
-        ≡ between (failing.unlessStale (st .fresh) (tables clauses literals (now (variables .entry)) (now (times .entry)) (now (links .entry))) st)) ⌝ }
+    ensures { λ r. ⌜ ((clauses : List ℕ) (literals : List ℤ) → standingIn (returned (unlent clauses) (unlent literals) variables times links) r
+        ≡ between (failing.unlessStale (st .fresh) (lent (unlent clauses) (unlent literals) variables times links) st)) ⌝ }
 {
     let outcome = failed::unless_stale(variables, times, links, st);
     outcome.state
@@ -296,12 +296,12 @@ fn follow_sweep(
     links: &[i32],
     st: State,
 ) -> State
-    requires { ⌜ (st .fresh ≡ true → Ready (st .n) (now clauses) (now literals) (now times) (now links)) × (sweeping.sweepCursor (st .pass) ≤ st .n) ⌝ }
-    ensures { λ r. ⌜ ((variables : List ℤ) → standingIn (tables (now (clauses .exit)) (now (literals .exit)) variables (now (times .entry)) (now (links .entry))) r
-        ≡ between (sweeping.unlessStale (st .fresh) (st .n) (tables (now (clauses .entry)) (now (literals .entry)) variables (now (times .entry)) (now (links .entry))) st)) ⌝ }
+    requires { ⌜ (st .fresh ≡ true → Ready (st .n) (now clauses) (now literals) (now times) (now links)) ⌝ }
+    ensures { λ r. ⌜ ((variables : List ℤ) → standingIn (returned clauses literals (unlent variables) times links) r
+        ≡ between (sweeping.unlessStale (st .fresh) (st .n) 0 (lent clauses literals (unlent variables) times links) st)) ⌝ }
 {
     let n = st.n;
-    let outcome = sweep::sweep_entered(clauses, literals, times, links, st, n);
+    let outcome = sweep::sweep_entered(clauses, literals, times, links, st, 0, n);
     outcome.state
 }
 
@@ -316,8 +316,8 @@ fn follow(
     links: &mut [i32],
     st: State,
 ) -> State
-    requires { ⌜ Runs (standingIn (tables (now clauses) (now literals) (now variables) (now times) (now links)) st) ⌝ }
-    ensures { λ r. ⌜ standingIn (tables (now (clauses .exit)) (now (literals .exit)) (now (variables .exit)) (now (times .exit)) (now (links .exit))) r ≡ follow k code (standingIn (tables (now (clauses .entry)) (now (literals .entry)) (now (variables .entry)) (now (times .entry)) (now (links .entry))) st) ⌝ }
+    requires { ⌜ Runs (standingIn (handed clauses literals variables times links) st) ⌝ }
+    ensures { λ r. ⌜ standingIn (returned clauses literals variables times links) r ≡ follow k code (standingIn (lent clauses literals variables times links) st) ⌝ }
 {
     if code == 1 {
         return settle::settle(clauses, literals, variables, st);
@@ -346,8 +346,8 @@ fn round(
     links: &mut [i32],
     st: State,
 ) -> State
-    requires { ⌜ Runs (standingIn (tables (now clauses) (now literals) (now variables) (now times) (now links)) st) ⌝ }
-    ensures { λ r. ⌜ standingIn (tables (now (clauses .exit)) (now (literals .exit)) (now (variables .exit)) (now (times .exit)) (now (links .exit))) r ≡ round k programme (standingIn (tables (now (clauses .entry)) (now (literals .entry)) (now (variables .entry)) (now (times .entry)) (now (links .entry))) st) ⌝ }
+    requires { ⌜ Runs (standingIn (handed clauses literals variables times links) st) ⌝ }
+    ensures { λ r. ⌜ standingIn (returned clauses literals variables times links) r ≡ round k programme (standingIn (lent clauses literals variables times links) st) ⌝ }
 {
     let mut state = st;
     let mut i = 0;
@@ -375,9 +375,9 @@ fn make_round(
     parts: &mut [i32],
     rows: &mut [i32],
 ) -> Turn
-    requires { ⌜ Runs (standingIn (tables (now clauses) (now literals) (now variables) (now times) (now links)) st) × Places (now kept) (now parts) (now rows) ⌝ }
-    ensures { λ r. ⌜ (standingIn (tables (now (clauses .exit)) (now (literals .exit)) (now (variables .exit)) (now (times .exit)) (now (links .exit))) (r .state) ≡ round k programme (standingIn (tables (now (clauses .entry)) (now (literals .entry)) (now (variables .entry)) (now (times .entry)) (now (links .entry))) st))
-        × (r .stop ≡ (r .state .mark || unchanged (standingIn (tables (now (clauses .entry)) (now (literals .entry)) (now (variables .entry)) (now (times .entry)) (now (links .entry))) st) (standingIn (tables (now (clauses .exit)) (now (literals .exit)) (now (variables .exit)) (now (times .exit)) (now (links .exit))) (r .state)))) ⌝ }
+    requires { ⌜ Runs (standingIn (handed clauses literals variables times links) st) × Places (now kept) (now parts) (now rows) ⌝ }
+    ensures { λ r. ⌜ (standingIn (returned clauses literals variables times links) (r .state) ≡ round k programme (standingIn (lent clauses literals variables times links) st))
+        × (r .stop ≡ (r .state .mark || unchanged (standingIn (lent clauses literals variables times links) st) (standingIn (returned clauses literals variables times links) (r .state)))) ⌝ }
 {
     save(clauses, literals, variables, kept, parts, rows);
     let v = st.v;
@@ -401,8 +401,8 @@ fn make_rounds(
     parts: &mut [i32],
     rows: &mut [i32],
 ) -> Made
-    requires { ⌜ Runs (standingIn (tables (now clauses) (now literals) (now variables) (now times) (now links)) st) × Places (now kept) (now parts) (now rows) ⌝ }
-    ensures { λ r. ⌜ rounds (r .made) (standingIn (tables (now (clauses .exit)) (now (literals .exit)) (now (variables .exit)) (now (times .exit)) (now (links .exit))) (r .state)) ≡ runFrom programme count 0 (standingIn (tables (now (clauses .entry)) (now (literals .entry)) (now (variables .entry)) (now (times .entry)) (now (links .entry))) st) ⌝ }
+    requires { ⌜ Runs (standingIn (handed clauses literals variables times links) st) × Places (now kept) (now parts) (now rows) ⌝ }
+    ensures { λ r. ⌜ rounds (r .made) (standingIn (returned clauses literals variables times links) (r .state)) ≡ runFrom programme count 0 (standingIn (lent clauses literals variables times links) st) ⌝ }
 {
     let mut state = st;
     let mut k: u32 = 0;
@@ -439,8 +439,8 @@ fn run_rounds(
     links: &mut [i32],
     st: State,
 ) -> Made
-    requires { ⌜ Runs (standingIn (tables (now clauses) (now literals) (now variables) (now times) (now links)) st) ⌝ }
-    ensures { λ r. ⌜ rounds (r .made) (standingIn (tables (now (clauses .exit)) (now (literals .exit)) (now (variables .exit)) (now (times .exit)) (now (links .exit))) (r .state)) ≡ runFrom programme count 0 (standingIn (tables (now (clauses .entry)) (now (literals .entry)) (now (variables .entry)) (now (times .entry)) (now (links .entry))) st) ⌝ }
+    requires { ⌜ Runs (standingIn (handed clauses literals variables times links) st) ⌝ }
+    ensures { λ r. ⌜ rounds (r .made) (standingIn (returned clauses literals variables times links) (r .state)) ≡ runFrom programme count 0 (standingIn (lent clauses literals variables times links) st) ⌝ }
 {
     let mut kept = [0u32; 12288];
     let mut parts = [0i32; 16384];
@@ -471,8 +471,8 @@ fn run_entered(
     links: &mut [i32],
     st: State,
 ) -> Outcome
-    requires { ⌜ Runs (standingIn (tables (now clauses) (now literals) (now variables) (now times) (now links)) st) ⌝ }
-    ensures { λ r. ⌜ after r (tables (now (clauses .exit)) (now (literals .exit)) (now (variables .exit)) (now (times .exit)) (now (links .exit))) ≡ runReply (runFrom programme count 0 (standingIn (tables (now (clauses .entry)) (now (literals .entry)) (now (variables .entry)) (now (times .entry)) (now (links .entry))) st)) ⌝ }
+    requires { ⌜ Runs (standingIn (handed clauses literals variables times links) st) ⌝ }
+    ensures { λ r. ⌜ after r (returned clauses literals variables times links) ≡ runReply (runFrom programme count 0 (standingIn (lent clauses literals variables times links) st)) ⌝ }
 {
     let made = run_rounds(count, clauses, literals, variables, times, links, st);
     let number = made.made;
@@ -493,16 +493,14 @@ pub fn run(
     st: State,
     n: u16,
 ) -> Outcome
-    ensures { λ r. ⌜ after r (tables (now (clauses .exit)) (now (literals .exit)) (now (variables .exit)) (now (times .exit)) (now (links .exit))) ≡ runCall n (tables (now (clauses .entry)) (now (literals .entry)) (now (variables .entry)) (now (times .entry)) (now (links .entry))) st ⌝ }
+    ensures { λ r. ⌜ after r (returned clauses literals variables times links) ≡ runCall n (lent clauses literals variables times links) st ⌝ }
 {
-    let entry = shape::entry_of(clauses, literals, variables, times, links, st, 0);
-    match entry {
-        Entry::No(r) => Outcome {
+    let opening = entry::may_open(clauses, literals, variables, times, links, st);
+    match opening {
+        Opening::Denied(r) => Outcome {
             answer: Answer::Refused(r),
             state: st,
         },
-        Entry::Opens => run_entered(n as u32, clauses, literals, variables, times, links, st),
-        // Run resumes no pass, so that here too none is open
-        Entry::Resumes => run_entered(n as u32, clauses, literals, variables, times, links, st),
+        Opening::Granted => run_entered(n as u32, clauses, literals, variables, times, links, st),
     }
 }

@@ -9,12 +9,12 @@ use Rattle.walk.specs.Walk.{arrive, leave, edge, edges, enters, starts}
 use Rattle.graph.specs.Edges.{outs}
 use Rattle.graph.specs.Clauses.{froms, tos}
 use Rattle.groups.specs.Groups.{reaches, connected, cyclic, leastMutual}
+use Rattle.state.specs.States.{state}
 use Rattle.state.specs.declared.Pass.the-variants.{Idle}
 use Rattle.tables.specs.Tables.{tables}
 use Rattle.tables.specs.Clauses.{slotsAt, slotsFrom, standingCount, literalCount}
 use Rattle.tables.specs.Fates.{shortened, droppedAt, fateAt, visits}
 use Rattle.tables.specs.Passes.{advance}
-use Rattle.tables.specs.Calls.{state}
 use Rattle.propagate.specs.Propagate.{propagateClause, propagateVisit, propagateVisits, propagateFrom}
 use Rattle.merge.specs.Merge.{clashes, representative, regrouped, mergedClasses, mergeClause, mergeOpen}
 use Rattle.settle.specs.Settle.{Standing, settleFor, settle}

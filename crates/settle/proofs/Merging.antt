@@ -4,12 +4,12 @@ use mathlib.Core.Path.{_≡_, refl, ap, _∙_}
 use mathlib.Core.Bool.{true, false}
 use mathlib.Core.List.{List}
 use lib.IntN.{ℤ}
+use Rattle.state.specs.States.{closed, marked}
 use Rattle.state.specs.declared.State.{State}
 use Rattle.state.specs.declared.Pass.the-variants.{Idle, Merge}
 use Rattle.tables.specs.Tables.{Tables}
 use Rattle.tables.specs.Fates.{visits}
 use Rattle.tables.specs.Passes.{firstUnsettled}
-use Rattle.tables.specs.Calls.{state, marked}
 use Rattle.clauses.proofs.Visiting.{visits-beside}
 use Rattle.clauses.proofs.Keeping.{FormedTo}
 use Rattle.clauses.proofs.Advancing.{advance-whole}
@@ -31,7 +31,7 @@ mergedTables t st = visits (mergeClause (newClasses t st)) (st .n) 0 (mergedClas
 
 -- the state in which a pass ends
 abbrev pub ended : State → State
-ended st = state (st .v) (st .n) Idle false false
+ended st = closed false st
 
 module _ (t : Tables) (st : State) where
   pub merged-clash : clashes (edgesOf t (st .n)) (st .v) ≡ true → merged (standingIn t st) ≡ standingIn t (marked st)

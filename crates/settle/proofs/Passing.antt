@@ -6,10 +6,10 @@ use mathlib.Core.Bool.{Bool, true, false, false≢true}
 use mathlib.Core.Logic.{_⊎_, inl, inr}
 use lib.Dec.{ltb}
 use borrow.Author.Tests.{lt-ltb, le-ltb, ltb-true}
+use Rattle.state.specs.States.{marked}
 use Rattle.state.specs.declared.State.{State}
 use Rattle.tables.specs.Tables.{Tables}
 use Rattle.tables.specs.Passes.{firstUnsettled}
-use Rattle.tables.specs.Calls.{marked}
 use Rattle.clauses.specs.Formed.{Formed}
 use Rattle.merge.specs.Merge.{edgesOf, clashes}
 use Rattle.clauses.proofs.Keeping.{FormedTo}

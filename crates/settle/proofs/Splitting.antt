@@ -5,15 +5,16 @@ use mathlib.Core.Path.{_≡_, refl, sym, ap, subst, _∙_}
 use mathlib.Core.Bool.{false}
 use mathlib.Core.List.{List, []}
 use Rattle.base.specs.Decide.{says-yes}
+use Rattle.state.specs.States.{opened}
 use Rattle.state.specs.declared.State.{State}
-use Rattle.state.specs.declared.Pass.the-variants.{Propagate}
+use Rattle.state.specs.declared.Pass.the-variants.{Idle, Propagate}
 use Rattle.tables.specs.Tables.{Tables}
-use Rattle.tables.specs.Calls.{state}
 use Rattle.shape.specs.Shape.{Shape}
 use Rattle.shape.specs.Decision.{shape-agrees}
-use Rattle.shape.specs.Entry.{passNumber, entryOf}
-use Rattle.shape.specs.declared.Entry.the-variants.{Opens, Resumes}
-use Rattle.shape.proofs.Entering.{entry-idle, entry-own}
+use Rattle.entry.specs.Entry.{entryOf}
+use Rattle.entry.specs.declared.PassName.the-variants as own
+use Rattle.entry.specs.declared.Entry.the-variants.{Opens, Resumes}
+use Rattle.entry.proofs.Entering.{entry-shaped, entry-idle}
 use Rattle.propagate.specs.Propagate.{Progress, going, settled, contradicted, begin, propagateVisits, Reached, reached, replied, propagateFrom, propagateCall}
 use Rattle.propagate.proofs.Splitting.{settled-stays, contradicted-stays, visits-split, made-free}
 use Rattle.propagate.proofs.Calling.{call-opens, call-resumes}
@@ -44,7 +45,7 @@ pub calls-shaped : {w x : Standing} → Calls w x → Shape (w .tables) (w .stat
 calls-shaped none S = S
 calls-shaped (more {x} C steps h) S = propagate-shaped steps (x .tables) (x .state) (calls-shaped C S)
 
-module _ (t : Tables) (st : State) (S : Shape t st) (idle : passNumber (st .pass) ≡ 0) (unmarked : st .mark ≡ false) where
+module _ (t : Tables) (st : State) (S : Shape t st) (idle : st .pass ≡ Idle) (unmarked : st .mark ≡ false) where
   -- after m visits
   abbrev after : ℕ → Progress
   after m = propagateVisits (st .n) m 0 (begin (st .n) t) .progress
@@ -52,21 +53,19 @@ module _ (t : Tables) (st : State) (S : Shape t st) (idle : passNumber (st .pass
   opens : Calls (record { tables = t; state = st }) (stop st (after 0))
   opens = subst (Calls (record { tables = t; state = st })) (ap between (sym (call-opens 0 t st entry)) ∙ from-stop 0 (begin (st .n) t) t st) (more none 0 (omega arith))
     where
-      entry : entryOf 1 t st ≡ Opens
-      entry = entry-idle 1 t st (sym (shape-agrees t st (says-yes S))) (passNumber (st .pass)) refl false unmarked idle
+      entry : entryOf own.Propagate t st ≡ Opens
+      entry = entry-idle t st (sym (shape-agrees t st (says-yes S))) idle unmarked own.Propagate
 
   -- a call of b steps more
   resumes : (b : ℕ) → b ≤ 65535 → (q : Progress) → Calls (record { tables = t; state = st }) (stop st q) → Calls (record { tables = t; state = st }) (stop st (propagateVisits (st .n) b 0 q .progress))
   resumes b h (going k changed u) C =
       subst (Calls (record { tables = t; state = st }))
-      (ap between (sym (call-resumes b u (state (st .v) (st .n) (Propagate k changed) false false) entry)) ∙ from-stop b (going k changed u) u (state (st .v) (st .n) (Propagate k changed) false false)
-      ∙ replied-stop [] st (state (st .v) (st .n) (Propagate k changed) false false) 0 (propagateVisits (st .n) b 0 (going k changed u) .progress) refl refl)
+      (ap between (sym (call-resumes b u (opened (Propagate k changed) false st) k changed entry)) ∙ from-stop b (going k changed u) u (opened (Propagate k changed) false st)
+      ∙ replied-stop [] st (opened (Propagate k changed) false st) 0 (propagateVisits (st .n) b 0 (going k changed u) .progress) refl refl)
       (more C b h)
     where
-      entry : entryOf 1 u (state (st .v) (st .n) (Propagate k changed) false false) ≡ Resumes
-      entry =
-          entry-own 1 u (state (st .v) (st .n) (Propagate k changed) false false) (sym (shape-agrees u (state (st .v) (st .n) (Propagate k changed) false false) (says-yes (calls-shaped C S)))) 1 refl false refl
-          (λ z. omega arith) refl
+      entry : entryOf own.Propagate u (opened (Propagate k changed) false st) ≡ Resumes k changed
+      entry = entry-shaped own.Propagate u (opened (Propagate k changed) false st) (sym (shape-agrees u (opened (Propagate k changed) false st) (says-yes (calls-shaped C S))))
   resumes b h (settled u) C = subst (λ (r : Reached). Calls (record { tables = t; state = st }) (stop st (r .progress))) (sym (settled-stays (st .n) b 0 u)) C
   resumes b h (contradicted u) C = subst (λ (r : Reached). Calls (record { tables = t; state = st }) (stop st (r .progress))) (sym (contradicted-stays (st .n) b 0 u)) C
 

@@ -4,10 +4,10 @@ use mathlib.Core.Path.{_≡_, refl, subst}
 use mathlib.Core.Bool.{false}
 use mathlib.Core.Logic.{_⊎_, inl, inr}
 use mathlib.Core.List.{List}
+use Rattle.state.specs.States.{closed, marked}
 use Rattle.state.specs.declared.State.{State}
 use Rattle.state.specs.declared.Pass.the-variants.{Idle}
 use Rattle.tables.specs.Tables.{Tables, classOf}
-use Rattle.tables.specs.Calls.{state, marked}
 use Rattle.tables.specs.Passes.{firstUnsettled}
 use Rattle.clauses.specs.Formed.{Formed}
 use Rattle.clauses.proofs.Visiting.{SameStamps}
@@ -26,7 +26,7 @@ pub record Ended (w p : Standing) : Type 0 where
   -- under the mark only what the shape rule asks there
   pub formed : Formed (w .state .v) (w .state .n) (w .state .n) (p .state .mark) (p .tables .clauses) (p .tables .literals) (p .tables .variables)
   -- the mark, or no pass open and no clause unsettled
-  pub ending : (p .state ≡ marked (w .state)) ⊎ ((p .state ≡ state (w .state .v) (w .state .n) Idle false false) × (firstUnsettled (p .tables) (w .state .n) ≡ w .state .n))
+  pub ending : (p .state ≡ marked (w .state)) ⊎ ((p .state ≡ closed false (w .state)) × (firstUnsettled (p .tables) (w .state .n) ≡ w .state .n))
   pub stamps : SameStamps (w .tables) (p .tables)
   pub classes : (j : ℕ) → classOf (p .tables .variables) j ≡ classOf (w .tables .variables) j
 

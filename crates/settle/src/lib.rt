@@ -5,7 +5,7 @@ ghost use mathlib.Core.Bool.{false};
 ghost use mathlib.Core.List.{List};
 ghost use Prim.Native.Nat.{ℕ};
 ghost use lib.IntN.{ℤ};
-ghost use Rattle.tables.specs.Tables.{tables};
+ghost use Rattle.tables.specs.Lent.{lent, returned, unlent};
 ghost use Rattle.clauses.specs.Formed.{Variables, Formed};
 ghost use Rattle.merge.specs.Steps.{Openable};
 ghost use Rattle.settle.specs.Settle.{propagated, merged, settle};
@@ -46,8 +46,8 @@ fn propagate_whole(
     st: State,
 ) -> State
     requires { ⌜ Formed (st .v) (st .n) (st .n) false (now clauses) (now literals) (now variables) ⌝ }
-    ensures { λ r. ⌜ ((times : List ℕ) (links : List ℤ) → standingIn (tables (now (clauses .exit)) (now (literals .exit)) (now (variables .exit)) times links) r
-        ≡ propagated (standingIn (tables (now (clauses .entry)) (now (literals .entry)) (now (variables .entry)) times links) st)) ⌝ }
+    ensures { λ r. ⌜ ((times : List ℕ) (links : List ℤ) → standingIn (returned clauses literals variables (unlent times) (unlent links)) r
+        ≡ propagated (standingIn (lent clauses literals variables (unlent times) (unlent links)) st)) ⌝ }
 {
     let n = st.n;
     let totals = clauses::count_standing(clauses, n as usize);
@@ -59,8 +59,8 @@ fn propagate_whole(
 // A whole Merge: a visit to each clause.
 fn merge_whole(clauses: &mut [u32], literals: &mut [i32], variables: &mut [i32], st: State) -> State
     requires { ⌜ Openable st (now clauses) (now literals) (now variables) ⌝ }
-    ensures { λ r. ⌜ ((times : List ℕ) (links : List ℤ) → standingIn (tables (now (clauses .exit)) (now (literals .exit)) (now (variables .exit)) times links) r
-        ≡ merged (standingIn (tables (now (clauses .entry)) (now (literals .entry)) (now (variables .entry)) times links) st)) ⌝ }
+    ensures { λ r. ⌜ ((times : List ℕ) (links : List ℤ) → standingIn (returned clauses literals variables (unlent times) (unlent links)) r
+        ≡ merged (standingIn (lent clauses literals variables (unlent times) (unlent links)) st)) ⌝ }
 {
     let n = st.n;
     let outcome = merge::merge_open(clauses, literals, variables, st, n);
@@ -70,8 +70,8 @@ fn merge_whole(clauses: &mut [u32], literals: &mut [i32], variables: &mut [i32],
 // A Propagate and, unless it sets the mark, a Merge, which has found a group exactly if fewer variables are their own class after it.
 fn settle_once(clauses: &mut [u32], literals: &mut [i32], variables: &mut [i32], st: State) -> Step
     requires { ⌜ Formed (st .v) (st .n) (st .n) false (now clauses) (now literals) (now variables) ⌝ }
-    ensures { λ r. ⌜ ((times : List ℕ) (links : List ℤ) → passed (standingIn (tables (now (clauses .exit)) (now (literals .exit)) (now (variables .exit)) times links) (r .state)) (r .again)
-        ≡ bothPasses (standingIn (tables (now (clauses .entry)) (now (literals .entry)) (now (variables .entry)) times links) st)) ⌝ }
+    ensures { λ r. ⌜ ((times : List ℕ) (links : List ℤ) → passed (standingIn (returned clauses literals variables (unlent times) (unlent links)) (r .state)) (r .again)
+        ≡ bothPasses (standingIn (lent clauses literals variables (unlent times) (unlent links)) st)) ⌝ }
 {
     let v = st.v;
     let propagated = propagate_whole(clauses, literals, variables, st);
@@ -99,8 +99,8 @@ fn settle_once(clauses: &mut [u32], literals: &mut [i32], variables: &mut [i32],
 // The whole of Settle, on tables without the mark in which no pass is open.
 pub fn settle(clauses: &mut [u32], literals: &mut [i32], variables: &mut [i32], st: State) -> State
     requires { ⌜ Formed (st .v) (st .n) (st .n) false (now clauses) (now literals) (now variables) ⌝ }
-    ensures { λ r. ⌜ ((times : List ℕ) (links : List ℤ) → standingIn (tables (now (clauses .exit)) (now (literals .exit)) (now (variables .exit)) times links) r
-        ≡ settle (standingIn (tables (now (clauses .entry)) (now (literals .entry)) (now (variables .entry)) times links) st)) ⌝ }
+    ensures { λ r. ⌜ ((times : List ℕ) (links : List ℤ) → standingIn (returned clauses literals variables (unlent times) (unlent links)) r
+        ≡ settle (standingIn (lent clauses literals variables (unlent times) (unlent links)) st)) ⌝ }
 {
     let mut state = st;
     loop {

@@ -4,7 +4,7 @@ ghost use mathlib.Core.List.{List};
 ghost use Prim.Native.Nat.{ℕ, _+_, _*_, _≤_, _<_};
 ghost use lib.IntN.{ℤ};
 ghost use Rattle.base.specs.Lists.{any};
-ghost use Rattle.tables.specs.Tables.{tables};
+ghost use Rattle.tables.specs.Lent.{lent, unlent};
 ghost use Rattle.tables.specs.Passes.{valued, unsettled, firstUnsettled};
 ghost use Rattle.clauses.specs.Formed.{Known, EachKnown};
 ghost use Rattle.settled.specs.Settled.{Asked};
@@ -38,7 +38,7 @@ fn any_valued(part: &[i32], variables: &[i32]) -> bool
 // Whether clause i stands and has one literal, or a valued variable.
 fn is_unsettled(clauses: &[u32], literals: &[i32], variables: &[i32], i: usize) -> bool
     requires { ⌜ Asked i (now clauses) (now literals) (now variables) ⌝ }
-    ensures { λ r. ⌜ ((times : List ℕ) (links : List ℤ) → r ≡ unsettled (tables (now (clauses .entry)) (now (literals .entry)) (now (variables .entry)) times links) i) ⌝ }
+    ensures { λ r. ⌜ ((times : List ℕ) (links : List ℤ) → r ≡ unsettled (lent clauses literals variables (unlent times) (unlent links)) i) ⌝ }
 {
     let flag = clauses[3 * i + 2];
     if flag != 1 {
@@ -56,7 +56,7 @@ fn is_unsettled(clauses: &[u32], literals: &[i32], variables: &[i32], i: usize) 
 // The first such clause of n, counted from 0; n if there is none.
 pub fn first_unsettled(clauses: &[u32], literals: &[i32], variables: &[i32], n: usize) -> usize
     requires { ⌜ ((i : ℕ) → i < n → Asked i (now clauses) (now literals) (now variables)) × (n ≤ 4096) ⌝ }
-    ensures { λ r. ⌜ ((times : List ℕ) (links : List ℤ) → r ≡ firstUnsettled (tables (now (clauses .entry)) (now (literals .entry)) (now (variables .entry)) times links) n) ⌝ }
+    ensures { λ r. ⌜ ((times : List ℕ) (links : List ℤ) → r ≡ firstUnsettled (lent clauses literals variables (unlent times) (unlent links)) n) ⌝ }
 {
     let mut i = 0;
     while i < n {

@@ -8,9 +8,9 @@ use lib.ListN.{length, set, replicate}
 use lib.IntN.{ℤ, pos, negsuc}
 use Rattle.base.specs.Decide.{and?, or?, if?, not?, so?, every?, eqᵇ?, eqℤ?}
 use Rattle.stamps.specs.Decision.{literal?, holds?, times?, parent?, start?, nested?, fresh?}
+use Rattle.state.specs.States.{state}
 use Rattle.tables.specs.Tables.{Tables, tables}
 use Rattle.tables.specs.Long.{long?}
-use Rattle.tables.specs.Calls.{state}
 use Rattle.shape.specs.Decision.{parts?, literals?, variable?, cursor?, clauses?, shape?, shapeOk}
 use Rattle.state.specs.declared.State.{State}
 use Rattle.state.specs.declared.Pass.the-variants.{Idle, Merge, Sweep}

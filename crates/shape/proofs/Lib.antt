@@ -4,4 +4,3 @@ pub mod Clausing
 pub mod Reading
 pub mod Keeping
 pub mod Cases
-pub mod Entering

@@ -1,4 +1,3 @@
 pub mod Shape
 pub mod Row
 pub mod Decision
-pub mod Entry

@@ -5,22 +5,14 @@ ghost use Prim.Native.Nat.{ℕ, _+_, _*_, _≤_, _<_};
 ghost use lib.ListN.{length, replicate};
 ghost use lib.IntN.{pos};
 ghost use Rattle.base.specs.Decide.{Decides};
-ghost use Rattle.tables.specs.Tables.{tables, classOf};
+ghost use Rattle.tables.specs.Tables.{classOf};
+ghost use Rattle.tables.specs.Lent.{lent};
 ghost use Rattle.shape.specs.Shape.{Parts, Literals, Clauses, Variable, Cursor, settledTo};
 ghost use Rattle.stamps.specs.Fresh.{FreshStamps};
 ghost use Rattle.shape.specs.Row.{Row, Below};
 ghost use Rattle.shape.specs.Decision.{shapeOk};
-ghost use Rattle.shape.specs.Entry.{passNumber, entryOf};
 use state::Pass;
-use state::Refusal;
 use state::State;
-
-// What the refusals that all passes share leave to a call: one of them, or that it opens its pass, or resumes it.
-pub enum Entry {
-    No(Refusal),
-    Opens,
-    Resumes,
-}
 
 // ---- the clause records
 
@@ -311,7 +303,7 @@ pub fn shape_ok(
     links: &[i32],
     st: State,
 ) -> bool
-    ensures { λ r. ⌜ r ≡ shapeOk (tables (now (clauses .entry)) (now (literals .entry)) (now (variables .entry)) (now (times .entry)) (now (links .entry))) st ⌝ }
+    ensures { λ r. ⌜ r ≡ shapeOk (lent clauses literals variables times links) st ⌝ }
 {
     if !tables::long_ok(clauses, literals, variables, times, links) {
         return false;
@@ -342,50 +334,4 @@ pub fn shape_ok(
         return false;
     }
     fresh_ok(times, links, v, st.fresh)
-}
-
-// ---- the refusals that all passes share
-
-// The number of the open pass, 0 if none is.
-fn pass_number(st: State) -> u32
-    ensures { λ r. ⌜ r ≡ passNumber (st .pass) ⌝ }
-{
-    let p = st.pass;
-    match p {
-        Pass::Idle => 0,
-        Pass::Propagate(_, _) => 1,
-        Pass::Merge(_) => 2,
-        Pass::Sweep(_) => 3,
-    }
-}
-
-// The topmost of refusals 1, 4 and 5 that applies, or whether the call opens its pass or resumes it. `own` is the number of the pass that it resumes, 0 if it resumes none.
-pub fn entry_of(
-    clauses: &[u32],
-    literals: &[i32],
-    variables: &[i32],
-    times: &[u32],
-    links: &[i32],
-    st: State,
-    own: u32,
-) -> Entry
-    ensures { λ r. ⌜ r ≡ entryOf own (tables (now (clauses .entry)) (now (literals .entry)) (now (variables .entry)) (now (times .entry)) (now (links .entry))) st ⌝ }
-{
-    if !shape_ok(clauses, literals, variables, times, links, st) {
-        return Entry::No(Refusal::Shape);
-    }
-    let open = pass_number(st);
-    if open == 0 {
-        if st.mark {
-            return Entry::No(Refusal::Marked);
-        }
-        return Entry::Opens;
-    }
-    if open != own {
-        return Entry::No(Refusal::OtherPass);
-    }
-    if st.mark {
-        return Entry::No(Refusal::Marked);
-    }
-    Entry::Resumes
 }

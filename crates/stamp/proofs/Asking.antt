@@ -8,6 +8,7 @@ use lib.ListN.{length}
 use lib.Dec.{ltb, eqb}
 use lib.IntN.{ℤ}
 use borrow.Author.Tests.{eq-eqb, ne-eqb, eqb-true, lt-ltb, le-ltb, ltb-false}
+use Rattle.state.specs.States.{closed}
 use Rattle.state.specs.declared.State.{State}
 use Rattle.state.specs.declared.Pass.the-variants.{Idle}
 use Rattle.state.specs.declared.Refusal.{Refusal}
@@ -19,12 +20,13 @@ use Rattle.groups.specs.Groups.{cyclic}
 use Rattle.tables.specs.Tables.{Tables}
 use Rattle.tables.specs.Clauses.{slotsFrom}
 use Rattle.tables.specs.Passes.{firstUnsettled}
-use Rattle.tables.specs.Calls.{After, answered, after, refuse, state}
-use Rattle.shape.specs.Entry.{passNumber, unlessMarked, entryBy, entryOf}
+use Rattle.tables.specs.Calls.{After, answered, after, refuse}
+use Rattle.entry.specs.Entry.{openingOf}
 use Rattle.shape.specs.Decision.{shapeOk}
 use Rattle.shape.specs.Shape.{Shape}
-use Rattle.shape.specs.declared.Entry.{Entry}
-use Rattle.shape.proofs.Entering.{no-pass, Entered, opens-entered, resumes-entered}
+use Rattle.entry.specs.declared.Opening.{Opening}
+use Rattle.entry.specs.declared.Opening.the-variants.{Denied, Granted}
+use Rattle.entry.proofs.Entering.{granted-entered}
 use Rattle.clauses.specs.Formed.{Formed}
 use Rattle.clauses.proofs.Forming.{shape-formed}
 use Rattle.clauses.proofs.Entered.{entered-formed}
@@ -35,7 +37,6 @@ use Rattle.stamp.specs.Asking.{askSettled, askOrdered, askBy, askOf, Ful
 use Rattle.stamp.specs.declared.Ruling.{Ruling}
 use Rattle.stamp.specs.declared.Ruling.the-variants.{No, Fit}
 use Rattle.stamp.proofs.Ordering.{good-full}
-use Rattle.shape.specs.declared.Entry.the-variants as entry
 
 -- ---- the ruling
 
@@ -61,24 +62,9 @@ module _ (order : List ℤ) (t : Tables) (st : State) where
     unfolding askSettled
     ask-fit le settled = (rw (le-ltb (firstUnsettled t (st .n)) (st .n) settled, askSettled)) ∙ ask-next le
 
-  pub ask-by : (e : Entry) → entryOf 0 t st ≡ e → askBy e order t st ≡ askOf order t st
+  pub ask-by : (e : Opening) → openingOf t st ≡ e → askBy e order t st ≡ askOf order t st
   unfolding askOf
-  ask-by e is = ap (λ (x : Entry). askBy x order t st) (sym is)
-
-  -- Stamp resumes no pass
-  pub never-resumes : entryOf 0 t st ≡ entry.Resumes → {A : Type 0} → A
-  unfolding entryOf
-  never-resumes e = absurd (go (shapeOk t st) (passNumber (st .pass)) (st .mark) e)
-    where
-      other : (b : Bool) → b ≡ false → (m : Bool) → elim b as (λ x. Entry) [ true ↦ unlessMarked m entry.Resumes | false ↦ entry.No OtherPass ] ≡ entry.Resumes → ⊥
-      other true h m e = false≢true (sym h)
-      other false h m e = let z : _≡_ {A = ℕ} 0 1 = cc in omega arith
-
-      go : (b : Bool) (k : ℕ) (m : Bool) → elim b as (λ x. Entry) [ true ↦ entryBy 0 k m | false ↦ entry.No Misshapen ] ≡ entry.Resumes → ⊥
-      go false k m e = let z : _≡_ {A = ℕ} 0 1 = cc in omega arith
-      go true zero true e = let z : _≡_ {A = ℕ} 0 1 = cc in omega arith
-      go true zero false e = let z : _≡_ {A = ℕ} 0 1 = cc in omega arith
-      go true (suc k) m e = other (eqb (suc k) 0) (ne-eqb (suc k) 0 (λ z. omega arith)) m e
+  ask-by e is = ap (λ (x : Opening). askBy x order t st) (sym is)
 
 -- ---- what a call that is not refused knows
 
@@ -90,8 +76,8 @@ pub record Known (order : List ℤ) (t : Tables) (st : State) : Type 0 where
 
 module _ (t : Tables) (st : State) where
   -- the tables of an open call
-  pub opens-formed : entryOf 0 t st ≡ entry.Opens → Formed (st .v) (st .n) (st .n) false (t .clauses) (t .literals) (t .variables)
-  opens-formed e = entered-formed (opens-entered 0 t st e) (λ z. omega arith)
+  pub granted-formed : openingOf t st ≡ Granted → Formed (st .v) (st .n) (st .n) false (t .clauses) (t .literals) (t .variables)
+  granted-formed e = entered-formed (granted-entered t st e) tt
 
   fit-ordered : (order : List ℤ) → askOrdered order t st ≡ Fit → (length order ≡ 2 * st .v) × (2 * st .v ≤ firstBad (st .v) order)
   unfolding askOrdered
@@ -105,17 +91,14 @@ module _ (t : Tables) (st : State) where
 
   pub fit-known : (order : List ℤ) → askOf order t st ≡ Fit → Known order t st
   unfolding askOf
-  fit-known order fit = go (entryOf 0 t st) refl fit
+  fit-known order fit = go (openingOf t st) refl fit
     where
-      known : Entered 0 t st → askOrdered order t st ≡ Fit → Known order t st
-      known E e =
+      go : (x : Opening) → openingOf t st ≡ x → askBy x order t st ≡ Fit → Known order t st
+      go (Denied r) is e = absurd (let z : _≡_ {A = ℕ} 0 1 = cc in omega arith)
+      go Granted is e =
+          let E = granted-entered t st is in
           let k = fit-ordered order e in
-          record { shape = E .shape; idle = no-pass (st .pass) (E .pass); unmarked = E .unmarked; full = good-full (st .v) order (k .0) (k .1) }
-
-      go : (x : Entry) → entryOf 0 t st ≡ x → askBy x order t st ≡ Fit → Known order t st
-      go (entry.No r) is e = absurd (let z : _≡_ {A = ℕ} 0 1 = cc in omega arith)
-      go entry.Opens is e = known (opens-entered 0 t st is) e
-      go entry.Resumes is e = known (resumes-entered 0 t st is) e
+          record { shape = E .shape; idle = E .pass; unmarked = E .unmarked; full = good-full (st .v) order (k .0) (k .1) }
 
 pub known-proper : {order : List ℤ} {t : Tables} {st : State} → Known order t st → Proper (st .v) (st .n) (t .clauses) (t .literals)
 known-proper K = formed-proper (shape-formed (K .shape))
@@ -151,12 +134,11 @@ module _ (order : List ℤ) (t : Tables) (st : State) where
 
   pub call-by : stampCall order t st ≡ act (askOf order t st) order t st
   unfolding stampCall askOf
-  call-by = go (entryOf 0 t st)
+  call-by = go (openingOf t st)
     where
-      go : (e : Entry) → stampBy e order t st ≡ act (askBy e order t st) order t st
-      go (entry.No r) = refl
-      go entry.Opens = ordered-by
-      go entry.Resumes = ordered-by
+      go : (e : Opening) → stampBy e order t st ≡ act (askBy e order t st) order t st
+      go (Denied r) = refl
+      go Granted = ordered-by
 
   pub call-refused : (r : Refusal) → askOf order t st ≡ No r → refuse r st t ≡ stampCall order t st
   call-refused r e = sym (call-by ∙ ap (λ (x : Ruling). act x order t st) e)
@@ -176,4 +158,4 @@ module _ (order : List ℤ) (t : Tables) (st : State) where
   pub acyclic-by : (u : Tables) (r : Bool) → r ≡ cyclic (implications (slotsFrom (t .clauses) (t .literals) (st .n) 0)) (2 * st .v)
       → u ≡ writtenTables r (st .v) (stampsOf (slotsFrom (t .clauses) (t .literals) (st .n) 0) (2 * st .v) (map slotOf order)) t → after (answerOf r st) u ≡ stampAcyclic order t st
   acyclic-by u true is w = ap (refuse Cyclic st) w ∙ sym (acyclic-no (sym is))
-  acyclic-by u false is w = ap (answered Stamped (state (st .v) (st .n) Idle true false)) w ∙ sym (acyclic-yes (sym is))
+  acyclic-by u false is w = ap (answered Stamped (closed true st)) w ∙ sym (acyclic-yes (sym is))

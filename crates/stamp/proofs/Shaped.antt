@@ -8,12 +8,13 @@ use lib.IntN.{ℤ}
 use Rattle.literal.specs.Literals.{slotOf}
 use Rattle.graph.specs.Clauses.{implications}
 use Rattle.groups.specs.Groups.{cyclic}
+use Rattle.state.specs.States.{closed}
 use Rattle.state.specs.declared.State.{State}
 use Rattle.state.specs.declared.Pass.{Pass}
 use Rattle.state.specs.declared.Pass.the-variants.{Idle}
 use Rattle.tables.specs.Tables.{Tables}
 use Rattle.tables.specs.Clauses.{slotsFrom}
-use Rattle.tables.specs.Calls.{After, state}
+use Rattle.tables.specs.Calls.{After}
 use Rattle.stamps.specs.Fresh.{FreshStamps}
 use Rattle.shape.specs.Shape.{Shape, settledTo}
 use Rattle.clauses.specs.Formed.{Formed}
@@ -33,7 +34,7 @@ module _ {order : List ℤ} {t : Tables} {st : State} (K : Known order t st) whe
   pub written-fresh : FreshStamps (st .v) (t′ .times) (t′ .links)
   written-fresh = records-fresh (known-proper K) (K .full) t
 
-  pub fresh-shaped : Shape t′ (state (st .v) (st .n) Idle true false)
+  pub fresh-shaped : Shape t′ (closed true st)
   unfolding stampedTables
   fresh-shaped =
       let S = K .shape in
@@ -41,7 +42,7 @@ module _ {order : List ℤ} {t : Tables} {st : State} (K : Known order t st) whe
       let F : Formed (st .v) (st .n) (st .n) false (t .clauses) (t .literals) (t .variables) =
       subst (λ (b : Bool). Formed (st .v) (st .n) (st .n) b (t .clauses) (t .literals) (t .variables)) (K .unmarked)
       (subst (λ (p : Pass). Formed (st .v) (st .n) (settledTo p (st .n)) (st .mark) (t .clauses) (t .literals) (t .variables)) (K .idle) (shape-formed S)) in
-      formed-shape t′ (state (st .v) (st .n) Idle true false) F
+      formed-shape t′ (closed true st) F
       (omega (arith, times-long (known-proper K) (K .full) t (R .first), S .long .times))
       (omega (arith, links-long (known-proper K) (K .full) t (R .second), S .long .links))
       tt (λ e. written-fresh)

@@ -8,6 +8,7 @@ use lib.Dec.{ltb, eqb}
 use lib.IntN.{ℤ, pos}
 use Rattle.literal.specs.Literals.{Literal, slotOf}
 use Rattle.walk.specs.Walk.{Stamps}
+use Rattle.state.specs.States.{closed}
 use Rattle.state.specs.declared.State.{State}
 use Rattle.state.specs.declared.Pass.the-variants.{Idle}
 use Rattle.state.specs.declared.Refusal.the-variants.{Unsettled, Cyclic, Order}
@@ -15,10 +16,9 @@ use Rattle.state.specs.declared.Answer.the-variants.{Refused, Stamped}
 use Rattle.state.specs.declared.Outcome.{Outcome}
 use Rattle.tables.specs.Tables.{Tables}
 use Rattle.tables.specs.Passes.{firstUnsettled}
-use Rattle.tables.specs.Calls.{state}
-use Rattle.shape.specs.Entry.{entryOf}
-use Rattle.shape.specs.declared.Entry.{Entry}
-use Rattle.shape.specs.declared.Entry.the-variants as entry
+use Rattle.entry.specs.Entry.{openingOf}
+use Rattle.entry.specs.declared.Opening.{Opening}
+use Rattle.entry.specs.declared.Opening.the-variants.{Denied, Granted}
 use Rattle.stamp.specs.Stamp.{firstBad, stampedTables}
 use Rattle.stamp.specs.declared.Ruling.{Ruling}
 use Rattle.stamp.specs.declared.Ruling.the-variants.{No, Fit}
@@ -33,14 +33,13 @@ askOrdered order t st =
       | false ↦ No (Order 0)
     ]
 
-abbrev pub askBy : Entry → List ℤ → Tables → State → Ruling
-askBy (entry.No r) order t st = No r
-askBy entry.Opens order t st = askOrdered order t st
-askBy entry.Resumes order t st = askOrdered order t st
+abbrev pub askBy : Opening → List ℤ → Tables → State → Ruling
+askBy (Denied r) order t st = No r
+askBy Granted order t st = askOrdered order t st
 
 -- the topmost refusal but for a cycle, or none
 unfoldable pub askOf : List ℤ → Tables → State → Ruling
-askOf order t st = askBy (entryOf 0 t st) order t st
+askOf order t st = askBy (openingOf t st) order t st
 
 -- all 2v literals of v variables, each once
 pub record Full (v : ℕ) (order : List ℤ) : Type 0 where
@@ -69,4 +68,4 @@ writtenTables false v σ t = stampedTables v σ t
 -- the answer of the core, by whether the graph is cyclic
 abbrev pub answerOf : Bool → State → Outcome
 answerOf true st = record { answer = Refused Cyclic; state = st }
-answerOf false st = record { answer = Stamped; state = state (st .v) (st .n) Idle true false }
+answerOf false st = record { answer = Stamped; state = closed true st }

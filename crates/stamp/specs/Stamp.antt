@@ -12,6 +12,7 @@ use Rattle.literal.specs.Clauses.{has}
 use Rattle.walk.specs.Walk.{Stamps, stampAll}
 use Rattle.graph.specs.Clauses.{implications, tos}
 use Rattle.groups.specs.Groups.{blank, cyclic}
+use Rattle.state.specs.States.{closed}
 use Rattle.state.specs.declared.State.{State}
 use Rattle.state.specs.declared.Pass.the-variants.{Idle}
 use Rattle.state.specs.declared.Refusal.the-variants.{Unsettled, Cyclic, Order}
@@ -19,10 +20,10 @@ use Rattle.state.specs.declared.Answer.the-variants.{Stamped}
 use Rattle.tables.specs.Tables.{Tables, tables}
 use Rattle.tables.specs.Clauses.{slotsFrom}
 use Rattle.tables.specs.Passes.{firstUnsettled}
-use Rattle.tables.specs.Calls.{After, answered, refuse, state}
-use Rattle.shape.specs.Entry.{entryOf}
-use Rattle.shape.specs.declared.Entry.{Entry}
-use Rattle.shape.specs.declared.Entry.the-variants.{No, Opens, Resumes}
+use Rattle.tables.specs.Calls.{After, answered, refuse}
+use Rattle.entry.specs.Entry.{openingOf}
+use Rattle.entry.specs.declared.Opening.{Opening}
+use Rattle.entry.specs.declared.Opening.the-variants.{Denied, Granted}
 
 -- ---- the list
 
@@ -49,7 +50,7 @@ stampedTables v σ t =
 -- ---- the call
 
 abbrev pub stampFresh : List ℤ → Tables → State → After
-stampFresh order t st = answered Stamped (state (st .v) (st .n) Idle true false) (stampedTables (st .v) (stampsOf (slotsFrom (t .clauses) (t .literals) (st .n) 0) (2 * st .v) (map slotOf order)) t)
+stampFresh order t st = answered Stamped (closed true st) (stampedTables (st .v) (stampsOf (slotsFrom (t .clauses) (t .literals) (st .n) 0) (2 * st .v) (map slotOf order)) t)
 
 unfoldable pub stampAcyclic : List ℤ → Tables → State → After
 stampAcyclic order t st = elim (cyclic (implications (slotsFrom (t .clauses) (t .literals) (st .n) 0)) (2 * st .v)) [ true ↦ refuse Cyclic st t | false ↦ stampFresh order t st ]
@@ -65,11 +66,9 @@ stampOrdered order t st =
       | false ↦ refuse (Order 0) st t
     ]
 
-abbrev pub stampBy : Entry → List ℤ → Tables → State → After
-stampBy (No r) order t st = refuse r st t
-stampBy Opens order t st = stampOrdered order t st
-stampBy Resumes order t st = stampOrdered order t st
+abbrev pub stampBy : Opening → List ℤ → Tables → State → After
+stampBy (Denied r) order t st = refuse r st t
+stampBy Granted order t st = stampOrdered order t st
 
--- Stamp resumes no pass
 unfoldable pub stampCall : List ℤ → Tables → State → After
-stampCall order t st = stampBy (entryOf 0 t st) order t st
+stampCall order t st = stampBy (openingOf t st) order t st

@@ -1,8 +1,7 @@
 // Stamp: whole in one call, over an order of all literals.
-use shape::Entry;
+use entry::Opening;
 use state::Answer;
 use state::Outcome;
-use state::Pass;
 use state::Refusal;
 use state::State;
 ghost use mathlib.Core.Path.{_≡_};
@@ -13,7 +12,7 @@ ghost use lib.IntN.{ℤ};
 ghost use Rattle.literal.specs.Literals.{slotOf};
 ghost use Rattle.graph.specs.Clauses.{implications};
 ghost use Rattle.groups.specs.Groups.{cyclic};
-ghost use Rattle.tables.specs.Tables.{tables};
+ghost use Rattle.tables.specs.Lent.{lent, returned, unlent};
 ghost use Rattle.tables.specs.Clauses.{slotsFrom};
 ghost use Rattle.tables.specs.Calls.{after};
 ghost use Rattle.clauses.specs.Formed.{Formed};
@@ -59,7 +58,7 @@ pub fn ask_ordered(
 ) -> Ruling
     requires { ⌜ Formed (st .v) (st .n) (st .n) false (now clauses) (now literals) (now variables) ⌝ }
     ensures { λ r. ⌜ ((times : List ℕ) (links : List ℤ) →
-        r ≡ askOrdered (now (order .entry)) (tables (now (clauses .entry)) (now (literals .entry)) (now (variables .entry)) times links) st) ⌝ }
+        r ≡ askOrdered (now (order .entry)) (lent clauses literals variables (unlent times) (unlent links)) st) ⌝ }
 {
     let v = st.v;
     let slots = 2 * v as usize;
@@ -88,14 +87,12 @@ fn ask(
     st: State,
     order: &[i32],
 ) -> Ruling
-    ensures { λ r. ⌜ r ≡ askOf (now (order .entry)) (tables (now (clauses .entry)) (now (literals .entry)) (now (variables .entry)) (now (times .entry)) (now (links .entry))) st ⌝ }
+    ensures { λ r. ⌜ r ≡ askOf (now (order .entry)) (lent clauses literals variables times links) st ⌝ }
 {
-    let entry = shape::entry_of(clauses, literals, variables, times, links, st, 0);
-    match entry {
-        Entry::No(r) => Ruling::No(r),
-        Entry::Opens => ask_ordered(clauses, literals, variables, st, order),
-        // Stamp resumes no pass
-        Entry::Resumes => Ruling::No(Refusal::OtherPass),
+    let opening = entry::may_open(clauses, literals, variables, times, links, st);
+    match opening {
+        Opening::Denied(r) => Ruling::No(r),
+        Opening::Granted => ask_ordered(clauses, literals, variables, st, order),
     }
 }
 
@@ -117,9 +114,9 @@ fn write_stamps(
     requires { ⌜ Proper v n (now clauses) (now literals) × Full v (now order) ⌝ }
     requires { ⌜ Blank v (now slots) (now disc) (now fin) (now par) (now top) × Records v (now times) (now links) ⌝ }
     ensures { λ r. ⌜ (r ≡ cyclic (implications (slotsFrom (now (clauses .entry)) (now (literals .entry)) n 0)) (2 * v))
-        × ((variables : List ℤ) → tables (now (clauses .entry)) (now (literals .entry)) variables (now (times .exit)) (now (links .exit))
+        × ((variables : List ℤ) → returned clauses literals (unlent variables) times links
         ≡ writtenTables r v (stampsOf (slotsFrom (now (clauses .entry)) (now (literals .entry)) n 0) (2 * v) (map slotOf (now (order .entry))))
-        (tables (now (clauses .entry)) (now (literals .entry)) variables (now (times .entry)) (now (links .entry)))) ⌝ }
+        (lent clauses literals (unlent variables) times links)) ⌝ }
 {
     stamping::list_slots(order, slots);
     if stamping::stamp_columns(v, n, clauses, literals, slots, disc, fin, par, top) {
@@ -140,16 +137,9 @@ fn answer(st: State, cyclic: bool) -> Outcome
             state: st,
         };
     }
-    let fresh = State {
-        v: st.v,
-        n: st.n,
-        pass: Pass::Idle,
-        fresh: true,
-        mark: false,
-    };
     Outcome {
         answer: Answer::Stamped,
-        state: fresh,
+        state: st.closed(true),
     }
 }
 
@@ -164,8 +154,8 @@ pub fn stamp_acyclic(
 ) -> Outcome
     requires { ⌜ Proper (st .v) (st .n) (now clauses) (now literals) × Full (st .v) (now order) ⌝ }
     requires { ⌜ Records (st .v) (now times) (now links) ⌝ }
-    ensures { λ r. ⌜ ((variables : List ℤ) → after r (tables (now (clauses .entry)) (now (literals .entry)) variables (now (times .exit)) (now (links .exit)))
-        ≡ stampAcyclic (now (order .entry)) (tables (now (clauses .entry)) (now (literals .entry)) variables (now (times .entry)) (now (links .entry))) st) ⌝ }
+    ensures { λ r. ⌜ ((variables : List ℤ) → after r (returned clauses literals (unlent variables) times links)
+        ≡ stampAcyclic (now (order .entry)) (lent clauses literals (unlent variables) times links) st) ⌝ }
 {
     let v = st.v as usize;
     let n = st.n as usize;
@@ -202,8 +192,8 @@ pub fn stamp(
     st: State,
     order: &[i32],
 ) -> Outcome
-    ensures { λ r. ⌜ after r (tables (now (clauses .entry)) (now (literals .entry)) (now (variables .entry)) (now (times .exit)) (now (links .exit)))
-        ≡ stampCall (now (order .entry)) (tables (now (clauses .entry)) (now (literals .entry)) (now (variables .entry)) (now (times .entry)) (now (links .entry))) st ⌝ }
+    ensures { λ r. ⌜ after r (returned clauses literals variables times links)
+        ≡ stampCall (now (order .entry)) (lent clauses literals variables times links) st ⌝ }
 {
     let ruling = ask(clauses, literals, variables, times, links, st, order);
     match ruling {

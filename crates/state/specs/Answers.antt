@@ -1,7 +1,8 @@
 -- Document 01: "A refusal returns its number and a place (0 where none is named)"; "Where an answer is an enum, a definition gives this paper's number and values for each case of the enum, and the promises use that definition."
 -- Assumes nothing: these are definitions.
-use Prim.Native.Nat.{ℕ}
+use Prim.Native.Nat.{ℕ, zero, suc}
 use mathlib.Core.List.{List, [], _∷_}
+use lib.IntN.{ℤ, pos, negsuc}
 use Rattle.state.specs.declared.Refusal.{Refusal}
 use Rattle.state.specs.declared.Refusal.the-variants.{Shape, Grammar, Limit, OtherPass, Marked, Unsettled, Cyclic, Order, Stale, Short}
 use Rattle.state.specs.declared.Answer.{Answer}
@@ -33,21 +34,27 @@ refusalPlace (Order index) = index
 refusalPlace Stale = 0
 refusalPlace (Short needed) = needed
 
--- an answer in numbers: the refusal's number, or 0, and the values that come with it
+-- an answer in numbers: its kind, the refusal's number, or 0, and the values that come with it. No two answers have the same (law `reply-tells`)
 pub record Reply : Type 0 where
+  pub kind : ℕ
   pub number : ℕ
   pub values : List ℕ
 
-abbrev pub reply : ℕ → List ℕ → Reply
-reply number values = record { number = number; values = values }
+abbrev pub reply : ℕ → ℕ → List ℕ → Reply
+reply kind number values = record { kind = kind; number = number; values = values }
 
--- a refusal gives its place; Open (1) and Done (0) give visits made, clauses gone, literals gone; the others give the one number that they answer
+-- a refusal gives its place; Open and Done give visits made, clauses gone, literals gone; the others give the one number that they answer
 abbrev pub replyOf : Answer → Reply
-replyOf (Refused r) = reply (refusalNumber r) (refusalPlace r ∷ [])
-replyOf Loaded = reply 0 []
-replyOf (Open c) = reply 0 (1 ∷ c .visits ∷ c .clauses ∷ c .literals ∷ [])
-replyOf (Done c) = reply 0 (0 ∷ c .visits ∷ c .clauses ∷ c .literals ∷ [])
-replyOf Stamped = reply 0 []
-replyOf (Failed set) = reply 0 (set ∷ [])
-replyOf (Ran rounds) = reply 0 (rounds ∷ [])
-replyOf (Written length) = reply 0 (length ∷ [])
+replyOf (Refused r) = reply 0 (refusalNumber r) (refusalPlace r ∷ [])
+replyOf Loaded = reply 1 0 []
+replyOf (Open c) = reply 2 0 (c .visits ∷ c .clauses ∷ c .literals ∷ [])
+replyOf (Done c) = reply 3 0 (c .visits ∷ c .clauses ∷ c .literals ∷ [])
+replyOf Stamped = reply 4 0 []
+replyOf (Failed set) = reply 5 0 (set ∷ [])
+replyOf (Ran rounds) = reply 6 0 (rounds ∷ [])
+replyOf (Written length) = reply 7 0 (length ∷ [])
+
+-- what a function for C returns: a number, or the refusal's number, negative; by the number of the reply, which is 0 where nothing is refused
+abbrev pub resultBy : ℕ → ℕ → ℤ
+resultBy zero v = pos v
+resultBy (suc k) v = negsuc k

@@ -1,4 +1,8 @@
 // The types that all calls share: the state that goes with the tables, the refusals, and the answers.
+ghost use mathlib.Core.Path.{_≡_};
+ghost use Prim.Native.Nat.{ℕ};
+ghost use Rattle.state.specs.Answers.{refusalNumber, refusalPlace, resultBy};
+ghost use Rattle.state.specs.States.{loadedState, emptyState, opened, closed, marked};
 
 // The pass that is open, with its cursor: the number of clauses visited in this time through. Propagate has a change flag besides.
 pub enum Pass {
@@ -15,6 +19,60 @@ pub struct State {
     pub pass: Pass,
     pub fresh: bool,
     pub mark: bool,
+}
+
+impl State {
+    // What a load leaves.
+    pub fn loaded(v: u32, n: u32, mark: bool) -> State
+        ensures { λ r. ⌜ r ≡ loadedState v n mark ⌝ }
+    {
+        State {
+            v,
+            n,
+            pass: Pass::Idle,
+            fresh: false,
+            mark,
+        }
+    }
+
+    // The state before any load.
+    pub fn empty() -> State
+        ensures { λ r. ⌜ r ≡ emptyState ⌝ }
+    {
+        State::loaded(0, 0, false)
+    }
+
+    // Without the mark, with this pass open, or none.
+    pub fn opened(self, pass: Pass, fresh: bool) -> State
+        ensures { λ r. ⌜ r ≡ opened pass fresh self ⌝ }
+    {
+        State {
+            v: self.v,
+            n: self.n,
+            pass,
+            fresh,
+            mark: false,
+        }
+    }
+
+    pub fn closed(self, fresh: bool) -> State
+        ensures { λ r. ⌜ r ≡ closed fresh self ⌝ }
+    {
+        self.opened(Pass::Idle, fresh)
+    }
+
+    // No assignment is left: the mark closes any pass and spends the stamps.
+    pub fn marked(self) -> State
+        ensures { λ r. ⌜ r ≡ marked self ⌝ }
+    {
+        State {
+            v: self.v,
+            n: self.n,
+            pass: Pass::Idle,
+            fresh: false,
+            mark: true,
+        }
+    }
 }
 
 // The refusals, with their places; `refusalNumber` of specs/Answers.antt gives document 01's numbers.
@@ -39,6 +97,50 @@ pub enum Refusal {
     Stale,
     // the output is shorter than the length needed
     Short(usize),
+}
+
+impl Refusal {
+    pub fn number(self) -> u64
+        ensures { λ r. ⌜ r ≡ refusalNumber self ⌝ }
+    {
+        match self {
+            Refusal::Shape => 1,
+            Refusal::Grammar(_) => 2,
+            Refusal::Limit(_) => 3,
+            Refusal::OtherPass => 4,
+            Refusal::Marked => 5,
+            Refusal::Unsettled(_) => 6,
+            Refusal::Cyclic => 7,
+            Refusal::Order(_) => 8,
+            Refusal::Stale => 9,
+            Refusal::Short(_) => 10,
+        }
+    }
+
+    // 0 where document 01 names none.
+    pub fn place(self) -> u64
+        ensures { λ r. ⌜ r ≡ refusalPlace self ⌝ }
+    {
+        match self {
+            Refusal::Shape => 0,
+            Refusal::Grammar(at) => at as u64,
+            Refusal::Limit(at) => at as u64,
+            Refusal::OtherPass => 0,
+            Refusal::Marked => 0,
+            Refusal::Unsettled(clause) => clause as u64,
+            Refusal::Cyclic => 0,
+            Refusal::Order(index) => index as u64,
+            Refusal::Stale => 0,
+            Refusal::Short(needed) => needed as u64,
+        }
+    }
+
+    // The number as a function for C returns it: negative.
+    pub fn result(self) -> i64
+        ensures { λ r. ⌜ ((v : ℕ) → r ≡ resultBy (refusalNumber self) v) ⌝ }
+    {
+        -(self.number() as i64)
+    }
 }
 
 // What a call of a resumable pass did: visits made, clauses gone and literals gone.

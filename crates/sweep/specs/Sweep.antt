@@ -9,16 +9,16 @@ use Rattle.walk.specs.Walk.{Stamps}
 use Rattle.stamps.specs.Columns.{columns}
 use Rattle.hidden.specs.Hidden.{hiddenTautology, shorten}
 use Rattle.state.specs.declared.State.{State}
-use Rattle.state.specs.declared.Pass.{Pass}
-use Rattle.state.specs.declared.Pass.the-variants.{Idle, Propagate, Merge, Sweep}
+use Rattle.state.specs.declared.Pass.the-variants.{Sweep}
 use Rattle.state.specs.declared.Refusal.the-variants.{Stale}
 use Rattle.tables.specs.Tables.{Tables}
 use Rattle.tables.specs.Fates.{Fate, kept, left, dropped}
 use Rattle.tables.specs.Passes.{advance}
 use Rattle.tables.specs.Calls.{After, refuse}
-use Rattle.shape.specs.Entry.{entryOf}
-use Rattle.shape.specs.declared.Entry.{Entry}
-use Rattle.shape.specs.declared.Entry.the-variants.{No, Opens, Resumes}
+use Rattle.entry.specs.Entry.{entryOf}
+use Rattle.entry.specs.declared.PassName.the-variants as own
+use Rattle.entry.specs.declared.Entry.{Entry}
+use Rattle.entry.specs.declared.Entry.the-variants.{No, Opens, Resumes}
 
 -- ---- one clause
 
@@ -33,20 +33,15 @@ sweepClause σ (a ∷ b ∷ ls) = elim (hiddenTautology σ (map slotOf (a ∷ b 
 abbrev pub sweepFrom : ℕ → ℕ → Tables → State → After
 sweepFrom steps k t st = advance (sweepClause (columns (t .times) (t .links))) Sweep true false steps k t st
 
-abbrev pub sweepCursor : Pass → ℕ
-sweepCursor (Sweep k) = k
-sweepCursor Idle = 0
-sweepCursor (Propagate k changed) = 0
-sweepCursor (Merge k) = 0
-
-abbrev pub unlessStale : Bool → ℕ → Tables → State → After
-unlessStale true steps t st = sweepFrom steps (sweepCursor (st .pass)) t st
-unlessStale false steps t st = refuse Stale st t
+-- from clause k on
+abbrev pub unlessStale : Bool → ℕ → ℕ → Tables → State → After
+unlessStale true steps k t st = sweepFrom steps k t st
+unlessStale false steps k t st = refuse Stale st t
 
 abbrev pub sweepBy : Entry → ℕ → Tables → State → After
 sweepBy (No r) steps t st = refuse r st t
-sweepBy Opens steps t st = unlessStale (st .fresh) steps t st
-sweepBy Resumes steps t st = unlessStale (st .fresh) steps t st
+sweepBy Opens steps t st = unlessStale (st .fresh) steps 0 t st
+sweepBy (Resumes k changed) steps t st = unlessStale (st .fresh) steps k t st
 
 unfoldable pub sweepCall : ℕ → Tables → State → After
-sweepCall steps t st = sweepBy (entryOf 3 t st) steps t st
+sweepCall steps t st = sweepBy (entryOf own.Sweep t st) steps t st

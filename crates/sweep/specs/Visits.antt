@@ -5,13 +5,14 @@ use mathlib.Core.List.{List, []}
 use lib.ListN.{length, set}
 use lib.Dec.{ltb}
 use lib.IntN.{ℤ}
+use Rattle.state.specs.States.{opened, closed}
 use Rattle.state.specs.declared.State.{State}
 use Rattle.state.specs.declared.Counts.{Counts}
 use Rattle.state.specs.declared.Pass.the-variants.{Idle, Sweep}
 use Rattle.state.specs.declared.Answer.the-variants.{Open, Done}
 use Rattle.tables.specs.Tables.{Tables}
 use Rattle.tables.specs.Fates.{Fate, kept, left, dropped, unit, conflict}
-use Rattle.tables.specs.Calls.{After, answered, state}
+use Rattle.tables.specs.Calls.{After, answered}
 use Rattle.clauses.specs.Formed.{Formed}
 use Rattle.clauses.specs.Holding.{holding}
 use Rattle.figures.specs.Stamped.{Stamped}
@@ -57,6 +58,6 @@ pub record Sweepable (k m : ℕ) (clauses : List ℕ) (literals : List ℤ) (tim
 abbrev pub standsBefore : ℕ → Counts → Tables → State → After
 standsBefore k counts t st =
     elim (ltb k (st .n)) [
-      | true ↦ answered (Open counts) (state (st .v) (st .n) (Sweep k) true false) t
-      | false ↦ answered (Done counts) (state (st .v) (st .n) Idle false false) t
+      | true ↦ answered (Open counts) (opened (Sweep k) true st) t
+      | false ↦ answered (Done counts) (closed false st) t
     ]

@@ -1,5 +1,6 @@
 // Sweep: hidden tautologies are dropped and hidden literals removed, by fresh stamps, clause by clause, resumable.
-use shape::Entry;
+use entry::Entry;
+use entry::PassName;
 use state::Answer;
 use state::Counts;
 use state::Outcome;
@@ -13,10 +14,11 @@ ghost use Prim.Native.Nat.{ℕ, _+_, _*_, _≤_, _<_};
 ghost use lib.ListN.{length};
 ghost use lib.IntN.{ℤ};
 ghost use Rattle.stamps.specs.Columns.{columns};
-ghost use Rattle.tables.specs.Tables.{Tables, tables};
+ghost use Rattle.tables.specs.Tables.{Tables};
+ghost use Rattle.tables.specs.Lent.{lent, returned, unlent};
 ghost use Rattle.tables.specs.Calls.{after};
 ghost use Rattle.tables.specs.Fates.{visit, visits};
-ghost use Rattle.sweep.specs.Sweep.{sweepClause, sweepFrom, sweepCursor, unlessStale, sweepCall};
+ghost use Rattle.sweep.specs.Sweep.{sweepClause, sweepFrom, unlessStale, sweepCall};
 ghost use Rattle.sweep.specs.Visits.{partOf, partAfter, recordAfter, Ready, Sweepable, standsBefore};
 ghost use Rattle.figures.specs.Stamped.{Judged};
 
@@ -77,8 +79,8 @@ fn visit_clause(
     k: usize,
 )
     requires { ⌜ Sweepable k 1 (now clauses) (now literals) (now times) (now links) × (16384 ≤ length (now slots)) × (16384 ≤ length (now twins)) ⌝ }
-    ensures { λ _. ⌜ ((variables : List ℤ) → tables (now (clauses .exit)) (now (literals .exit)) variables (now (times .entry)) (now (links .entry))
-        ≡ visit (sweepClause (columns (now (times .entry)) (now (links .entry)))) k (tables (now (clauses .entry)) (now (literals .entry)) variables (now (times .entry)) (now (links .entry)))) ⌝ }
+    ensures { λ _. ⌜ ((variables : List ℤ) → returned clauses literals (unlent variables) times links
+        ≡ visit (sweepClause (columns (now (times .entry)) (now (links .entry)))) k (lent clauses literals (unlent variables) times links)) ⌝ }
 {
     let flag = clauses[3 * k + 2];
     if flag == 0 {
@@ -110,8 +112,8 @@ fn sweep_visits(
 )
     requires { ⌜ Sweepable k m (now clauses) (now literals) (now times) (now links) × (16384 ≤ length (now slots)) × (16384 ≤ length (now twins)) ⌝ }
     ensures { λ _. ⌜ ((n : ℕ) → k + m ≤ n → Ready n (now (clauses .entry)) (now (literals .entry)) (now (times .entry)) (now (links .entry)) → Ready n (now (clauses .exit)) (now (literals .exit)) (now (times .entry)) (now (links .entry)))
-        × ((variables : List ℤ) → tables (now (clauses .exit)) (now (literals .exit)) variables (now (times .entry)) (now (links .entry))
-        ≡ visits (sweepClause (columns (now (times .entry)) (now (links .entry)))) m k (tables (now (clauses .entry)) (now (literals .entry)) variables (now (times .entry)) (now (links .entry)))) ⌝ }
+        × ((variables : List ℤ) → returned clauses literals (unlent variables) times links
+        ≡ visits (sweepClause (columns (now (times .entry)) (now (links .entry)))) m k (lent clauses literals (unlent variables) times links)) ⌝ }
 {
     let mut i = 0;
     while i < m {
@@ -129,24 +131,12 @@ fn answer_at(st: State, k: u32, counts: Counts) -> Outcome
     if k < st.n {
         return Outcome {
             answer: Answer::Open(counts),
-            state: State {
-                v: st.v,
-                n: st.n,
-                pass: Pass::Sweep(k),
-                fresh: true,
-                mark: false,
-            },
+            state: st.opened(Pass::Sweep(k), true),
         };
     }
     Outcome {
         answer: Answer::Done(counts),
-        state: State {
-            v: st.v,
-            n: st.n,
-            pass: Pass::Idle,
-            fresh: false,
-            mark: false,
-        },
+        state: st.closed(false),
     }
 }
 
@@ -161,8 +151,8 @@ pub fn sweep_from(
     steps: u32,
 ) -> Outcome
     requires { ⌜ Ready (st .n) (now clauses) (now literals) (now times) (now links) × (cursor ≤ st .n) ⌝ }
-    ensures { λ r. ⌜ ((variables : List ℤ) → after r (tables (now (clauses .exit)) (now (literals .exit)) variables (now (times .entry)) (now (links .entry)))
-        ≡ sweepFrom steps cursor (tables (now (clauses .entry)) (now (literals .entry)) variables (now (times .entry)) (now (links .entry))) st) ⌝ }
+    ensures { λ r. ⌜ ((variables : List ℤ) → after r (returned clauses literals (unlent variables) times links)
+        ≡ sweepFrom steps cursor (lent clauses literals (unlent variables) times links) st) ⌝ }
 {
     let mut slots = [0u32; 16384];
     let mut twins = [0u32; 16384];
@@ -183,31 +173,19 @@ pub fn sweep_from(
     answer_at(st, cursor + m, clauses::counts_of(m, before, left))
 }
 
-// The clause that Sweep stands before, 0 where it is not open.
-fn cursor_of(st: State) -> u32
-    ensures { λ r. ⌜ r ≡ sweepCursor (st .pass) ⌝ }
-{
-    let p = st.pass;
-    match p {
-        Pass::Idle => 0,
-        Pass::Propagate(_, _) => 0,
-        Pass::Merge(_) => 0,
-        Pass::Sweep(k) => k,
-    }
-}
-
-// A call that no refusal above 9 stops, whether it opens the pass or resumes it. Run enters here.
+// A call that no refusal above 9 stops: it opens the pass or resumes it, from clause `cursor` on. Run enters here.
 pub fn sweep_entered(
     clauses: &mut [u32],
     literals: &mut [i32],
     times: &[u32],
     links: &[i32],
     st: State,
+    cursor: u32,
     n: u32,
 ) -> Outcome
-    requires { ⌜ (st .fresh ≡ true → Ready (st .n) (now clauses) (now literals) (now times) (now links)) × (sweepCursor (st .pass) ≤ st .n) ⌝ }
-    ensures { λ r. ⌜ ((variables : List ℤ) → after r (tables (now (clauses .exit)) (now (literals .exit)) variables (now (times .entry)) (now (links .entry)))
-        ≡ unlessStale (st .fresh) n (tables (now (clauses .entry)) (now (literals .entry)) variables (now (times .entry)) (now (links .entry))) st) ⌝ }
+    requires { ⌜ (st .fresh ≡ true → Ready (st .n) (now clauses) (now literals) (now times) (now links)) × (cursor ≤ st .n) ⌝ }
+    ensures { λ r. ⌜ ((variables : List ℤ) → after r (returned clauses literals (unlent variables) times links)
+        ≡ unlessStale (st .fresh) n cursor (lent clauses literals (unlent variables) times links) st) ⌝ }
 {
     if !st.fresh {
         return Outcome {
@@ -215,7 +193,7 @@ pub fn sweep_entered(
             state: st,
         };
     }
-    sweep_from(clauses, literals, times, links, st, cursor_of(st), n)
+    sweep_from(clauses, literals, times, links, st, cursor, n)
 }
 
 // Sweep: n visits, or as many as the pass has left. The call that finds no pass open opens it.
@@ -228,16 +206,17 @@ pub fn sweep(
     st: State,
     n: u16,
 ) -> Outcome
-    ensures { λ r. ⌜ after r (tables (now (clauses .exit)) (now (literals .exit)) (now (variables .entry)) (now (times .entry)) (now (links .entry)))
-        ≡ sweepCall n (tables (now (clauses .entry)) (now (literals .entry)) (now (variables .entry)) (now (times .entry)) (now (links .entry))) st ⌝ }
+    ensures { λ r. ⌜ after r (returned clauses literals variables times links)
+        ≡ sweepCall n (lent clauses literals variables times links) st ⌝ }
 {
-    let e = shape::entry_of(clauses, literals, variables, times, links, st, 3);
+    let own = PassName::Sweep;
+    let e = entry::entry_of(clauses, literals, variables, times, links, st, own);
     match e {
         Entry::No(r) => Outcome {
             answer: Answer::Refused(r),
             state: st,
         },
-        Entry::Opens => sweep_entered(clauses, literals, times, links, st, n as u32),
-        Entry::Resumes => sweep_entered(clauses, literals, times, links, st, n as u32),
+        Entry::Opens => sweep_entered(clauses, literals, times, links, st, 0, n as u32),
+        Entry::Resumes(k, _) => sweep_entered(clauses, literals, times, links, st, k, n as u32),
     }
 }

@@ -1,10 +1,6 @@
 -- What a call leaves: its reply, the state and the tables. A call's contract is one equation between two of these. Assumes nothing: these are definitions.
-use Prim.Native.Nat.{ℕ}
-use mathlib.Core.Bool.{Bool, true, false}
 use Rattle.state.specs.Answers.{Reply, replyOf}
 use Rattle.state.specs.declared.State.{State}
-use Rattle.state.specs.declared.Pass.{Pass}
-use Rattle.state.specs.declared.Pass.the-variants.{Idle}
 use Rattle.state.specs.declared.Refusal.{Refusal}
 use Rattle.state.specs.declared.Answer.{Answer}
 use Rattle.state.specs.declared.Answer.the-variants.{Refused}
@@ -27,14 +23,3 @@ after o t = answered (o .answer) (o .state) t
 -- "A refusal returns its number and a place .. and changes nothing."
 abbrev pub refuse : Refusal → State → Tables → After
 refuse r st t = answered (Refused r) st t
-
-abbrev pub state : ℕ → ℕ → Pass → Bool → Bool → State
-state v n pass fresh mark = record { v = v; n = n; pass = pass; fresh = fresh; mark = mark }
-
--- the state before any load
-abbrev pub emptyState : State
-emptyState = state 0 0 Idle false false
-
--- "The mark and a load close any pass", and both spend the stamps
-abbrev pub marked : State → State
-marked st = state (st .v) (st .n) Idle false true

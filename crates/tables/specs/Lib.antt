@@ -1,5 +1,6 @@
 pub mod Tables
 pub mod Long
+pub mod Lent
 pub mod Values
 pub mod Clauses
 pub mod Fates

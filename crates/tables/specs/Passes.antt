@@ -7,6 +7,7 @@ use lib.Dec.{ltb, eqb}
 use lib.IntN.{ℤ, pos, natAbs}
 use Rattle.base.specs.Lists.{any, first}
 use Rattle.literal.specs.Literals.{eqZ}
+use Rattle.state.specs.States.{opened, closed}
 use Rattle.state.specs.declared.State.{State}
 use Rattle.state.specs.declared.Pass.{Pass}
 use Rattle.state.specs.declared.Pass.the-variants.{Idle}
@@ -14,14 +15,14 @@ use Rattle.state.specs.declared.Answer.the-variants.{Open, Done}
 use Rattle.tables.specs.Tables.{Tables, lengthOf, standing, valueOf}
 use Rattle.tables.specs.Clauses.{literalsOf, gone}
 use Rattle.tables.specs.Fates.{Fate, visits}
-use Rattle.tables.specs.Calls.{After, answered, state}
+use Rattle.tables.specs.Calls.{After, answered}
 
 -- the call that has made m visits and stands before clause k, of n: `pass` gives the pass with its cursor, and stamps stay fresh while it is open or when it is done as the two bools say
 abbrev pub reached : (ℕ → Pass) → Bool → Bool → ℕ → ℕ → List ℕ → Tables → State → After
 reached pass freshOpen freshDone m k before t st =
     elim (ltb k (st .n)) [
-      | true ↦ answered (Open (gone m (st .n) before (t .clauses))) (state (st .v) (st .n) (pass k) freshOpen false) t
-      | false ↦ answered (Done (gone m (st .n) before (t .clauses))) (state (st .v) (st .n) Idle freshDone false) t
+      | true ↦ answered (Open (gone m (st .n) before (t .clauses))) (opened (pass k) freshOpen st) t
+      | false ↦ answered (Done (gone m (st .n) before (t .clauses))) (closed freshDone st) t
     ]
 
 -- `steps` visits by a rule from clause k on, or as many as are left

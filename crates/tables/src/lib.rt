@@ -1,24 +1,7 @@
-// The tables that a caller lends: their stated lengths, and the state that goes with empty ones.
-ghost use mathlib.Core.Path.{_≡_};
+// The tables that a caller lends: their stated lengths.
 ghost use Rattle.base.specs.Decide.{Decides};
-ghost use Rattle.tables.specs.Calls.{emptyState};
-ghost use Rattle.tables.specs.Tables.{tables};
+ghost use Rattle.tables.specs.Lent.{lent};
 ghost use Rattle.tables.specs.Long.{Long};
-use state::Pass;
-use state::State;
-
-// The state before any load.
-pub fn empty_state() -> State
-    ensures { λ r. ⌜ r ≡ emptyState ⌝ }
-{
-    State {
-        v: 0,
-        n: 0,
-        pass: Pass::Idle,
-        fresh: false,
-        mark: false,
-    }
-}
 
 // No table is shorter than stated.
 pub fn long_ok(
@@ -28,7 +11,7 @@ pub fn long_ok(
     times: &[u32],
     links: &[i32],
 ) -> bool
-    ensures { λ r. ⌜ Decides r (Long (tables (now (clauses .entry)) (now (literals .entry)) (now (variables .entry)) (now (times .entry)) (now (links .entry)))) ⌝ }
+    ensures { λ r. ⌜ Decides r (Long (lent clauses literals variables times links)) ⌝ }
 {
     if clauses.len() < 12288 {
         return false;

@@ -7,12 +7,12 @@ use mathlib.Core.List.{List, [], _∷_, _++_}
 use lib.ListN.{take, replicate, length}
 use lib.Dec.{ltb}
 use lib.IntN.{ℤ, pos}
-use Rattle.state.specs.Answers.{Reply}
+use Rattle.state.specs.States.{emptyState}
+use Rattle.state.specs.Answers.{Reply, resultBy}
 use Rattle.state.specs.declared.Answer.{Answer}
 use Rattle.state.specs.declared.Answer.the-variants.{Refused, Loaded, Open, Done, Stamped, Failed, Ran, Written}
-use Rattle.results.specs.Results.{resultBy}
 use Rattle.tables.specs.Tables.{Tables, tables}
-use Rattle.tables.specs.Calls.{After, emptyState}
+use Rattle.tables.specs.Calls.{After}
 use Rattle.load.specs.Load.{loadCall}
 use Rattle.printing.specs.Printing.{digits}
 use Rattle.write.specs.Write.{AfterWrite, writeCall}

@@ -3,12 +3,13 @@ ghost use mathlib.Core.Path.{_≡_};
 ghost use Prim.Native.Nat.{_-_, _^_};
 ghost use lib.ListN.{length};
 ghost use Rattle.state.specs.Answers.{replyOf};
-ghost use Rattle.tables.specs.Tables.{tables};
+ghost use Rattle.tables.specs.Lent.{lent, returned};
 ghost use Rattle.tables.specs.Calls.{after};
 ghost use Rattle.write.specs.Write.{afterWrite};
 ghost use Rattle.unhiding.specs.Texts.{refuses, runUnless, writeAfter, simplifyIn, simplifyText, resultOf, fits};
 use state::Answer;
 use state::Outcome;
+use state::State;
 
 fn is_refusal(answer: Answer) -> bool
     ensures { λ r. ⌜ r ≡ refuses (replyOf answer .number) ⌝ }
@@ -35,8 +36,8 @@ fn run_loaded(
     loaded: Outcome,
     rounds: u16,
 ) -> Outcome
-    ensures { λ r. ⌜ after r (tables (now (clauses .exit)) (now (literals .exit)) (now (variables .exit)) (now (times .exit)) (now (links .exit)))
-        ≡ runUnless (loaded .state .mark) rounds (after loaded (tables (now (clauses .entry)) (now (literals .entry)) (now (variables .entry)) (now (times .entry)) (now (links .entry)))) ⌝ }
+    ensures { λ r. ⌜ after r (returned clauses literals variables times links)
+        ≡ runUnless (loaded .state .mark) rounds (after loaded (lent clauses literals variables times links)) ⌝ }
 {
     let st = loaded.state;
     if st.mark {
@@ -57,7 +58,7 @@ fn run_and_write(
     out: &mut [u8],
 ) -> Answer
     ensures { λ r. ⌜ afterWrite r (now (out .exit))
-        ≡ writeAfter 0 (runUnless (loaded .state .mark) rounds (after loaded (tables (now (clauses .entry)) (now (literals .entry)) (now (variables .entry)) (now (times .entry)) (now (links .entry))))) (now (out .entry)) ⌝ }
+        ≡ writeAfter 0 (runUnless (loaded .state .mark) rounds (after loaded (lent clauses literals variables times links))) (now (out .entry)) ⌝ }
     ensures { λ r. ⌜ fits r (length (now (out .entry))) ⌝ }
 {
     let ran = run_loaded(clauses, literals, variables, times, links, loaded, rounds);
@@ -76,10 +77,10 @@ fn simplify(
     times: &mut [u32],
     links: &mut [i32],
 ) -> Answer
-    ensures { λ r. ⌜ afterWrite r (now (out .exit)) ≡ simplifyIn (tables (now (clauses .entry)) (now (literals .entry)) (now (variables .entry)) (now (times .entry)) (now (links .entry))) (now (text .entry)) rounds (now (out .entry)) ⌝ }
+    ensures { λ r. ⌜ afterWrite r (now (out .exit)) ≡ simplifyIn (lent clauses literals variables times links) (now (text .entry)) rounds (now (out .entry)) ⌝ }
     ensures { λ r. ⌜ fits r (length (now (out .entry))) ⌝ }
 {
-    let st = tables::empty_state();
+    let st = State::empty();
     let loaded = load::load(text, clauses, literals, variables, times, links, st);
     let answer = loaded.answer;
     if is_refusal(answer) {
@@ -127,10 +128,10 @@ fn result_of(answer: Answer) -> i64
     ensures { λ r. ⌜ r ≡ resultOf (replyOf answer) ⌝ }
 {
     match answer {
-        Answer::Refused(refusal) => results::refused(refusal),
+        Answer::Refused(refusal) => refusal.result(),
         Answer::Loaded => 0,
-        Answer::Open(_) => 1,
-        Answer::Done(_) => 0,
+        Answer::Open(counts) => counts.visits as i64,
+        Answer::Done(counts) => counts.visits as i64,
         Answer::Stamped => 0,
         Answer::Failed(set) => set as i64,
         Answer::Ran(rounds) => rounds as i64,

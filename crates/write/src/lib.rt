@@ -7,7 +7,8 @@ ghost use lib.ListN.{length, take, drop};
 ghost use lib.IntN.{ℤ};
 ghost use lib.Signed.{nonNeg};
 ghost use Rattle.literal.specs.Literals.{Literal, litBy};
-ghost use Rattle.tables.specs.Tables.{tables, classOf};
+ghost use Rattle.tables.specs.Tables.{classOf};
+ghost use Rattle.tables.specs.Lent.{lent, unlent};
 ghost use Rattle.printing.specs.Printing.{clausesText};
 ghost use Rattle.printing.specs.Stored.{Stored, EachSmall};
 ghost use Rattle.write.specs.Write.{writeText, afterWrite, writeInto, writeCall};
@@ -191,7 +192,7 @@ fn put_formula(
     st: State,
 ) -> usize
     requires { ⌜ Ready (now clauses) (now literals) (now variables) (st .v) (st .n) ⌝ }
-    ensures { λ r. ⌜ ((times : List ℕ) (links : List ℤ) → Stored (writeText (tables (now (clauses .entry)) (now (literals .entry)) (now (variables .entry)) times links) st) 0 (now (out .entry)) (now (out .exit)) r) ⌝ }
+    ensures { λ r. ⌜ ((times : List ℕ) (links : List ℤ) → Stored (writeText (lent clauses literals variables (unlent times) (unlent links)) st) 0 (now (out .entry)) (now (out .exit)) r) ⌝ }
 {
     if st.mark {
         let none = 0;
@@ -216,7 +217,7 @@ pub fn write_text(
     out: &mut [u8],
 ) -> Answer
     requires { ⌜ Ready (now clauses) (now literals) (now variables) (st .v) (st .n) ⌝ }
-    ensures { λ r. ⌜ ((times : List ℕ) (links : List ℤ) → afterWrite r (now (out .exit)) ≡ writeInto (writeText (tables (now (clauses .entry)) (now (literals .entry)) (now (variables .entry)) times links) st) (now (out .entry))) ⌝ }
+    ensures { λ r. ⌜ ((times : List ℕ) (links : List ℤ) → afterWrite r (now (out .exit)) ≡ writeInto (writeText (lent clauses literals variables (unlent times) (unlent links)) st) (now (out .entry))) ⌝ }
 {
     // measured first, on an empty part of the output, so that a refused call stores nothing
     let none = 0;
@@ -238,7 +239,7 @@ pub fn write(
     st: State,
     out: &mut [u8],
 ) -> Answer
-    ensures { λ r. ⌜ afterWrite r (now (out .exit)) ≡ writeCall (tables (now (clauses .entry)) (now (literals .entry)) (now (variables .entry)) (now (times .entry)) (now (links .entry))) st (now (out .entry)) ⌝ }
+    ensures { λ r. ⌜ afterWrite r (now (out .exit)) ≡ writeCall (lent clauses literals variables times links) st (now (out .entry)) ⌝ }
 {
     if !shape::shape_ok(clauses, literals, variables, times, links, st) {
         return Answer::Refused(Refusal::Shape);

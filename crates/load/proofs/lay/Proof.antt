@@ -36,6 +36,9 @@ clear-literals-requires c κs = search needs
 lay-variables-requires : tie.Need-lay-variables-requires
 lay-variables-requires c κs = search needs
 
+loaded-requires : tie.Need-loaded-requires
+loaded-requires c κs = search needs
+
 same-length : tie.Need-same-length
 same-length c = search needs
 
@@ -46,8 +49,8 @@ same-length-3 : tie.Need-same-length-3
 same-length-3 c = search needs
 
 returns : tie.Need-returns
-returns c = λ times links st.
-    let s = c .before .before .before .before .before .before .before .before .before .before .before .before .before .before .before .before .before .before .before .before .before in
+returns c = λ times links st. rw (c .loaded .ensures)
+    (let s = c .before .before .before .before .before .before .before .before .before .before .before .before .before .before .before .before .before .before .before .before .before .before in
     lay-done
     (s .args .variables .now)
     (s .args .v)
@@ -55,12 +58,12 @@ returns c = λ times links st.
     times
     links
     st
-    (c .before .before .before .before .before .before .before .before .before .before .before .before .before .before .before .lay-clauses .ensures)
+    (c .before .before .before .before .before .before .before .before .before .before .before .before .before .before .before .before .lay-clauses .ensures)
     (s .pre .clauseRoom)
     (s .pre .literalRoom)
-    (c .before .before .before .before .before .before .before .before .clear-words .ensures)
-    (c .before .before .before .before .clear-literals .ensures)
-    (c .before .lay-variables .ensures)
+    (c .before .before .before .before .before .before .before .before .before .clear-words .ensures)
+    (c .before .before .before .before .before .clear-literals .ensures)
+    (c .before .before .lay-variables .ensures))
 
 pub lay-spec : {M : Type 1} → statement M
 lay-spec =
@@ -72,6 +75,7 @@ lay-spec =
     clear-words-requires
     clear-literals-requires
     lay-variables-requires
+    loaded-requires
     same-length
     same-length-2
     same-length-3

@@ -11,8 +11,8 @@ use borrow.Author.Needs.{needs, sfits-of}
 use Rattle.load_bench.proofs.load_text.Statement.{statement}
 use Rattle.load_bench.proofs.load_text.Tie as tie
 
-empty-state-requires : tie.Need-empty-state-requires
-empty-state-requires c κs = search needs
+empty-requires : tie.Need-empty-requires
+empty-requires c κs = search needs
 
 load-requires : tie.Need-load-requires
 load-requires c κs = search needs
@@ -33,14 +33,14 @@ returns : tie.Need-returns
 returns c =
     let s = c .before .before .before .before .before .before .before .before .before .before .before .before .before in
     let before = tables (s .args .clauses .now) (s .args .literals .now) (s .args .variables .now) (s .args .times .now) (s .args .links .now) in
-    let loads = c .before .before .before .before .before .load .ensures ∙ ap (λ (st : State). loadCall (s .args .text .now) before st) (c .before .before .before .before .before .before .before .before .before .empty-state .ensures) in
+    let loads = c .before .before .before .before .before .load .ensures ∙ ap (λ (st : State). loadCall (s .args .text .now) before st) (c .before .before .before .before .before .before .before .before .before .empty .ensures) in
     (toZ-ofZ {w = w64} {z = c .result-of .result} (sfits-of (c .result-of .ok)) ∙ (c .result-of .ensures (tables (c .before .before .before .before .before .load .last .1 .0) (c .before .before .before .before .before .load .last .1 .1 .0) (c .before .before .before .before .before .load .last .1 .1 .1 .0) (s .args .times .now) (s .args .links .now)) ∙ ap resultOf loads), ap (λ (a : After). a .tables) loads)
 
 pub load-text-spec : {M : Type 1} → statement M
 load-text-spec =
     tie.close
     (tie.spec
-    empty-state-requires
+    empty-requires
     load-requires
     result-of-requires
     same-length

@@ -4,9 +4,8 @@ use mathlib.Core.Path.{_≡_, sym, ap, _∙_}
 use native.Mathlib.Omega.{arith}
 use mir.Syntax.{w64}
 use mir.Facts.{toZ-ofZ, toZ-pos}
-use Rattle.state.specs.Answers.{replyOf}
+use Rattle.state.specs.Answers.{replyOf, resultBy}
 use Rattle.state.specs.declared.Answer.{Answer}
-use Rattle.results.specs.Results.{resultBy}
 use borrow.Author.Needs.{needs, sfits-of}
 use Rattle.load_bench.proofs.result_of.Statement.{statement}
 use Rattle.load_bench.proofs.result_of.Tie as tie
@@ -20,8 +19,8 @@ cast-v c = search needs
 enum-known-answer : tie.Need-enum-known-answer
 enum-known-answer c = search needs
 
-refused-requires : tie.Need-refused-requires
-refused-requires c κs = search needs
+result-requires : tie.Need-result-requires
+result-requires c κs = search needs
 
 enum-told : tie.Need-enum-told
 enum-told c = search needs
@@ -45,7 +44,7 @@ enum-told-7 : tie.Need-enum-told-7
 enum-told-7 c = search needs
 
 returns : tie.Need-returns
-returns c = λ t. toZ-ofZ {w = w64} {z = c .refused .result} (sfits-of (c .refused .ok)) ∙ (c .refused .ensures _ ∙ told (c .before .before .answer .given .1) _)
+returns c = λ t. toZ-ofZ {w = w64} {z = c .result .result} (sfits-of (c .result .ok)) ∙ (c .result .ensures _ ∙ told (c .before .before .answer .given .1) _)
 
 returns-2 : tie.Need-returns-2
 returns-2 c = λ t. toZ-pos w64 (omega arith) ∙ told (c .enum-told .given .1) _
@@ -74,7 +73,7 @@ result-of-spec =
     (tie.spec
     cast-v
     enum-known-answer
-    refused-requires
+    result-requires
     enum-told
     enum-told-2
     enum-told-3

@@ -7,9 +7,9 @@ use Rattle.merge.proofs.merge.Statement.{statement}
 use Rattle.merge.proofs.merge.Tie as tie
 use Rattle.merge.proofs.merge.Reads as reads
 use Rattle.merge.proofs.merge.Lts as lts
-use Rattle.merge.proofs.merge_resume.Reads as merge-resume-reads
+use Rattle.entry.proofs.entry_of.Reads as entry-of-reads
+use Rattle.merge.proofs.merge_from.Reads as merge-from-reads
 use Rattle.merge.proofs.merge_settled.Reads as merge-settled-reads
-use Rattle.shape.proofs.entry_of.Reads as entry-of-reads
 
 -- the tables as they are lent
 abbrev lent : tie.Start → Tables
@@ -27,11 +27,11 @@ enum-told c = search needs
 merge-settled-requires : tie.Need-merge-settled-requires
 merge-settled-requires c κs = let s = c .before .before .before .before .before .before .before .before .before .before .before in opens-formed (s .args .n) (lent s) (s .args .st) (sym (c .before .before .before .before .before .entry-of .ensures) ∙ c .before .before .before .enum-told .given .1)
 
-enum-told-2 : tie.Need-enum-told-2
-enum-told-2 c = search needs
+enum-known-entry-2 : tie.Need-enum-known-entry-2
+enum-known-entry-2 c = search needs
 
-merge-resume-requires : tie.Need-merge-resume-requires
-merge-resume-requires c κs = let s = c .before .before .before .before .before .before .before .before .before .before .before in resumes-ready (lent s) (s .args .st) (sym (c .before .before .before .before .before .entry-of .ensures) ∙ c .before .before .before .enum-told2 .given .1)
+merge-from-requires : tie.Need-merge-from-requires
+merge-from-requires c κs = let s = c .before .before .before .before .before .before .before .before .before .before .before .before in let e = c .before .before .before .before .entry2 .given in resumes-ready (lent s) (s .args .st) (e .0 .0) (e .0 .1 .0) (sym (c .before .before .before .before .before .before .entry-of .ensures) ∙ e .1)
 
 same-length : tie.Need-same-length
 same-length c = search needs
@@ -55,8 +55,7 @@ same-length-6 : tie.Need-same-length-6
 same-length-6 c = search needs
 
 returns-2 : tie.Need-returns-2
-returns-2 c = let s = c .before .before .before .before .before .before .before .before .before .before .before .before .before .before .before .before in
-    c .before .before .before .before .merge-settled .ensures (s .args .times .now) (s .args .links .now) ∙ call-opens (s .args .n) (lent s) (s .args .st) (sym (c .before .before .before .before .before .before .before .before .before .before .entry-of .ensures) ∙ c .before .before .before .before .before .before .before .before .enum-told .given .1)
+returns-2 c = let s = c .before .before .before .before .before .before .before .before .before .before .before .before .before .before .before .before in c .before .before .before .before .merge-settled .ensures (s .args .times .now) (s .args .links .now) ∙ call-opens (s .args .n) (lent s) (s .args .st) (sym (c .before .before .before .before .before .before .before .before .before .before .entry-of .ensures) ∙ c .before .before .before .before .before .before .before .before .enum-told .given .1)
 
 same-length-7 : tie.Need-same-length-7
 same-length-7 c = search needs
@@ -68,8 +67,7 @@ same-length-9 : tie.Need-same-length-9
 same-length-9 c = search needs
 
 returns-3 : tie.Need-returns-3
-returns-3 c = let s = c .before .before .before .before .before .before .before .before .before .before .before .before .before .before .before in
-    c .before .before .before .merge-resume .ensures (s .args .times .now) (s .args .links .now) ∙ call-resumes (s .args .n) (lent s) (s .args .st) (sym (c .before .before .before .before .before .before .before .before .before .entry-of .ensures) ∙ c .before .before .before .before .before .before .before .enum-told2 .given .1)
+returns-3 c = let s = c .before .before .before .before .before .before .before .before .before .before .before .before .before .before .before .before in let e = c .before .before .before .before .before .before .before .before .entry2 .given in c .before .before .before .merge-from .ensures (s .args .times .now) (s .args .links .now) ∙ call-resumes (s .args .n) (lent s) (s .args .st) (e .0 .0) (e .0 .1 .0) (sym (c .before .before .before .before .before .before .before .before .before .before .entry-of .ensures) ∙ e .1)
 
 pub merge-spec : {M : Type 1} → statement M
 merge-spec =
@@ -79,8 +77,8 @@ merge-spec =
     enum-known-entry
     enum-told
     merge-settled-requires
-    enum-told-2
-    merge-resume-requires
+    enum-known-entry-2
+    merge-from-requires
     same-length
     same-length-2
     same-length-3

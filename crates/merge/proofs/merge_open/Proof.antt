@@ -14,6 +14,9 @@ use Rattle.merge.proofs.merge_from.Reads as merge-from-reads
 merge-classes-requires : tie.Need-merge-classes-requires
 merge-classes-requires c κs = search needs
 
+marked-requires : tie.Need-marked-requires
+marked-requires c κs = search needs
+
 same-length : tie.Need-same-length
 same-length c = search needs
 
@@ -24,9 +27,9 @@ same-length-3 : tie.Need-same-length-3
 same-length-3 c = search needs
 
 returns : tie.Need-returns
-returns c = λ times links. let a = c .before .before .before .before .before .before .before .args in
-    let o = c .before .before .merge-classes in
-    opens-clash (a .steps) (a .st) (tables (a .clauses .now) (a .literals .now) (a .variables .now) times links) (o .result) (o .last .1 .1 .1 .1 .0) (o .ensures .0) (o .ensures .1) (c .if1 .taken)
+returns c = λ times links. rw (c .marked .ensures) (let a = c .before .before .before .before .before .before .before .before .args in
+    let o = c .before .before .before .merge-classes in
+    opens-clash (a .steps) (a .st) (tables (a .clauses .now) (a .literals .now) (a .variables .now) times links) (o .result) (o .last .1 .1 .1 .1 .0) (o .ensures .0) (o .ensures .1) (c .before .if1 .taken))
 
 merge-from-requires : tie.Need-merge-from-requires
 merge-from-requires c κs = let a = c .before .before .before .before .before .before .before .before .before .before .args in
@@ -53,6 +56,7 @@ merge-open-spec =
     tie.close
     (tie.spec
     merge-classes-requires
+    marked-requires
     same-length
     same-length-2
     same-length-3

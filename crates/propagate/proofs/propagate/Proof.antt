@@ -1,15 +1,15 @@
 -- `propagate::propagate` meets its contract: the call is its definition. Assumes nothing.
 use mathlib.Core.Path.{sym, _∙_}
 use Rattle.tables.specs.Tables.{Tables, tables}
-use Rattle.propagate.proofs.Calling.{call-refused, call-opens, call-resumes, opens-formed, resumes-resumable}
+use Rattle.propagate.proofs.Calling.{call-refused, call-opens, call-resumes, opens-formed, resumes-ready}
 use borrow.Author.Needs.{needs}
 use Rattle.propagate.proofs.propagate.Statement.{statement}
 use Rattle.propagate.proofs.propagate.Tie as tie
 use Rattle.propagate.proofs.propagate.Reads as reads
 use Rattle.propagate.proofs.propagate.Lts as lts
+use Rattle.entry.proofs.entry_of.Reads as entry-of-reads
 use Rattle.propagate.proofs.open_pass.Reads as open-pass-reads
-use Rattle.propagate.proofs.resume_pass.Reads as resume-pass-reads
-use Rattle.shape.proofs.entry_of.Reads as entry-of-reads
+use Rattle.propagate.proofs.propagate_from.Reads as propagate-from-reads
 
 -- the tables as they are lent
 abbrev lent : tie.Start → Tables
@@ -25,13 +25,13 @@ enum-told : tie.Need-enum-told
 enum-told c = search needs
 
 open-pass-requires : tie.Need-open-pass-requires
-open-pass-requires c κs = opens-formed (c .before .before .before .before .before .before .before .before .before .before .before .args .n) (lent (c .before .before .before .before .before .before .before .before .before .before .before)) (c .before .before .before .before .before .before .before .before .before .before .before .args .st) (sym (c .before .before .before .before .before .entry-of .ensures) ∙ c .before .before .before .enum-told .given .1)
+open-pass-requires c κs = let s = c .before .before .before .before .before .before .before .before .before .before .before in opens-formed (s .args .n) (lent s) (s .args .st) (sym (c .before .before .before .before .before .entry-of .ensures) ∙ c .before .before .before .enum-told .given .1)
 
-enum-told-2 : tie.Need-enum-told-2
-enum-told-2 c = search needs
+enum-known-entry-2 : tie.Need-enum-known-entry-2
+enum-known-entry-2 c = search needs
 
-resume-pass-requires : tie.Need-resume-pass-requires
-resume-pass-requires c κs = resumes-resumable (c .before .before .before .before .before .before .before .before .before .before .before .args .n) (lent (c .before .before .before .before .before .before .before .before .before .before .before)) (c .before .before .before .before .before .before .before .before .before .before .before .args .st) (sym (c .before .before .before .before .before .entry-of .ensures) ∙ c .before .before .before .enum-told2 .given .1)
+propagate-from-requires : tie.Need-propagate-from-requires
+propagate-from-requires c κs = let s = c .before .before .before .before .before .before .before .before .before .before .before .before in let e = c .before .before .before .before .entry2 .given in resumes-ready (s .args .n) (lent s) (s .args .st) (e .0 .0) (e .0 .1 .0) (sym (c .before .before .before .before .before .before .entry-of .ensures) ∙ e .1)
 
 same-length : tie.Need-same-length
 same-length c = search needs
@@ -43,7 +43,7 @@ same-length-3 : tie.Need-same-length-3
 same-length-3 c = search needs
 
 returns : tie.Need-returns
-returns c = call-refused (c .before .before .before .before .before .before .before .before .before .args .n) (lent (c .before .before .before .before .before .before .before .before .before)) (c .before .before .before .before .before .before .before .before .before .args .st) (c .before .entry .given .0 .0) (sym (c .before .before .before .entry-of .ensures) ∙ c .before .entry .given .1)
+returns c = let s = c .before .before .before .before .before .before .before .before .before in call-refused (s .args .n) (lent s) (s .args .st) (c .before .entry .given .0 .0) (sym (c .before .before .before .entry-of .ensures) ∙ c .before .entry .given .1)
 
 same-length-4 : tie.Need-same-length-4
 same-length-4 c = search needs
@@ -55,7 +55,7 @@ same-length-6 : tie.Need-same-length-6
 same-length-6 c = search needs
 
 returns-2 : tie.Need-returns-2
-returns-2 c = c .before .before .before .before .open-pass .ensures (c .before .before .before .before .before .before .before .before .before .before .before .before .before .before .before .before .args .times .now) (c .before .before .before .before .before .before .before .before .before .before .before .before .before .before .before .before .args .links .now) ∙ call-opens (c .before .before .before .before .before .before .before .before .before .before .before .before .before .before .before .before .args .n) (lent (c .before .before .before .before .before .before .before .before .before .before .before .before .before .before .before .before)) (c .before .before .before .before .before .before .before .before .before .before .before .before .before .before .before .before .args .st) (sym (c .before .before .before .before .before .before .before .before .before .before .entry-of .ensures) ∙ c .before .before .before .before .before .before .before .before .enum-told .given .1)
+returns-2 c = let s = c .before .before .before .before .before .before .before .before .before .before .before .before .before .before .before .before in c .before .before .before .before .open-pass .ensures (s .args .times .now) (s .args .links .now) ∙ call-opens (s .args .n) (lent s) (s .args .st) (sym (c .before .before .before .before .before .before .before .before .before .before .entry-of .ensures) ∙ c .before .before .before .before .before .before .before .before .enum-told .given .1)
 
 same-length-7 : tie.Need-same-length-7
 same-length-7 c = search needs
@@ -67,7 +67,7 @@ same-length-9 : tie.Need-same-length-9
 same-length-9 c = search needs
 
 returns-3 : tie.Need-returns-3
-returns-3 c = c .before .before .before .before .resume-pass .ensures (c .before .before .before .before .before .before .before .before .before .before .before .before .before .before .before .before .args .times .now) (c .before .before .before .before .before .before .before .before .before .before .before .before .before .before .before .before .args .links .now) ∙ call-resumes (c .before .before .before .before .before .before .before .before .before .before .before .before .before .before .before .before .args .n) (lent (c .before .before .before .before .before .before .before .before .before .before .before .before .before .before .before .before)) (c .before .before .before .before .before .before .before .before .before .before .before .before .before .before .before .before .args .st) (sym (c .before .before .before .before .before .before .before .before .before .before .entry-of .ensures) ∙ c .before .before .before .before .before .before .before .before .enum-told2 .given .1)
+returns-3 c = let s = c .before .before .before .before .before .before .before .before .before .before .before .before .before .before .before .before .before in let e = c .before .before .before .before .before .before .before .before .before .entry2 .given in c .before .before .before .before .propagate-from .ensures (s .args .times .now) (s .args .links .now) ∙ call-resumes (s .args .n) (lent s) (s .args .st) (e .0 .0) (e .0 .1 .0) (sym (c .before .before .before .before .before .before .before .before .before .before .before .entry-of .ensures) ∙ e .1)
 
 pub propagate-spec : {M : Type 1} → statement M
 propagate-spec =
@@ -77,8 +77,8 @@ propagate-spec =
     enum-known-entry
     enum-told
     open-pass-requires
-    enum-told-2
-    resume-pass-requires
+    enum-known-entry-2
+    propagate-from-requires
     same-length
     same-length-2
     same-length-3

@@ -1,32 +1,30 @@
--- `run::run` meets its contract. Assumes nothing.
+-- `run::run` meets its contract: the call is its definition. Assumes nothing.
 use mathlib.Core.Path.{sym, _∙_}
 use Rattle.tables.specs.Tables.{Tables, tables}
-use Rattle.run.proofs.Calling.{opens-runs, resumes-runs, call-refused, call-opens, call-resumes}
+use Rattle.run.proofs.Calling.{granted-runs, call-refused, call-granted}
 use borrow.Author.Needs.{needs}
 use Rattle.run.proofs.run.Statement.{statement}
 use Rattle.run.proofs.run.Tie as tie
+use Rattle.run.proofs.run.Reads as reads
+use Rattle.run.proofs.run.Lts as lts
+use Rattle.entry.proofs.may_open.Reads as may-open-reads
+use Rattle.run.proofs.run_entered.Reads as run-entered-reads
 
 -- the tables as they are lent
 abbrev lent : tie.Start → Tables
 lent s = tables (s .args .clauses .now) (s .args .literals .now) (s .args .variables .now) (s .args .times .now) (s .args .links .now)
 
-entry-of-requires : tie.Need-entry-of-requires
-entry-of-requires c κs = search needs
+may-open-requires : tie.Need-may-open-requires
+may-open-requires c κs = search needs
 
-enum-known-entry : tie.Need-enum-known-entry
-enum-known-entry c = search needs
+enum-known-opening : tie.Need-enum-known-opening
+enum-known-opening c = search needs
 
 enum-told : tie.Need-enum-told
 enum-told c = search needs
 
 run-entered-requires : tie.Need-run-entered-requires
-run-entered-requires c κs = opens-runs (lent (c .before .before .before .before .before .before .before .before .before .before .before .before .before .before .before)) (c .before .before .before .before .before .before .before .before .before .before .before .before .before .before .before .args .st) (sym (c .before .before .before .before .before .before .before .entry-of .ensures) ∙ c .before .before .before .before .before .enum-told .given .1)
-
-enum-told-2 : tie.Need-enum-told-2
-enum-told-2 c = search needs
-
-run-entered-requires-2 : tie.Need-run-entered-requires-2
-run-entered-requires-2 c κs = resumes-runs (lent (c .before .before .before .before .before .before .before .before .before .before .before .before .before .before .before)) (c .before .before .before .before .before .before .before .before .before .before .before .before .before .before .before .args .st) (sym (c .before .before .before .before .before .before .before .entry-of .ensures) ∙ c .before .before .before .before .before .enum-told2 .given .1)
+run-entered-requires c κs = let s = c .before .before .before .before .before .before .before .before .before .before .before .before .before .before .before in granted-runs (lent s) (s .args .st) (sym (c .before .before .before .before .before .before .before .may-open .ensures) ∙ c .before .before .before .before .before .enum-told .given .1)
 
 same-length : tie.Need-same-length
 same-length c = search needs
@@ -44,7 +42,7 @@ same-length-5 : tie.Need-same-length-5
 same-length-5 c = search needs
 
 returns : tie.Need-returns
-returns c = call-refused (c .before .before .before .before .before .before .before .before .before .before .before .args .n) (lent (c .before .before .before .before .before .before .before .before .before .before .before)) (c .before .before .before .before .before .before .before .before .before .before .before .args .st) (c .before .entry .given .0 .0) (sym (c .before .before .before .entry-of .ensures) ∙ c .before .entry .given .1)
+returns c = let s = c .before .before .before .before .before .before .before .before .before .before .before in call-refused (s .args .n) (lent s) (s .args .st) (c .before .opening .given .0 .0) (sym (c .before .before .before .may-open .ensures) ∙ c .before .opening .given .1)
 
 same-length-6 : tie.Need-same-length-6
 same-length-6 c = search needs
@@ -62,36 +60,16 @@ same-length-10 : tie.Need-same-length-10
 same-length-10 c = search needs
 
 returns-2 : tie.Need-returns-2
-returns-2 c = c .before .before .before .before .before .before .before .run-entered .ensures ∙ call-opens (c .before .before .before .before .before .before .before .before .before .before .before .before .before .before .before .before .before .before .before .before .before .before .before .args .n) (lent (c .before .before .before .before .before .before .before .before .before .before .before .before .before .before .before .before .before .before .before .before .before .before .before)) (c .before .before .before .before .before .before .before .before .before .before .before .before .before .before .before .before .before .before .before .before .before .before .before .args .st) (sym (c .before .before .before .before .before .before .before .before .before .before .before .before .before .before .before .entry-of .ensures) ∙ c .before .before .before .before .before .before .before .before .before .before .before .before .before .enum-told .given .1)
-
-same-length-11 : tie.Need-same-length-11
-same-length-11 c = search needs
-
-same-length-12 : tie.Need-same-length-12
-same-length-12 c = search needs
-
-same-length-13 : tie.Need-same-length-13
-same-length-13 c = search needs
-
-same-length-14 : tie.Need-same-length-14
-same-length-14 c = search needs
-
-same-length-15 : tie.Need-same-length-15
-same-length-15 c = search needs
-
-returns-3 : tie.Need-returns-3
-returns-3 c = c .before .before .before .before .before .before .before .run-entered2 .ensures ∙ call-resumes (c .before .before .before .before .before .before .before .before .before .before .before .before .before .before .before .before .before .before .before .before .before .before .before .args .n) (lent (c .before .before .before .before .before .before .before .before .before .before .before .before .before .before .before .before .before .before .before .before .before .before .before)) (c .before .before .before .before .before .before .before .before .before .before .before .before .before .before .before .before .before .before .before .before .before .before .before .args .st) (sym (c .before .before .before .before .before .before .before .before .before .before .before .before .before .before .before .entry-of .ensures) ∙ c .before .before .before .before .before .before .before .before .before .before .before .before .before .enum-told2 .given .1)
+returns-2 c = let s = c .before .before .before .before .before .before .before .before .before .before .before .before .before .before .before .before .before .before .before .before .before .before .before in c .before .before .before .before .before .before .before .run-entered .ensures ∙ call-granted (s .args .n) (lent s) (s .args .st) (sym (c .before .before .before .before .before .before .before .before .before .before .before .before .before .before .before .may-open .ensures) ∙ c .before .before .before .before .before .before .before .before .before .before .before .before .before .enum-told .given .1)
 
 pub run-spec : {M : Type 1} → statement M
 run-spec =
     tie.close
     (tie.spec
-    entry-of-requires
-    enum-known-entry
+    may-open-requires
+    enum-known-opening
     enum-told
     run-entered-requires
-    enum-told-2
-    run-entered-requires-2
     same-length
     same-length-2
     same-length-3
@@ -103,10 +81,4 @@ run-spec =
     same-length-8
     same-length-9
     same-length-10
-    returns-2
-    same-length-11
-    same-length-12
-    same-length-13
-    same-length-14
-    same-length-15
-    returns-3)
+    returns-2)

@@ -1,49 +1,45 @@
--- `stamp::ask` meets its contract. Assumes nothing.
+-- `stamp::ask` meets its contract: each return is a case of `askOf`. Assumes nothing.
 use mathlib.Core.Path.{sym, _∙_}
-use borrow.Author.Needs.{needs}
 use Rattle.tables.specs.Tables.{Tables, tables}
-use Rattle.stamp.proofs.Asking.{ask-by, never-resumes, opens-formed}
+use Rattle.entry.specs.declared.Opening.the-variants.{Denied, Granted}
+use Rattle.stamp.proofs.Asking.{ask-by, granted-formed}
+use borrow.Author.Needs.{needs}
 use Rattle.stamp.proofs.ask.Statement.{statement}
-use Rattle.shape.specs.declared.Entry.the-variants as entry
 use Rattle.stamp.proofs.ask.Tie as tie
+use Rattle.stamp.proofs.ask.Reads as reads
+use Rattle.stamp.proofs.ask.Lts as lts
+use Rattle.entry.proofs.may_open.Reads as may-open-reads
+use Rattle.stamp.proofs.ask_ordered.Reads as ask-ordered-reads
 
 -- the tables as they are lent
 abbrev lent : tie.Start → Tables
 lent s = tables (s .args .clauses .now) (s .args .literals .now) (s .args .variables .now) (s .args .times .now) (s .args .links .now)
 
-entry-of-requires : tie.Need-entry-of-requires
-entry-of-requires c κs = search needs
+may-open-requires : tie.Need-may-open-requires
+may-open-requires c κs = search needs
 
-enum-known-entry : tie.Need-enum-known-entry
-enum-known-entry c = search needs
+enum-known-opening : tie.Need-enum-known-opening
+enum-known-opening c = search needs
 
 enum-told : tie.Need-enum-told
 enum-told c = search needs
 
 ask-ordered-requires : tie.Need-ask-ordered-requires
-ask-ordered-requires c κs = opens-formed (lent (c .before .before .before .before .before)) (c .before .before .before .before .before .args .st) (sym (c .before .before .entry-of .ensures) ∙ c .enum-told .given .1)
-
-enum-told-2 : tie.Need-enum-told-2
-enum-told-2 c = search needs
+ask-ordered-requires c κs = let s = c .before .before .before .before .before in granted-formed (lent s) (s .args .st) (sym (c .before .before .may-open .ensures) ∙ c .enum-told .given .1)
 
 returns : tie.Need-returns
-returns c = ask-by (c .before .before .before .before .before .before .args .order .now) (lent (c .before .before .before .before .before .before)) (c .before .before .before .before .before .before .args .st) _ (sym (c .before .before .before .entry-of .ensures) ∙ c .before .entry .given .1)
+returns c = let s = c .before .before .before .before .before .before in ask-by (s .args .order .now) (lent s) (s .args .st) (Denied (c .before .opening .given .0 .0)) (sym (c .before .before .before .may-open .ensures) ∙ c .before .opening .given .1)
 
 returns-2 : tie.Need-returns-2
-returns-2 c = c .ask-ordered .ensures (c .before .before .before .before .before .before .args .times .now) (c .before .before .before .before .before .before .args .links .now) ∙ ask-by (c .before .before .before .before .before .before .args .order .now) (lent (c .before .before .before .before .before .before)) (c .before .before .before .before .before .before .args .st) entry.Opens (sym (c .before .before .before .entry-of .ensures) ∙ c .before .enum-told .given .1)
-
-returns-3 : tie.Need-returns-3
-returns-3 c = never-resumes (c .before .before .before .before .before .args .order .now) (lent (c .before .before .before .before .before)) (c .before .before .before .before .before .args .st) (sym (c .before .before .entry-of .ensures) ∙ c .enum-told2 .given .1)
+returns-2 c = let s = c .before .before .before .before .before .before in c .ask-ordered .ensures (s .args .times .now) (s .args .links .now) ∙ ask-by (s .args .order .now) (lent s) (s .args .st) Granted (sym (c .before .before .before .may-open .ensures) ∙ c .before .enum-told .given .1)
 
 pub ask-spec : {M : Type 1} → statement M
 ask-spec =
     tie.close
     (tie.spec
-    entry-of-requires
-    enum-known-entry
+    may-open-requires
+    enum-known-opening
     enum-told
     ask-ordered-requires
-    enum-told-2
     returns
-    returns-2
-    returns-3)
+    returns-2)

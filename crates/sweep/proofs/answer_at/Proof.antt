@@ -2,16 +2,23 @@
 use Rattle.state.specs.declared.Pass.the-variants.{Sweep}
 use Rattle.clauses.proofs.Advancing.{stands-open, stands-done}
 use mathlib.Core.Bool.{true, false}
+use borrow.Author.Needs.{needs}
 use Rattle.sweep.proofs.answer_at.Statement.{statement}
 use Rattle.sweep.proofs.answer_at.Tie as tie
 use Rattle.sweep.proofs.answer_at.Reads as reads
 use Rattle.sweep.proofs.answer_at.Lts as lts
 
+opened-requires : tie.Need-opened-requires
+opened-requires c κs = search needs
+
 returns : tie.Need-returns
-returns c = λ t. let a = c .before .before .args in stands-open Sweep true false (a .counts) (a .k) (a .st) t (c .if1 .taken)
+returns c = λ t. rw (c .opened .ensures) (let a = c .before .before .before .args in stands-open Sweep true false (a .counts) (a .k) (a .st) t (c .before .if1 .taken))
+
+closed-requires : tie.Need-closed-requires
+closed-requires c κs = search needs
 
 returns-2 : tie.Need-returns-2
-returns-2 c = λ t. let a = c .before .before .args in stands-done Sweep true false (a .counts) (a .k) (a .st) t (c .if1 .left)
+returns-2 c = λ t. rw (c .closed .ensures) (let a = c .before .before .before .args in stands-done Sweep true false (a .counts) (a .k) (a .st) t (c .before .if1 .left))
 
 pub answer-at-spec : {M : Type 1} → statement M
-answer-at-spec = tie.close (tie.spec returns returns-2)
+answer-at-spec = tie.close (tie.spec opened-requires returns closed-requires returns-2)

@@ -1,18 +1,20 @@
--- `sweep::sweep` meets its contract. Assumes nothing.
-use Rattle.shape.proofs.Entering.{opens-entered, resumes-entered}
-use Rattle.sweep.proofs.Entering.{entered-ready, call-refused, call-opens, call-resumes}
-use Rattle.tables.specs.Tables.{Tables, tables}
-use mathlib.Core.Path.{sym, _∙_}
+-- `sweep::sweep` meets its contract: the call is its definition. Assumes nothing.
 use native.Mathlib.Omega.{arith}
+use mathlib.Core.Path.{sym, _∙_}
+use Rattle.tables.specs.Tables.{Tables, tables}
+use Rattle.entry.specs.declared.PassName.the-variants as own
+use Rattle.entry.proofs.Entering.{opens-entered, resumes-entered}
+use Rattle.clauses.proofs.Entered.{entered-cursor}
+use Rattle.sweep.proofs.Entering.{entered-ready, call-refused, call-opens, call-resumes}
 use borrow.Author.Needs.{needs}
 use Rattle.sweep.proofs.sweep.Statement.{statement}
 use Rattle.sweep.proofs.sweep.Tie as tie
 use Rattle.sweep.proofs.sweep.Reads as reads
 use Rattle.sweep.proofs.sweep.Lts as lts
-use Rattle.shape.proofs.entry_of.Reads as entry-of-reads
+use Rattle.entry.proofs.entry_of.Reads as entry-of-reads
 use Rattle.sweep.proofs.sweep_entered.Reads as sweep-entered-reads
 
--- the tables at entry
+-- the tables as they are lent
 abbrev lent : tie.Start → Tables
 lent s = tables (s .args .clauses .now) (s .args .literals .now) (s .args .variables .now) (s .args .times .now) (s .args .links .now)
 
@@ -26,15 +28,13 @@ enum-told : tie.Need-enum-told
 enum-told c = search needs
 
 sweep-entered-requires : tie.Need-sweep-entered-requires
-sweep-entered-requires c κs = let s = c .before .before .before .before .before .before .before .before .before in
-    entered-ready (opens-entered 3 (lent s) (s .args .st) (sym (c .before .before .before .before .entry-of .ensures) ∙ c .before .before .enum-told .given .1)) (λ z. omega arith)
+sweep-entered-requires c κs = let s = c .before .before .before .before .before .before .before .before .before in (entered-ready (opens-entered own.Sweep (lent s) (s .args .st) (sym (c .before .before .before .before .entry-of .ensures) ∙ c .before .before .enum-told .given .1)) tt, omega arith)
 
-enum-told-2 : tie.Need-enum-told-2
-enum-told-2 c = search needs
+enum-known-e-2 : tie.Need-enum-known-e-2
+enum-known-e-2 c = search needs
 
 sweep-entered-requires-2 : tie.Need-sweep-entered-requires-2
-sweep-entered-requires-2 c κs = let s = c .before .before .before .before .before .before .before .before .before in
-    entered-ready (resumes-entered 3 (lent s) (s .args .st) (sym (c .before .before .before .before .entry-of .ensures) ∙ c .before .before .enum-told2 .given .1)) (λ z. omega arith)
+sweep-entered-requires-2 c κs = let s = c .before .before .before .before .before .before .before .before .before .before in let e = c .before .before .before .e2 .given in let E = resumes-entered own.Sweep (lent s) (s .args .st) (e .0 .0) (e .0 .1 .0) (sym (c .before .before .before .before .before .entry-of .ensures) ∙ e .1) in (entered-ready E tt, omega (arith, entered-cursor E .0))
 
 same-length : tie.Need-same-length
 same-length c = search needs
@@ -43,7 +43,7 @@ same-length-2 : tie.Need-same-length-2
 same-length-2 c = search needs
 
 returns : tie.Need-returns
-returns c = call-refused (c .before .before .before .before .before .before .before .before .args .n) (lent (c .before .before .before .before .before .before .before .before)) (c .before .before .before .before .before .before .before .before .args .st) (c .before .before .before .entry-of .result) (c .before .before .before .entry-of .ensures) _ (c .before .e .given .1)
+returns c = let s = c .before .before .before .before .before .before .before .before in call-refused (s .args .n) (lent s) (s .args .st) (c .before .before .before .entry-of .result) (c .before .before .before .entry-of .ensures) (c .before .e .given .0 .0) (c .before .e .given .1)
 
 same-length-3 : tie.Need-same-length-3
 same-length-3 c = search needs
@@ -52,7 +52,7 @@ same-length-4 : tie.Need-same-length-4
 same-length-4 c = search needs
 
 returns-2 : tie.Need-returns-2
-returns-2 c = c .before .before .before .sweep-entered .ensures (c .before .before .before .before .before .before .before .before .before .before .before .before .before .args .variables .now) ∙ call-opens (c .before .before .before .before .before .before .before .before .before .before .before .before .before .args .n) (lent (c .before .before .before .before .before .before .before .before .before .before .before .before .before)) (c .before .before .before .before .before .before .before .before .before .before .before .before .before .args .st) (c .before .before .before .before .before .before .before .before .entry-of .result) (c .before .before .before .before .before .before .before .before .entry-of .ensures) (c .before .before .before .before .before .before .enum-told .given .1)
+returns-2 c = let s = c .before .before .before .before .before .before .before .before .before .before .before .before .before in c .before .before .before .sweep-entered .ensures (s .args .variables .now) ∙ call-opens (s .args .n) (lent s) (s .args .st) (c .before .before .before .before .before .before .before .before .entry-of .result) (c .before .before .before .before .before .before .before .before .entry-of .ensures) (c .before .before .before .before .before .before .enum-told .given .1)
 
 same-length-5 : tie.Need-same-length-5
 same-length-5 c = search needs
@@ -61,7 +61,7 @@ same-length-6 : tie.Need-same-length-6
 same-length-6 c = search needs
 
 returns-3 : tie.Need-returns-3
-returns-3 c = c .before .before .before .sweep-entered2 .ensures (c .before .before .before .before .before .before .before .before .before .before .before .before .before .args .variables .now) ∙ call-resumes (c .before .before .before .before .before .before .before .before .before .before .before .before .before .args .n) (lent (c .before .before .before .before .before .before .before .before .before .before .before .before .before)) (c .before .before .before .before .before .before .before .before .before .before .before .before .before .args .st) (c .before .before .before .before .before .before .before .before .entry-of .result) (c .before .before .before .before .before .before .before .before .entry-of .ensures) (c .before .before .before .before .before .before .enum-told2 .given .1)
+returns-3 c = let s = c .before .before .before .before .before .before .before .before .before .before .before .before .before .before in let e = c .before .before .before .before .before .before .before .e2 .given in c .before .before .before .sweep-entered2 .ensures (s .args .variables .now) ∙ call-resumes (s .args .n) (lent s) (s .args .st) (c .before .before .before .before .before .before .before .before .before .entry-of .result) (c .before .before .before .before .before .before .before .before .before .entry-of .ensures) (e .0 .0) (e .0 .1 .0) (e .1)
 
 pub sweep-spec : {M : Type 1} → statement M
 sweep-spec =
@@ -71,7 +71,7 @@ sweep-spec =
     enum-known-e
     enum-told
     sweep-entered-requires
-    enum-told-2
+    enum-known-e-2
     sweep-entered-requires-2
     same-length
     same-length-2

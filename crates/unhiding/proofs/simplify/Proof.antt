@@ -1,17 +1,18 @@
 -- `unhiding::simplify` meets its contract: a refused load is answered, and another is run and written. Assumes nothing.
 use mathlib.Core.Path.{_≡_, sym, ap, _∙_}
 use denote.Ref.{now}
+use Rattle.state.specs.States.{emptyState}
 use Rattle.state.specs.declared.State.{State}
 use Rattle.tables.specs.Tables.{tables}
-use Rattle.tables.specs.Calls.{after, emptyState}
+use Rattle.tables.specs.Calls.{after}
 use Rattle.load.specs.Load.{loadCall}
 use Rattle.unhiding.proofs.Simplified.{refused-load, kept-load, refused-fits}
 use borrow.Author.Needs.{needs}
 use Rattle.unhiding.proofs.simplify.Statement.{statement}
 use Rattle.unhiding.proofs.simplify.Tie as tie
 
-empty-state-requires : tie.Need-empty-state-requires
-empty-state-requires c κs = search needs
+empty-requires : tie.Need-empty-requires
+empty-requires c κs = search needs
 
 load-requires : tie.Need-load-requires
 load-requires c κs = search needs
@@ -40,7 +41,7 @@ returns c =
     let made = c .before .before .before .before .before .before .load in
     let before = tables (now (s .args .clauses)) (now (s .args .literals)) (now (s .args .variables)) (now (s .args .times)) (now (s .args .links)) in
     let left = tables (made .last .1 .0) (made .last .1 .1 .0) (made .last .1 .1 .1 .0) (now (s .args .times)) (now (s .args .links)) in
-    let loads : after (made .result) left ≡ loadCall (now (s .args .text)) before emptyState = made .ensures ∙ ap (λ (st : State). loadCall (now (s .args .text)) before st) (c .before .before .before .before .before .before .before .before .before .before .before .before .empty-state .ensures) in
+    let loads : after (made .result) left ≡ loadCall (now (s .args .text)) before emptyState = made .ensures ∙ ap (λ (st : State). loadCall (now (s .args .text)) before st) (c .before .before .before .before .before .before .before .before .before .before .before .before .empty .ensures) in
     let way = sym (c .before .is-refusal .ensures) ∙ c .if1 .taken in
     (refused-load (made .result) left _ (s .args .rounds) (now (s .args .out)) loads way, refused-fits (made .result .answer) _ way)
 
@@ -71,7 +72,7 @@ returns-2 c =
     let made = c .before .before .before .before .before .before .before .before .before .before .before .before .before .before .before .before .before .before .before .before .before .before .load in
     let before = tables (now (s .args .clauses)) (now (s .args .literals)) (now (s .args .variables)) (now (s .args .times)) (now (s .args .links)) in
     let left = tables (made .last .1 .0) (made .last .1 .1 .0) (made .last .1 .1 .1 .0) (now (s .args .times)) (now (s .args .links)) in
-    let loads : after (made .result) left ≡ loadCall (now (s .args .text)) before emptyState = made .ensures ∙ ap (λ (st : State). loadCall (now (s .args .text)) before st) (c .before .before .before .before .before .before .before .before .before .before .before .before .before .before .before .before .before .before .before .before .before .before .before .before .before .before .before .before .empty-state .ensures) in
+    let loads : after (made .result) left ≡ loadCall (now (s .args .text)) before emptyState = made .ensures ∙ ap (λ (st : State). loadCall (now (s .args .text)) before st) (c .before .before .before .before .before .before .before .before .before .before .before .before .before .before .before .before .before .before .before .before .before .before .before .before .before .before .before .before .empty .ensures) in
     let way = sym (c .before .before .before .before .before .before .before .before .before .before .before .before .before .before .before .before .before .is-refusal .ensures) ∙ c .before .before .before .before .before .before .before .before .before .before .before .before .before .before .before .before .if1 .left in
     (c .before .before .before .before .before .before .before .before .before .run-and-write .ensures .0 ∙ kept-load (made .result) left _ (s .args .rounds) (now (s .args .out)) loads way, c .before .before .before .before .before .before .before .before .before .run-and-write .ensures .1)
 
@@ -79,7 +80,7 @@ pub simplify-spec : {M : Type 1} → statement M
 simplify-spec =
     tie.close
     (tie.spec
-    empty-state-requires
+    empty-requires
     load-requires
     is-refusal-requires
     same-length

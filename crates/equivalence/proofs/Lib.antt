@@ -1,0 +1,9 @@
+pub mod Satisfying
+pub mod Records
+pub mod Stands
+pub mod Variables
+pub mod Ending
+pub mod Texts
+pub mod Refusing
+pub mod Lengths
+pub mod Answers

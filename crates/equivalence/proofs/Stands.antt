@@ -1,0 +1,71 @@
+-- THE THEOREM on Write: an assignment satisfies what stands exactly if it satisfies the clauses that Write gives. Under the mark none satisfies either. Assumes nothing.
+use Prim.Native.Nat.{ℕ, _+_, _<_}
+use native.Mathlib.Omega.{arith}
+use mathlib.Core.Path.{_≡_, refl, sym, subst}
+use mathlib.Core.Bool.{Bool, true, false, false≢true}
+use mathlib.Core.Logic.{_↔_}
+use mathlib.Core.List.{List, _++_}
+use lib.IntN.{ℤ, pos, negsuc}
+use Rattle.base.proofs.Booleans.{clash}
+use Rattle.literal.specs.Assignments.{Assignment, holds, someHolds, Satisfies}
+use Rattle.state.specs.declared.State.{State}
+use Rattle.tables.specs.Tables.{Tables, standing, classOf, valueOf}
+use Rattle.tables.specs.Clauses.{literalsOf}
+use Rattle.tables.specs.Stands.{Stands}
+use Rattle.shape.specs.Shape.{Shape}
+use Rattle.write.specs.Write.{writtenClauses}
+use Rattle.write.specs.Gathered.{gathered, unitAt, classAt, clauseAt, formula}
+use Rattle.write.proofs.Bounds.{ready}
+use Rattle.write.proofs.Text.{written-marked, written-unmarked}
+use Rattle.equivalence.proofs.Satisfying.{satisfies-both, satisfies-each, gathered-satisfies, satisfies-gathered}
+use Rattle.equivalence.proofs.Records.{unit-says, class-says, clause-says}
+
+module _ (t : Tables) (st : State) (S : Shape t st) (τ : Assignment) where
+  -- ---- the units, the class clauses and the standing clauses of all records
+
+  abbrev units : List (List ℤ)
+  units = gathered (unitAt (t .variables)) (st .v) 0
+
+  abbrev classes : List (List ℤ)
+  classes = gathered (classAt (t .variables)) (st .v) 0
+
+  abbrev clauses : List (List ℤ)
+  clauses = gathered (clauseAt (t .clauses) (t .literals)) (st .n) 0
+
+  unit-at : (w : ℕ) → w < st .v → Satisfies τ (unitAt (t .variables) w) ↔ ((valueOf (t .variables) (w + 1) ≡ pos 1 → τ (w + 1) ≡ true) × (valueOf (t .variables) (w + 1) ≡ negsuc 0 → τ (w + 1) ≡ false))
+  unit-at w h = unit-says τ (w + 1) (valueOf (t .variables) (w + 1)) (omega arith) (S .variables w h .value)
+
+  class-at : (w : ℕ) → w < st .v → Satisfies τ (classAt (t .variables) w) ↔ (τ (w + 1) ≡ holds τ (classOf (t .variables) (w + 1)))
+  class-at w h = class-says τ (w + 1) (classOf (t .variables) (w + 1)) (omega arith) (S .variables w h .class .above)
+
+  clause-at : (i : ℕ) → i < st .n → Satisfies τ (clauseAt (t .clauses) (t .literals) i) ↔ (standing (t .clauses) i ≡ 1 → someHolds τ (literalsOf (t .clauses) (t .literals) i) ≡ true)
+  clause-at i h = clause-says τ (standing (t .clauses) i) (literalsOf (t .clauses) (t .literals) i) (S .clauses .parts .flag i h)
+
+  formula-stands : st .mark ≡ false → Stands t st τ ↔ Satisfies τ (formula (t .clauses) (t .literals) (t .variables) (st .v) (st .n))
+  formula-stands off = (
+    λ s. satisfies-both τ units (classes ++ clauses)
+        (gathered-satisfies τ (unitAt (t .variables)) (st .v) (λ w h. unit-at w h .1 (s .truths w h, s .falsehoods w h)))
+        (satisfies-both τ classes clauses
+        (gathered-satisfies τ (classAt (t .variables)) (st .v) (λ w h. class-at w h .1 (s .classes w h)))
+        (gathered-satisfies τ (clauseAt (t .clauses) (t .literals)) (st .n) (λ i h. clause-at i h .1 (s .clauses i h)))),
+    λ s.
+        let front = satisfies-each τ units (classes ++ clauses) s in
+        let back = satisfies-each τ classes clauses (front .1) in
+        record {
+          unmarked = off;
+          clauses = λ i h. clause-at i h .0 (satisfies-gathered τ (clauseAt (t .clauses) (t .literals)) (st .n) (back .1) i h);
+          classes = λ w h. class-at w h .0 (satisfies-gathered τ (classAt (t .variables)) (st .v) (back .0) w h);
+          truths = λ w h. unit-at w h .0 (satisfies-gathered τ (unitAt (t .variables)) (st .v) (front .0) w h) .0;
+          falsehoods = λ w h. unit-at w h .0 (satisfies-gathered τ (unitAt (t .variables)) (st .v) (front .0) w h) .1;
+        },
+  )
+
+  -- ---- the clauses that Write gives
+
+  pub written-stands : Stands t st τ ↔ Satisfies τ (writtenClauses t st)
+  unfolding Satisfies
+  written-stands = go (st .mark) refl
+    where
+      go : (b : Bool) → st .mark ≡ b → Stands t st τ ↔ Satisfies τ (writtenClauses t st)
+      go true e = (λ s. clash e (s .unmarked), λ s. absurd (false≢true (subst (Satisfies τ) (written-marked t st e) s .0)))
+      go false e = subst (λ (cs : List (List ℤ)). Stands t st τ ↔ Satisfies τ cs) (sym (written-unmarked t st e (ready t st S))) (formula-stands e)

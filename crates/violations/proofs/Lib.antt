@@ -1,0 +1,11 @@
+pub mod Rising
+pub mod Words
+pub mod Ends
+pub mod Pieces
+pub mod Headers
+pub mod Wrong
+pub mod Grammar
+pub mod Limits
+pub mod Headed
+pub mod Smallest
+pub mod Cases
