@@ -1,0 +1,64 @@
+-- Examples by computation, under 1, −1, 2, −2, ..: P2's interval of 1 holds that of 2, P3's third clause is hidden, and a pair that the scan passes by. Assumes nothing.
+use Prim.Native.Nat.{ℕ}
+use native.Mathlib.Omega.{arith}
+use mathlib.Core.Path.{_≡_, refl}
+use mathlib.Core.List.{List, [], _∷_, List·Memᴰ·head, List·Memᴰ·tail}
+use lib.IntN.{pos, negsuc}
+use Rattle.base.specs.Lists.{any, filter, absent, evens, odds, interleave}
+use Rattle.literal.specs.Literals.{twin}
+use Rattle.walk.specs.Walk.{arrive, leave, edge, edges, enters, starts, stampAll}
+use Rattle.graph.specs.Edges.{outs}
+use Rattle.graph.specs.Clauses.{froms, tos}
+use Rattle.stamps.specs.Columns.{columns}
+use Rattle.hidden.specs.Hidden.{holds, insert, byDiscovery, passes, scanAt, scan, hiddenTautology, unhidden, shorten}
+use Rattle.tables.specs.Tables.{Tables, tables}
+use Rattle.tables.specs.Fates.{left, dropped}
+use Rattle.stamp.specs.Stamp.{stampsOf, stampedTables}
+use Rattle.sweep.specs.Sweep.{sweepClause}
+use Rattle.paper.specs.Records.{discovered, finished, parent, Holds, Ancestor, self, up}
+use Rattle.paper.specs.Sweeping.{HiddenPair}
+
+-- the records of clauses on v variables
+abbrev stamped : ℕ → List (List ℕ) → ℕ → List ℕ → Tables
+stamped v cs size order = stampedTables v (stampsOf cs size order) (tables [] [] [] [] [])
+
+-- P2: (−1 2)(−2 3)(1 3 4)
+abbrev p2 : Tables
+p2 = stamped 4 ((1 ∷ 2 ∷ []) ∷ (3 ∷ 4 ∷ []) ∷ (0 ∷ 4 ∷ 6 ∷ []) ∷ []) 8 (0 ∷ 1 ∷ 2 ∷ 3 ∷ 4 ∷ 5 ∷ 6 ∷ 7 ∷ [])
+
+intervals : (discovered p2 (pos 1) ≡ 1) × (finished p2 (pos 1) ≡ 6) × (discovered p2 (pos 2) ≡ 2) × (finished p2 (pos 2) ≡ 5) × (parent p2 (pos 2) ≡ pos 1)
+unfolding filter absent interleave twin arrive leave edge edges enters starts stampAll outs froms tos stampsOf stampedTables
+intervals = (refl, refl, refl, refl, refl)
+
+one-holds-two : Holds p2 (pos 1) (pos 2) × Ancestor p2 (pos 1) (pos 2)
+unfolding filter absent interleave twin arrive leave edge edges enters starts stampAll outs froms tos stampsOf stampedTables
+one-holds-two = ((omega arith, omega arith), up self)
+
+-- P3: (−1 2)(−2 3)(−1 3)
+abbrev p3 : Tables
+p3 = stamped 3 ((1 ∷ 2 ∷ []) ∷ (3 ∷ 4 ∷ []) ∷ (1 ∷ 4 ∷ []) ∷ []) 6 (0 ∷ 1 ∷ 2 ∷ 3 ∷ 4 ∷ 5 ∷ [])
+
+third-dropped : sweepClause (columns (p3 .times) (p3 .links)) (negsuc 0 ∷ pos 3 ∷ []) ≡ dropped
+unfolding filter absent evens odds interleave twin arrive leave edge edges enters starts stampAll outs froms tos stampsOf stampedTables insert byDiscovery passes scanAt scan hiddenTautology sweepClause
+third-dropped = refl
+
+third-hidden : HiddenPair p3 (negsuc 0 ∷ pos 3 ∷ [])
+unfolding filter absent interleave twin arrive leave edge edges enters starts stampAll outs froms tos stampsOf stampedTables
+third-hidden = record {
+  l = negsuc 0;
+  m = pos 3;
+  l-in = List·Memᴰ·head refl;
+  m-in = List·Memᴰ·tail (List·Memᴰ·head refl);
+  held = (omega arith, omega arith);
+  other = λ e. let z : _≡_ {A = ℕ} 0 1 = cc in omega arith;
+  no-parent = λ e. let z : _≡_ {A = ℕ} 1 2 = cc in omega arith;
+  reached = λ h lt. omega (arith, h .1);
+}
+
+-- (1 4)(−4 1)(1 3)(−3 2)(1 2): −1 holds 2 and is not its parent, but it holds 1 too, which was discovered before 2; there the scan passed −1 by, and (1 2) stays
+abbrev by : Tables
+by = stamped 4 ((0 ∷ 6 ∷ []) ∷ (7 ∷ 0 ∷ []) ∷ (0 ∷ 4 ∷ []) ∷ (5 ∷ 2 ∷ []) ∷ (0 ∷ 2 ∷ []) ∷ []) 8 (0 ∷ 1 ∷ 2 ∷ 3 ∷ 4 ∷ 5 ∷ 6 ∷ 7 ∷ [])
+
+passed-by : Holds by (negsuc 0) (pos 2) × (parent by (pos 2) ≡ pos 3) × Holds by (negsuc 0) (pos 1) × (sweepClause (columns (by .times) (by .links)) (pos 1 ∷ pos 2 ∷ []) ≡ left (pos 1 ∷ pos 2 ∷ []))
+unfolding any filter absent evens odds interleave twin arrive leave edge edges enters starts stampAll outs froms tos stampsOf stampedTables holds insert byDiscovery passes scanAt scan hiddenTautology unhidden shorten sweepClause
+passed-by = ((omega arith, omega arith), refl, (omega arith, omega arith), refl)

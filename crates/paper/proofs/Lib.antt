@@ -1,0 +1,12 @@
+pub mod Accepted
+pub mod Graph
+pub mod Walking
+pub mod Stamping
+pub mod StampAncestors
+pub mod Pairs
+pub mod Filters
+pub mod Fates
+pub mod Visits
+pub mod SweepVisit
+pub mod SweepCall
+pub mod Cases

@@ -1,0 +1,164 @@
+-- The records that a fit Stamp writes are what `StampedAs` says: the walk's, slot by slot, are those of literals. Assumes nothing.
+use Prim.Native.Nat.{ℕ, _*_, _<_}
+use native.Mathlib.Omega.{arith}
+use mathlib.Core.Path.{_≡_, refl, sym, ap, subst, _∙_}
+use mathlib.Core.Bool.{false}
+use mathlib.Core.Logic.{⊎-elim}
+use mathlib.Core.List.{List, map, List·Memᴰ}
+use lib.IntN.{ℤ}
+use Rattle.literal.specs.Literals.{Literal, slotOf, litAt}
+use Rattle.literal.proofs.Laws.{slot-below, slot-same, lit-slot}
+use Rattle.walk.specs.Walk.{Stamps}
+use Rattle.walk.specs.Forest.{dis, fin, par, top, Above, self, up, here, on, Top, Under}
+use Rattle.walk.specs.Forest as forest
+use Rattle.walk.proofs.Theorems.{Stamped, above-holds, holds-above, start-top, back-cycle, reach-down}
+use Rattle.graph.proofs.Implications.{no-self-edge}
+use Rattle.groups.specs.Groups.{cyclic}
+use Rattle.cycles.proofs.Forward.{cyclic-none}
+use Rattle.stamps.specs.Fresh.{FreshStamps}
+use Rattle.hidden.proofs.Agree.{Agree}
+use Rattle.hidden.proofs.Columns.{column-dis, column-fin, column-par, column-top}
+use Rattle.stamps.specs.Columns.{columns}
+use Rattle.state.specs.declared.State.{State}
+use Rattle.tables.specs.Tables.{Tables}
+use Rattle.pairs.proofs.Listing.{slots-in}
+use Rattle.stamping.specs.Stamping.{Proper}
+use Rattle.stamp.specs.Stamp.{stampedTables}
+use Rattle.stamp.proofs.Asking.{Known, known-proper}
+use Rattle.stamp.proofs.Writing.{full-lists}
+use Rattle.stamp.proofs.Freshness.{stamps-stamped, disc-size, fin-size, par-size, top-size}
+use Rattle.stamp.proofs.Shaped.{written-fresh}
+use Rattle.demand.proofs.Records.{stamped-agree}
+use Rattle.paper.specs.Records.{discovered, finished, parent, start, Holds, Ancestor}
+use Rattle.paper.specs.Records as records
+use Rattle.paper.specs.Edges.{Edge}
+use Rattle.paper.specs.Stamping.{clausesOf, edgesOf, walkOf, RecordOf, StampedAs}
+use Rattle.paper.proofs.Graph.{edge-literals, edge-slots, slots-edge, root-exact}
+use Rattle.paper.proofs.Walking.{stamps-walked}
+
+module _ {order : List ℤ} {t : Tables} {st : State} (K : Known order t st) (uncyclic : cyclic (edgesOf t st) (2 * st .v) ≡ false) where
+  abbrev σ : Stamps
+  σ = walkOf order t st
+
+  abbrev t′ : Tables
+  t′ = stampedTables (st .v) σ t
+
+  abbrev adj : ℕ → List ℕ
+  adj = edgesOf t st
+
+  P : Proper (st .v) (st .n) (t .clauses) (t .literals)
+  P = known-proper K
+
+  below : (c : List ℕ) → List·Memᴰ c (clausesOf t st) → (q : ℕ) → List·Memᴰ q c → q < 2 * st .v
+  below = slots-in (P .listed)
+
+  S : Stamped adj (2 * st .v) σ
+  S = stamps-stamped (clausesOf t st) (st .v) below (map slotOf order) (full-lists (K .full))
+
+  F : FreshStamps (st .v) (t′ .times) (t′ .links)
+  F = written-fresh K
+
+  slot : {p : ℤ} → Literal (st .v) p → slotOf p < 2 * st .v
+  slot {p} L = slot-below p (st .v) (L .above) (L .within)
+
+  on-walk : {p : ℤ} → Literal (st .v) p → 0 < dis σ (slotOf p)
+  on-walk {p} L = S .all (slotOf p) (slot L)
+
+  -- ---- the records
+
+  agree : Agree (2 * st .v) (columns (t′ .times) (t′ .links)) σ
+  agree = stamped-agree (st .v) σ t (disc-size P (K .full)) (fin-size P (K .full)) (par-size P (K .full)) (top-size P (K .full))
+
+  disc-is : (p : ℤ) → Literal (st .v) p → discovered t′ p ≡ dis σ (slotOf p)
+  disc-is p L = sym (column-dis (t′ .times) (t′ .links) (slotOf p)) ∙ agree .discoveries (slotOf p) (slot L)
+
+  fin-is : (p : ℤ) → Literal (st .v) p → finished t′ p ≡ fin σ (slotOf p)
+  fin-is p L = sym (column-fin (t′ .times) (t′ .links) (slotOf p)) ∙ agree .finishes (slotOf p) (slot L)
+
+  parent-slot : (p : ℤ) → Literal (st .v) p → slotOf (parent t′ p) ≡ par σ (slotOf p)
+  parent-slot p L = sym (column-par (t′ .times) (t′ .links) (slotOf p)) ∙ agree .parents (slotOf p) (slot L)
+
+  start-slot : (p : ℤ) → Literal (st .v) p → slotOf (start t′ p) ≡ top σ (slotOf p)
+  start-slot p L = sym (column-top (t′ .times) (t′ .links) (slotOf p)) ∙ agree .starts (slotOf p) (slot L)
+
+  parent-literal : (p : ℤ) → Literal (st .v) p → Literal (st .v) (parent t′ p)
+  parent-literal p L = F .parent-literal (slotOf p) (slot L)
+
+  start-literal : (p : ℤ) → Literal (st .v) p → Literal (st .v) (start t′ p)
+  start-literal p L = F .start-literal (slotOf p) (slot L)
+
+  record-of : (p : ℤ) → Literal (st .v) p → RecordOf σ t′ p
+  record-of p L = record {
+    discovery = disc-is p L;
+    finish = fin-is p L;
+    parent-is = sym (lit-slot (parent t′ p) (parent-literal p L .above)) ∙ ap litAt (parent-slot p L);
+    start-is = sym (lit-slot (start t′ p) (start-literal p L .above)) ∙ ap litAt (start-slot p L);
+  }
+
+  -- ---- ancestors
+
+  to-walk : (p q : ℤ) → Literal (st .v) p → Literal (st .v) q → Holds t′ p q → forest.Holds σ (slotOf p) (slotOf q)
+  to-walk p q Lp Lq h = (omega (arith, h .0, disc-is p Lp, disc-is q Lq), omega (arith, h .1, fin-is p Lp, fin-is q Lq))
+
+  of-walk : (p q : ℤ) → Literal (st .v) p → Literal (st .v) q → forest.Holds σ (slotOf p) (slotOf q) → Holds t′ p q
+  of-walk p q Lp Lq h = (omega (arith, h .0, disc-is p Lp, disc-is q Lq), omega (arith, h .1, fin-is p Lp, fin-is q Lq))
+
+  above-ancestor : {a b : ℕ} → Above σ a b → (p q : ℤ) → Literal (st .v) p → Literal (st .v) q → slotOf p ≡ a → slotOf q ≡ b → Ancestor t′ p q
+  above-ancestor self p q Lp Lq e f = subst (Ancestor t′ p) (slot-same p q (Lp .above) (Lq .above) (e ∙ sym f)) records.self
+  above-ancestor (up {b = b} h) p q Lp Lq e f = records.up (above-ancestor h p (parent t′ q) Lp (parent-literal q Lq) e (parent-slot q Lq ∙ ap (par σ) f))
+
+  ancestor-above : {p q : ℤ} → Ancestor t′ p q → Literal (st .v) q → Above σ (slotOf p) (slotOf q)
+  ancestor-above records.self L = self
+  ancestor-above {p} (records.up {q = q} h) L = up (subst (Above σ (slotOf p)) (parent-slot q L) (ancestor-above h (parent-literal q L)))
+
+  holds-ancestor : (p q : ℤ) → Literal (st .v) p → Literal (st .v) q → Holds t′ p q → Ancestor t′ p q
+  holds-ancestor p q Lp Lq h = above-ancestor (holds-above adj σ (S .forest) (on-walk Lp) (on-walk Lq) (to-walk p q Lp Lq h)) p q Lp Lq refl refl
+
+  ancestor-holds : (p q : ℤ) → Literal (st .v) p → Literal (st .v) q → Ancestor t′ p q → Holds t′ p q
+  ancestor-holds p q Lp Lq a = of-walk p q Lp Lq (above-holds adj σ (S .forest) (on-walk Lq) (ancestor-above a Lq) .1)
+
+  -- ---- parents and starts
+
+  parent-edge : (q : ℤ) → Literal (st .v) q → (parent t′ q ≡ q → ⊥) → Edge t (st .n) (parent t′ q) q
+  parent-edge q L other =
+      let Lp = parent-literal q L in
+      ⊎-elim
+      (λ (h : Top σ (slotOf q)). absurd (other (slot-same (parent t′ q) q (Lp .above) (L .above) (parent-slot q L ∙ h .parent))))
+      (λ (u : (p : ℕ) × Under adj σ (slotOf q) p).
+      slots-edge t st (K .shape) Lp L (subst (λ (x : ℕ). List·Memᴰ (slotOf q) (adj x)) (sym (parent-slot q L ∙ u .1 .parent)) (u .1 .edge)))
+      (S .forest .tree (slotOf q) (on-walk L))
+
+  start-own : (q : ℤ) → Literal (st .v) q → Ancestor t′ (start t′ q) q × (parent t′ (start t′ q) ≡ start t′ q)
+  start-own q L =
+      let Ls = start-literal q L in
+      let s = start-top adj σ (S .forest) (slotOf q) (on-walk L) in
+      let e = start-slot q L in (
+        holds-ancestor (start t′ q) q Ls L (of-walk (start t′ q) q Ls L (subst (λ (x : ℕ). forest.Holds σ x (slotOf q)) (sym e) (s .1))),
+        slot-same (parent t′ (start t′ q)) (start t′ q) (parent-literal (start t′ q) Ls .above) (Ls .above) (parent-slot (start t′ q) Ls ∙ ap (par σ) e ∙ s .2 .parent ∙ sym e),
+      )
+
+  -- ---- edges
+
+  edge-down : (p q : ℤ) → Edge t (st .n) p q → finished t′ q < finished t′ p
+  edge-down p q k =
+      let L = edge-literals t st (K .shape) k in
+      let m = edge-slots t st (K .shape) k in
+      let none = cyclic-none (clausesOf t st) (st .v) below uncyclic in
+      ⊎-elim
+      (λ (e : slotOf p ≡ slotOf q). absurd (no-self-edge (clausesOf t st) (P .once) (slotOf q) (subst (λ (x : ℕ). List·Memᴰ (slotOf q) (adj x)) e m)))
+      (λ (lt : fin σ (slotOf q) < fin σ (slotOf p)). omega (arith, lt, fin-is p (L .0), fin-is q (L .1)))
+      (reach-down adj σ (S .forest) (λ a b e i d h. let c = back-cycle adj σ (S .forest) a b e i h in none a b d (c .0) (c .1)) (on-walk (L .0)) (on here m))
+
+  pub stamped-as : StampedAs order t st t′
+  stamped-as = record {
+    listed = K .full;
+    graph = λ p q Lp Lq. (λ m. slots-edge t st (K .shape) Lp Lq m, λ k. edge-slots t st (K .shape) k);
+    roots = root-exact t st (K .shape);
+    walked = stamps-walked (clausesOf t st) (st .v) below (map slotOf order) (full-lists (K .full));
+    written = refl;
+    records = record-of;
+    ancestors = λ p q Lp Lq. (holds-ancestor p q Lp Lq, ancestor-holds p q Lp Lq);
+    parents = λ q L. (parent-literal q L, parent-edge q L);
+    starts = λ q L. let s = start-own q L in (start-literal q L, s .0, s .1);
+    edges = edge-down;
+  }

@@ -1,0 +1,6 @@
+pub mod Clauses
+pub mod Records
+pub mod Edges
+pub mod Figure1
+pub mod Stamping
+pub mod Sweeping
