@@ -7,6 +7,7 @@
  * Run:
  *     target/solver [FILE]
  */
+#include <errno.h>
 #include <stdio.h>
 #include <string.h>
 
@@ -17,25 +18,41 @@ static const char sample[] = "p cnf 4 3\n-1 2 0\n-2 3 0\n1 3 4 0\n";
 static uint8_t text[1 << 20];
 static uint8_t out[135184];
 
-/* The bytes of a file, as many as the buffer takes, or -1. */
+/* The bytes of a file, or -1, with the reason on standard error. */
 static long read_file(const char *name) {
+    errno = 0;
     FILE *file = fopen(name, "rb");
-    if (!file)
+    size_t length = file ? fread(text, 1, sizeof text, file) : 0;
+    if (!file || ferror(file)) {
+        fprintf(stderr, "cannot read %s: %s\n", name, strerror(errno));
+        if (file)
+            fclose(file);
         return -1;
-    size_t length = fread(text, 1, sizeof text, file);
-    int failed = ferror(file) || fgetc(file) != EOF;
+    }
+    int more = fgetc(file) != EOF;
     fclose(file);
-    return failed ? -1 : (long)length;
+    if (more) {
+        fprintf(stderr, "cannot read %s: it is longer than %zu bytes\n", name, sizeof text);
+        return -1;
+    }
+    return (long)length;
+}
+
+/* Prints the bytes; whether all of them were taken. */
+static int print_all(const uint8_t *bytes, size_t length) {
+    errno = 0;
+    if (fwrite(bytes, 1, length, stdout) == length && fflush(stdout) == 0)
+        return 1;
+    fprintf(stderr, "cannot write: %s\n", strerror(errno));
+    return 0;
 }
 
 int main(int argc, char **argv) {
     long length = sizeof sample - 1;
     if (argc > 1) {
         length = read_file(argv[1]);
-        if (length < 0) {
-            fprintf(stderr, "cannot read %s\n", argv[1]);
+        if (length < 0)
             return 2;
-        }
     } else {
         memcpy(text, sample, sizeof sample - 1);
     }
@@ -44,6 +61,5 @@ int main(int argc, char **argv) {
         printf("refused %lld\n", (long long)-result);
         return 1;
     }
-    fwrite(out, 1, (size_t)result, stdout);
-    return 0;
+    return print_all(out, (size_t)result) ? 0 : 2;
 }

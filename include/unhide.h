@@ -13,7 +13,8 @@ extern "C" {
  *
  * `text` holds `text_len` bytes: at most 1,024 variables, 4,096 clauses and 16,384 literals. It is only read.
  * `out` is a buffer of `out_len` bytes that does not overlap `text`. Bytes behind the text that is written stay as they were,
- * and after a refusal all bytes do. No text that is written is longer than 135,184 bytes.
+ * and after a refusal all bytes do. No text that is written is longer than 135,184 bytes, so an output of that size is never too short
+ * (proved: law `answers`, crate `equivalence`).
  * Neither pointer may be null, not even with a length of 0.
  *
  * Returns the length written, or a refusal as a negative number:
@@ -22,6 +23,7 @@ extern "C" {
  *         or has more or fewer clauses than its header says
  *   -10   the output is shorter than the text to write
  * The other refusals of the library, -1 and -4 to -9, are about tables, passes and stamps that a caller lends; here none of these is lent.
+ * The same law says that nothing else is returned.
  *
  * A formula that has an empty clause is written without a round, as `p cnf V 1` and the clause `0`; a formula that turns out
  * to have no satisfying assignment is written alike.
