@@ -1,6 +1,7 @@
 -- What the call on texts does, over any tables that are long enough. A text that is refused is answered by its refusal. Else what stands after the load and the run, which a marked load goes without, is written:
 -- it keeps V and the shape rule, and the same assignments satisfy it as the text's clauses. Assumes nothing.
 use Prim.Native.Nat.{ℕ}
+use native.Mathlib.Omega.{arith}
 use mathlib.Core.Path.{_≡_, sym, ap, _∙_, subst}
 use mathlib.Core.Bool.{Bool, true, false}
 use mathlib.Core.Logic.{_↔_}
@@ -8,6 +9,7 @@ use mathlib.Core.List.{List, []}
 use Rattle.base.specs.Decide.{says-yes}
 use Rattle.literal.specs.Assignments.{Assignment, Satisfies}
 use Rattle.state.specs.States.{emptyState}
+use Rattle.state.proofs.Numbers.{number-bounds}
 use Rattle.state.specs.declared.Refusal.{Refusal}
 use Rattle.state.specs.declared.Answer.the-variants as answer
 use Rattle.tables.specs.Tables.{Tables}
@@ -27,7 +29,7 @@ use Rattle.roundtrip.proofs.Reread.{text-loads}
 use Rattle.settle.specs.Settle.{Standing}
 use Rattle.unhiding.specs.Lists.{stepsOn}
 use Rattle.unhiding.specs.Texts.{runUnless, simplifyLoaded, simplifyIn}
-use Rattle.unhiding.proofs.Simplified.{refusal-refuses, refused-load}
+use Rattle.unhiding.proofs.Simplified.{refused-load}
 use Rattle.represented.proofs.Loaded.{load-held}
 use Rattle.represented.proofs.Demand3.{demand-3, steps-held}
 use Rattle.represented.proofs.Running.{run-calls, run-keeps}
@@ -54,7 +56,7 @@ module _ (t : Tables) (L : Long t) (text : List ℕ) (count : ℕ) where
   unfolding loadCall
   refused-text r e out =
       let loads : loaded ≡ refuse r emptyState t = rw (long-enough t L, loadCall) (ap (λ (x : Verdict). loadBy x (textClauses text) t emptyState) e) in
-      sym (refused-load (record { answer = answer.Refused r; state = emptyState }) t loaded count out (sym loads) (sym (refusal-refuses r)))
+      sym (refused-load (record { answer = answer.Refused r; state = emptyState }) t loaded count out (sym loads) (λ z. omega (arith, number-bounds r, z)))
 
   -- ---- a text that is accepted
 

@@ -1,6 +1,6 @@
 -- THE THEOREM on texts: where the call on texts answers a length, the bytes that it wrote are the text of clauses which have the satisfying assignments of those that were read; so has what the program prints, unless that is a
 -- refusal. Where these clauses are within the limits of a load, the text is accepted, and reading it back gives the same assignments. Assumes nothing.
-use Prim.Native.Nat.{ℕ, zero, suc, _≤_}
+use Prim.Native.Nat.{ℕ, zero, suc, _≤_, _<_}
 use native.Mathlib.Omega.{arith}
 use mathlib.Core.Path.{_≡_, refl, sym, ap, _∙_, subst}
 use mathlib.Core.Bool.{Bool, true, false, false≢true}
@@ -11,7 +11,7 @@ use lib.Seq.{take-at}
 use lib.Dec.{leb, ltb}
 use lib.IntN.{ℤ, pos}
 use Rattle.literal.specs.Assignments.{Assignment, Satisfies}
-use Rattle.state.specs.Answers.{refusalNumber, refusalPlace, resultBy}
+use Rattle.state.specs.Answers.{refusalNumber, refusalPlace, resultBy, firstValue}
 use Rattle.state.specs.declared.Refusal.the-variants.{Short}
 use Rattle.state.specs.declared.Answer.the-variants as answer
 use Rattle.state.specs.declared.Answer.the-variants.{Written}
@@ -27,8 +27,9 @@ use Rattle.write.specs.Write.{AfterWrite, afterWrite, writtenClauses, writeText
 use Rattle.roundtrip.proofs.Accepted.{text-within}
 use Rattle.roundtrip.proofs.ReadBack.{bodyAt, judged, read-back}
 use Rattle.roundtrip.proofs.Written.{written-in}
-use Rattle.unhiding.specs.Texts.{emptyTables, simplifyIn, simplifyText, refuses, placeIn, resultOf, refusedLine, shown, shownAfter, unhideText}
-use Rattle.unhiding.proofs.Simplified.{refusal-refuses}
+use Rattle.printing.specs.Printing.{refusedLine}
+use Rattle.unhiding.specs.Texts.{emptyTables, simplifyIn, simplifyText, resultOf, shown, shownAfter, unhideText}
+use Rattle.state.proofs.Numbers.{number-bounds}
 use Rattle.equivalence.specs.Equivalent.{Equivalent}
 use Rattle.equivalence.specs.Returns.{RefusalLine}
 use Rattle.equivalence.proofs.Stands.{written-stands}
@@ -53,8 +54,8 @@ module _ {input text : List ℕ} (E : Equivalent input text) (clauses : length (
 -- ---- the call on texts
 
 -- a refusal's result is no length
-refused-result : (number place k : ℕ) → refuses number ≡ true → resultBy number place ≡ pos k → ⊥
-refused-result zero place k r e = false≢true r
+refused-result : (number place k : ℕ) → 0 < number → resultBy number place ≡ pos k → ⊥
+refused-result zero place k r e = omega arith
 refused-result (suc number) place k r e = let z : _≡_ {A = ℕ} 0 1 = cc in omega arith
 
 -- a text that was written stands in the output's first bytes
@@ -93,7 +94,7 @@ module _ (t : Tables) (L : Long t) (text : List ℕ) (count : ℕ) where
 
       go : (x : Verdict) → judgeText text ≡ x → resultOf (left .reply) ≡ pos k → Equivalent text (take k (left .out))
       go (Refused r) e q =
-          absurd (refused-result (refusalNumber r) (refusalPlace r) k (sym (refusal-refuses r)) (ap (λ (a : AfterWrite). resultOf (a .reply)) (sym (refused-text t L text count r e out)) ∙ q))
+          absurd (refused-result (refusalNumber r) (refusalPlace r) k (number-bounds r .0) (ap (λ (a : AfterWrite). resultOf (a .reply)) (sym (refused-text t L text count r e out)) ∙ q))
       go (Fits v n body) e q =
           let a : After = endFrom t text count in
           let w = accepted-text t L text count v n body e out in
@@ -120,9 +121,9 @@ simplified-equivalent text count out k e = text-equivalent emptyTables empty-lon
 shown-equivalent : (input : List ℕ) (a : AfterWrite) → ((k : ℕ) → resultOf (a .reply) ≡ pos k → Equivalent input (take k (a .out))) → RefusalLine (shownAfter a) ⊎ Equivalent input (shownAfter a)
 shown-equivalent input a wrote = go (a .reply .number) wrote
   where
-    go : (m : ℕ) → ((k : ℕ) → resultBy m (placeIn (a .reply .values)) ≡ pos k → Equivalent input (take k (a .out))) → RefusalLine (shown m (a .reply .values) (a .out)) ⊎ Equivalent input (shown m (a .reply .values) (a .out))
-    go zero w = inr (w (placeIn (a .reply .values)) refl)
-    go (suc m) w = inl (record { number = suc m; place = placeIn (a .reply .values); line = refl })
+    go : (m : ℕ) → ((k : ℕ) → resultBy m (firstValue (a .reply .values)) ≡ pos k → Equivalent input (take k (a .out))) → RefusalLine (shown m (a .reply .values) (a .out)) ⊎ Equivalent input (shown m (a .reply .values) (a .out))
+    go zero w = inr (w (firstValue (a .reply .values)) refl)
+    go (suc m) w = inl (record { number = suc m; place = firstValue (a .reply .values); line = refl })
 
 -- it prints a refusal, or such a text
 pub printed : (input : List ℕ) → RefusalLine (unhideText input) ⊎ Equivalent input (unhideText input)

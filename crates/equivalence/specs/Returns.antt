@@ -3,7 +3,7 @@ use Prim.Native.Nat.{ℕ, _≤_, _<_}
 use mathlib.Core.Path.{_≡_}
 use mathlib.Core.List.{List}
 use lib.IntN.{ℤ, pos, negsuc}
-use Rattle.unhiding.specs.Texts.{refusedLine}
+use Rattle.printing.specs.Printing.{refusedLine}
 
 -- no text that is written is longer: the header has at most 16 bytes, the class clauses of each of 1,024 variables 28 (a variable with a unit, of 8, has none), 16,384 standing literals 6 each, and the ends of 4,096 standing clauses 2 each
 abbrev pub longest : ℕ

@@ -6,7 +6,6 @@ use mathlib.Core.Bool.{Bool, true, false}
 use mathlib.Core.List.{List}
 use lib.IntN.{ℤ}
 use Rattle.stamps.specs.Columns.{columns}
-use Rattle.state.specs.States.{closed, marked}
 use Rattle.state.specs.declared.State.{State}
 use Rattle.state.specs.declared.Pass.the-variants.{Idle}
 use Rattle.state.specs.declared.Refusal.{Refusal}
@@ -20,7 +19,7 @@ use Rattle.entry.specs.declared.Opening.{Opening}
 use Rattle.entry.specs.declared.Opening.the-variants.{Denied, Granted}
 use Rattle.entry.proofs.Entering.{granted-entered}
 use Rattle.clauses.proofs.Entered.{entered-formed}
-use Rattle.failed.specs.Failed.{Found, found, failedFrom, withVariables, failedReply, failedFresh, unlessStale, failedBy, failedCall}
+use Rattle.failed.specs.Failed.{Found, found, failedFrom, withVariables, stateAfter, failedReply, failedFresh, unlessStale, failedBy, failedCall}
 use Rattle.failed.specs.Steps.{foundOf, Stamped, Callable}
 use Rattle.failed.specs.declared.Tally.{Tally}
 
@@ -31,18 +30,9 @@ shape-stamped S f = record { few = S .v-limit; times-room = S .long .times; link
 -- ---- the answer
 
 module _ (t : Tables) (st : State) (r : Tally) (vs : List ℤ) (is : foundOf r vs ≡ failedFrom (columns (t .times) (t .links)) (2 * st .v) (st .v) 0 (found (t .variables) 0 false)) where
-  abbrev replyBy : Bool → After
-  replyBy b = answered (Failed (r .set)) (elim b [ true ↦ marked st | false ↦ closed true st ]) (withVariables vs t)
-
-  reply-is : replyBy (r .opposite) ≡ failedFresh t st
+  pub fresh-replied : answered (Failed (r .set)) (stateAfter (r .opposite) st) (withVariables vs t) ≡ failedFresh t st
   unfolding failedFresh
-  reply-is = ap (λ (f : Found). failedReply f t st) is
-
-  pub fresh-opposite : r .opposite ≡ true → answered (Failed (r .set)) (marked st) (withVariables vs t) ≡ failedFresh t st
-  fresh-opposite o = ap replyBy (sym o) ∙ reply-is
-
-  pub fresh-done : r .opposite ≡ false → answered (Failed (r .set)) (closed true st) (withVariables vs t) ≡ failedFresh t st
-  fresh-done o = ap replyBy (sym o) ∙ reply-is
+  fresh-replied = ap (λ (f : Found). failedReply f t st) is
 
 -- ---- fresh or not
 

@@ -47,9 +47,12 @@ failedFrom σ size (suc m) w f = elim (f .opposite) [ true ↦ f | false ↦ fai
 abbrev pub withVariables : List ℤ → Tables → Tables
 withVariables variables t = tables (t .clauses) (t .literals) variables (t .times) (t .links)
 
+-- the opposite value sets the mark; otherwise the stamps stay fresh
+abbrev pub stateAfter : Bool → State → State
+stateAfter opposite st = elim opposite [ true ↦ marked st | false ↦ closed true st ]
+
 abbrev pub failedReply : Found → Tables → State → After
-failedReply f t st =
-    answered (Failed (f .set)) (elim (f .opposite) [ true ↦ marked st | false ↦ closed true st ]) (withVariables (f .variables) t)
+failedReply f t st = answered (Failed (f .set)) (stateAfter (f .opposite) st) (withVariables (f .variables) t)
 
 unfoldable pub failedFresh : Tables → State → After
 failedFresh t st = failedReply (failedFrom (columns (t .times) (t .links)) (2 * st .v) (st .v) 0 (found (t .variables) 0 false)) t st

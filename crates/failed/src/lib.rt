@@ -17,7 +17,7 @@ ghost use Rattle.hidden.specs.Failed.{sameStart, failedSlot};
 ghost use Rattle.tables.specs.Lent.{lent, returned, unlent};
 ghost use Rattle.tables.specs.Calls.{after};
 ghost use Rattle.clauses.specs.Formed.{Variables, Known};
-ghost use Rattle.failed.specs.Failed.{found, assert, failedAt, failedFrom, failedFresh, unlessStale, failedCall};
+ghost use Rattle.failed.specs.Failed.{found, assert, failedAt, failedFrom, failedFresh, unlessStale, failedCall, stateAfter};
 ghost use Rattle.failed.specs.Steps.{foundOf, root, Rooted, Stamped, Shared, Failable, Callable};
 
 // How many values were set, and whether the opposite value was met.
@@ -135,6 +135,16 @@ fn fail_from(variables: &mut [i32], times: &[u32], links: &[i32], v: u32) -> Tal
     }
 }
 
+// No assignment is left where the opposite value was there: the mark, which spends the stamps.
+fn state_after(st: State, opposite: bool) -> State
+    ensures { λ r. ⌜ r ≡ stateAfter opposite st ⌝ }
+{
+    if opposite {
+        return st.marked();
+    }
+    st.closed(true)
+}
+
 // The call on fresh stamps, for every content of the clause and literal tables, which it does not read.
 pub fn failed_fresh(variables: &mut [i32], times: &[u32], links: &[i32], st: State) -> Outcome
     requires { ⌜ Stamped (st .v) (now times) (now links) × Variables (st .v) (now variables) ⌝ }
@@ -142,18 +152,11 @@ pub fn failed_fresh(variables: &mut [i32], times: &[u32], links: &[i32], st: Sta
         ≡ failedFresh (lent (unlent clauses) (unlent literals) variables times links) st) ⌝ }
 {
     let v = st.v;
-    let t = fail_from(variables, times, links, v);
-    let set = t.set;
-    if t.opposite {
-        // no assignment is left: the mark, which spends the stamps
-        return Outcome {
-            answer: Answer::Failed(set),
-            state: st.marked(),
-        };
-    }
+    let tally = fail_from(variables, times, links, v);
+    let state = state_after(st, tally.opposite);
     Outcome {
-        answer: Answer::Failed(set),
-        state: st.closed(true),
+        answer: Answer::Failed(tally.set),
+        state,
     }
 }
 

@@ -6,15 +6,17 @@ use native.Mathlib.Nat.{add-zero}
 use mathlib.Core.Path.{_≡_, refl, sym, ap, _∙_}
 use mathlib.Core.Bool.{Bool, true, false}
 use mathlib.Core.List.{List, [], _∷_, _++_}
-use lib.ListN.{length, getD, drop, set, length-append, length-set, drop-of-length-le}
-use lib.Seq.{sets, length-sets, drop-cons}
+use mathlib.Core.Logic.{⊎-elim}
+use lib.ListN.{length, getD, take, drop, set, length-append, length-set, drop-of-length-le}
+use lib.Seq.{sets, length-sets, sets-eq, take-at, drop-cons}
 use lib.IntN.{ℤ, pos, natAbs}
 use lib.Signed.{nonNeg}
 use lib.Dec.{ltb}
 use borrow.Author.Tests.{lt-ltb, le-ltb, ltb-false}
+use Rattle.base.specs.Decide.{le-or}
 use Rattle.dimacs.specs.Header.{pCnf}
 use Rattle.printing.specs.Stored.{Stored}
-use Rattle.printing.specs.Printing.{digitsBy, digits, literalText, clauseText, headerText}
+use Rattle.printing.specs.Printing.{digitsBy, digits, literalText, clauseText, lineText, headerText, refusedWord, refusedLine}
 
 pub sets-append : (l : List ℕ) (i : ℕ) (xs ys : List ℕ) → sets l i (xs ++ ys) ≡ sets (sets l i xs) (i + length xs) ys
 sets-append l i [] ys = rw (add-zero i)
@@ -159,6 +161,27 @@ copying-end {s} {at} {out₀} {i} {next} {out} c h =
     let e : drop i s ≡ [] = drop-of-length-le s h in
     record { next = omega (arith, c .size, ap length e); stored = sym (ap (sets out next) e) ∙ c .left }
 
+pub line-length : (word : List ℕ) (a b : ℕ) → length (lineText word a b) ≡ length word + length (digits a) + 1 + length (digits b) + 1
+line-length word a b =
+    omega (arith, length-append word (digits a ++ (32 ∷ (digits b ++ (10 ∷ [])))), length-append (digits a) (32 ∷ (digits b ++ (10 ∷ []))), length-append (digits b) (10 ∷ []))
+
 pub header-length : (v n : ℕ) → length (headerText v n) ≡ 6 + length (digits v) + 1 + length (digits n) + 1
-header-length v n =
-    omega (arith, length-append pCnf (digits v ++ (32 ∷ (digits n ++ (10 ∷ [])))), length-append (digits v) (32 ∷ (digits n ++ (10 ∷ []))), length-append (digits n) (10 ∷ []))
+header-length v n = line-length pCnf v n
+
+-- a number below 10, 100, 1,000, .. has at most 1, 2, 3, .. digits
+pub digits-within : (k n : ℕ) → n < 10 ^ suc k → length (digits n) ≤ suc k
+digits-within zero n h = omega (arith, ap length (digits-small n (omega arith)))
+digits-within (suc k) n h = ⊎-elim
+    (λ (m : 10 ≤ n). let q : n / 10 < 10 ^ suc k = omega arith in omega (arith, digits-length n m, digits-within k (n / 10) q))
+    (λ (m : n < 10). omega (arith, ap length (digits-small n m)))
+    (le-or 10 n)
+
+-- a line of two numbers below 2^64 is short
+pub refusal-short : (number place : ℕ) → number < 2 ^ 64 → place < 2 ^ 64 → length (refusedLine number place) ≤ 50
+refusal-short number place h k = omega (arith, line-length refusedWord number place, digits-within 19 number (omega arith), digits-within 19 place (omega arith))
+
+-- what was stored from the front on is the front
+pub stored-front : {bytes out out′ : List ℕ} {r : ℕ} → Stored bytes 0 out out′ r → length bytes ≤ length out → (r ≡ length bytes) × (take r out′ ≡ bytes)
+stored-front {bytes} {out} {out′} {r} S h =
+    let e : r ≡ length bytes = omega (arith, S .next) in
+    (e, ap (λ (k : ℕ). take k out′) e ∙ ap (take (length bytes)) (S .stored ∙ sets-eq bytes out 0 (omega arith)) ∙ take-at bytes (drop (0 + length bytes) out) (length bytes) refl)

@@ -29,9 +29,21 @@ unfoldable pub clausesText : List (List ℤ) → List ℕ
 clausesText [] = []
 clausesText (c ∷ cs) = clauseText c ++ clausesText cs
 
+-- a word, two numbers with a space between them, and LF
+abbrev pub lineText : List ℕ → ℕ → ℕ → List ℕ
+lineText word a b = word ++ (digits a ++ (32 ∷ (digits b ++ (10 ∷ []))))
+
 -- the line `p cnf v n`
 abbrev pub headerText : ℕ → ℕ → List ℕ
-headerText v n = pCnf ++ (digits v ++ (32 ∷ (digits n ++ (10 ∷ []))))
+headerText v n = lineText pCnf v n
+
+-- "refused "
+abbrev pub refusedWord : List ℕ
+refusedWord = 114 ∷ 101 ∷ 102 ∷ 117 ∷ 115 ∷ 101 ∷ 100 ∷ 32 ∷ []
+
+-- document 01: "`refused`, the number and the place in decimal, single spaces between, LF"
+abbrev pub refusedLine : ℕ → ℕ → List ℕ
+refusedLine number place = lineText refusedWord number place
 
 -- the header with the number of clauses that follow, and the clauses
 unfoldable pub textOf : ℕ → List (List ℤ) → List ℕ

@@ -1,11 +1,11 @@
-// The text of literals, clauses and the header. A function here stores its bytes from `at` on, as far as `out` reaches, and gives the
+// The text of literals, clauses, the header and a refusal. A function here stores its bytes from `at` on, as far as `out` reaches, and gives the
 // place behind them; on an empty `out` it only measures.
 ghost use mathlib.Core.Path.{_≡_};
 ghost use Prim.Native.Nat.{_+_, _<_, _^_};
 ghost use lib.ListN.{length, set};
 ghost use lib.Seq.{sets};
 ghost use Rattle.literal.specs.Literals.{Small};
-ghost use Rattle.printing.specs.Printing.{digits, literalText, clauseText, headerText};
+ghost use Rattle.printing.specs.Printing.{digits, literalText, clauseText, lineText, headerText, refusedLine};
 ghost use Rattle.printing.specs.Stored.{Stored, EachSmall};
 
 fn put_byte(out: &mut [u8], at: usize, b: u8) -> usize
@@ -20,7 +20,7 @@ fn put_byte(out: &mut [u8], at: usize, b: u8) -> usize
 }
 
 // The decimal digits of n; one call for each digit.
-fn put_number(out: &mut [u8], at: usize, n: u32) -> usize
+fn put_number(out: &mut [u8], at: usize, n: u64) -> usize
     requires { ⌜ at + length (digits n) < 2 ^ 63 ⌝ }
     ensures { λ r. ⌜ (r ≡ at + length (digits n)) × (now (out .exit) ≡ sets (now (out .entry)) at (digits n)) ⌝ }
 {
@@ -37,9 +37,9 @@ fn put_literal(out: &mut [u8], at: usize, l: i32) -> usize
 {
     if l < 0 {
         let next = put_byte(out, at, b'-');
-        return put_number(out, next, (-l) as u32);
+        return put_number(out, next, (-l) as u64);
     }
-    put_number(out, at, l as u32)
+    put_number(out, at, l as u64)
 }
 
 // Each literal and a space, then `0` and LF.
@@ -71,14 +71,30 @@ fn put_text(out: &mut [u8], at: usize, s: &[u8]) -> usize
     next
 }
 
+// A word, and two numbers with a space between them: a whole line.
+fn put_line(out: &mut [u8], at: usize, word: &[u8], a: u64, b: u64) -> usize
+    requires { ⌜ at + length (lineText (now word) a b) < 2 ^ 63 ⌝ }
+    ensures { λ r. ⌜ Stored (lineText (now (word .entry)) a b) at (now (out .entry)) (now (out .exit)) r ⌝ }
+{
+    let first = put_text(out, at, word);
+    let space = put_number(out, first, a);
+    let second = put_byte(out, space, b' ');
+    let end = put_number(out, second, b);
+    put_byte(out, end, b'\n')
+}
+
 // The line `p cnf V N`.
 pub fn put_header(out: &mut [u8], at: usize, v: u32, n: u32) -> usize
     requires { ⌜ at + length (headerText v n) < 2 ^ 63 ⌝ }
     ensures { λ r. ⌜ Stored (headerText v n) at (now (out .entry)) (now (out .exit)) r ⌝ }
 {
-    let variables = put_text(out, at, b"p cnf ");
-    let space = put_number(out, variables, v);
-    let clauses = put_byte(out, space, b' ');
-    let end = put_number(out, clauses, n);
-    put_byte(out, end, b'\n')
+    put_line(out, at, b"p cnf ", v as u64, n as u64)
+}
+
+// The line `refused NUMBER PLACE`.
+pub fn put_refusal(out: &mut [u8], at: usize, number: u64, place: u64) -> usize
+    requires { ⌜ at + length (refusedLine number place) < 2 ^ 63 ⌝ }
+    ensures { λ r. ⌜ Stored (refusedLine number place) at (now (out .entry)) (now (out .exit)) r ⌝ }
+{
+    put_line(out, at, b"refused ", number, place)
 }

@@ -54,6 +54,11 @@ replyOf (Failed set) = reply 5 0 (set ∷ [])
 replyOf (Ran rounds) = reply 6 0 (rounds ∷ [])
 replyOf (Written length) = reply 7 0 (length ∷ [])
 
+-- the first of the values: a refusal's place, the length written, ..; 0 where there is none
+abbrev pub firstValue : List ℕ → ℕ
+firstValue [] = 0
+firstValue (value ∷ _) = value
+
 -- what a function for C returns: a number, or the refusal's number, negative; by the number of the reply, which is 0 where nothing is refused
 abbrev pub resultBy : ℕ → ℕ → ℤ
 resultBy zero v = pos v

@@ -1,7 +1,7 @@
 // The types that all calls share: the state that goes with the tables, the refusals, and the answers.
 ghost use mathlib.Core.Path.{_≡_};
-ghost use Prim.Native.Nat.{ℕ};
-ghost use Rattle.state.specs.Answers.{refusalNumber, refusalPlace, resultBy};
+ghost use Prim.Native.Nat.{_-_, _^_, _≤_};
+ghost use Rattle.state.specs.Answers.{refusalNumber, refusalPlace, replyOf, firstValue, resultBy};
 ghost use Rattle.state.specs.States.{loadedState, emptyState, opened, closed, marked};
 
 // The pass that is open, with its cursor: the number of clauses visited in this time through. Propagate has a change flag besides.
@@ -134,13 +134,6 @@ impl Refusal {
             Refusal::Short(needed) => needed as u64,
         }
     }
-
-    // The number as a function for C returns it: negative.
-    pub fn result(self) -> i64
-        ensures { λ r. ⌜ ((v : ℕ) → r ≡ resultBy (refusalNumber self) v) ⌝ }
-    {
-        -(self.number() as i64)
-    }
 }
 
 // What a call of a resumable pass did: visits made, clauses gone and literals gone.
@@ -168,8 +161,47 @@ pub enum Answer {
     Written(usize),
 }
 
+impl Answer {
+    // The refusal's number, 0 where nothing is refused.
+    pub fn number(self) -> u64
+        ensures { λ r. ⌜ (r ≡ replyOf self .number) × (r ≤ 10) ⌝ }
+    {
+        if let Answer::Refused(refusal) = self {
+            return refusal.number();
+        }
+        0
+    }
+
+    // The first value: a refusal's place, the visits made, the length written; 0 where there is none.
+    pub fn value(self) -> u64
+        ensures { λ r. ⌜ r ≡ firstValue (replyOf self .values) ⌝ }
+    {
+        match self {
+            Answer::Refused(refusal) => refusal.place(),
+            Answer::Loaded => 0,
+            Answer::Open(counts) => counts.visits as u64,
+            Answer::Done(counts) => counts.visits as u64,
+            Answer::Stamped => 0,
+            Answer::Failed(set) => set as u64,
+            Answer::Ran(rounds) => rounds as u64,
+            Answer::Written(length) => length as u64,
+        }
+    }
+}
+
 // An answer and the state after it.
 pub struct Outcome {
     pub answer: Answer,
     pub state: State,
+}
+
+// What a function for C returns: a value, or the refusal's number, negative.
+pub fn result(number: u64, value: u64) -> i64
+    requires { ⌜ (number ≤ 10) × (number ≡ 0 → value ≤ 2 ^ 63 - 1) ⌝ }
+    ensures { λ r. ⌜ r ≡ resultBy number value ⌝ }
+{
+    if number == 0 {
+        return value as i64;
+    }
+    -(number as i64)
 }

@@ -2,19 +2,18 @@
 -- "`unhide` reads standard input, runs one round (none if the load set the mark) and prints what Write gives into 65,536 bytes. More than 65,535 bytes of input are refused unread with 3 at 65,535. ..
 -- On a refusal it prints `refused`, the number and the place in decimal, single spaces between, LF." Assumes nothing: these are definitions.
 use Prim.Native.Nat.{ℕ, zero, suc, _≤_}
+use mathlib.Core.Path.{_≡_}
 use mathlib.Core.Bool.{Bool, true, false}
-use mathlib.Core.List.{List, [], _∷_, _++_}
+use mathlib.Core.List.{List}
 use lib.ListN.{take, replicate, length}
 use lib.Dec.{ltb}
 use lib.IntN.{ℤ, pos}
 use Rattle.state.specs.States.{emptyState}
-use Rattle.state.specs.Answers.{Reply, resultBy}
-use Rattle.state.specs.declared.Answer.{Answer}
-use Rattle.state.specs.declared.Answer.the-variants.{Refused, Loaded, Open, Done, Stamped, Failed, Ran, Written}
+use Rattle.state.specs.Answers.{Reply, firstValue, resultBy}
 use Rattle.tables.specs.Tables.{Tables, tables}
 use Rattle.tables.specs.Calls.{After}
 use Rattle.load.specs.Load.{loadCall}
-use Rattle.printing.specs.Printing.{digits}
+use Rattle.printing.specs.Printing.{refusedLine}
 use Rattle.write.specs.Write.{AfterWrite, writeCall}
 use Rattle.run.specs.Run.{runCall}
 
@@ -26,11 +25,6 @@ emptyTables = tables (replicate 12288 0) (replicate 16384 (pos 0)) (replicate 20
 abbrev pub writeAfter : ℕ → After → List ℕ → AfterWrite
 writeAfter zero a out = writeCall (a .tables) (a .state) out
 writeAfter (suc number) a out = record { reply = a .reply; out = out }
-
--- a reply is a refusal exactly if it has a number
-abbrev pub refuses : ℕ → Bool
-refuses zero = false
-refuses (suc number) = true
 
 -- a marked load is written without a run
 abbrev pub runUnless : Bool → ℕ → After → After
@@ -50,38 +44,19 @@ simplifyText text count out = simplifyIn emptyTables text count out
 
 -- ---- the C call
 
--- the place of a refusal, or the length written
-abbrev pub placeIn : List ℕ → ℕ
-placeIn [] = 0
-placeIn (place ∷ _) = place
-
 -- the refusal's number, negative, or the length written
 abbrev pub resultOf : Reply → ℤ
-resultOf r = resultBy (r .number) (placeIn (r .values))
+resultOf r = resultBy (r .number) (firstValue (r .values))
 
 -- the length written, if one is, lies within an output of so many bytes
-abbrev pub fits : Answer → ℕ → Type 0
-fits (Refused r) n = Unit {0}
-fits Loaded n = Unit {0}
-fits (Open counts) n = Unit {0}
-fits (Done counts) n = Unit {0}
-fits Stamped n = Unit {0}
-fits (Failed set) n = Unit {0}
-fits (Ran rounds) n = Unit {0}
-fits (Written length) n = length ≤ n
+abbrev pub fits : Reply → ℕ → Type 0
+fits r n = r .number ≡ 0 → firstValue (r .values) ≤ n
 
 -- ---- the program
 
--- "refused "
-abbrev pub refusedWord : List ℕ
-refusedWord = 114 ∷ 101 ∷ 102 ∷ 117 ∷ 115 ∷ 101 ∷ 100 ∷ 32 ∷ []
-
-abbrev pub refusedLine : ℕ → ℕ → List ℕ
-refusedLine number place = refusedWord ++ (digits number ++ (32 ∷ (digits place ++ (10 ∷ []))))
-
 abbrev pub shown : ℕ → List ℕ → List ℕ → List ℕ
-shown zero values out = take (placeIn values) out
-shown (suc number) values out = refusedLine (suc number) (placeIn values)
+shown zero values out = take (firstValue values) out
+shown (suc number) values out = refusedLine (suc number) (firstValue values)
 
 abbrev pub shownAfter : AfterWrite → List ℕ
 shownAfter a = shown (a .reply .number) (a .reply .values) (a .out)

@@ -1,30 +1,14 @@
 // The call on texts: a formula is loaded, simplified and written in one call, on tables of its own.
 ghost use mathlib.Core.Path.{_≡_};
-ghost use Prim.Native.Nat.{_-_, _^_};
 ghost use lib.ListN.{length};
 ghost use Rattle.state.specs.Answers.{replyOf};
 ghost use Rattle.tables.specs.Lent.{lent, returned};
 ghost use Rattle.tables.specs.Calls.{after};
 ghost use Rattle.write.specs.Write.{afterWrite};
-ghost use Rattle.unhiding.specs.Texts.{refuses, runUnless, writeAfter, simplifyIn, simplifyText, resultOf, fits};
+ghost use Rattle.unhiding.specs.Texts.{runUnless, writeAfter, simplifyIn, simplifyText, resultOf, fits};
 use state::Answer;
 use state::Outcome;
 use state::State;
-
-fn is_refusal(answer: Answer) -> bool
-    ensures { λ r. ⌜ r ≡ refuses (replyOf answer .number) ⌝ }
-{
-    match answer {
-        Answer::Refused(_) => true,
-        Answer::Loaded => false,
-        Answer::Open(_) => false,
-        Answer::Done(_) => false,
-        Answer::Stamped => false,
-        Answer::Failed(_) => false,
-        Answer::Ran(_) => false,
-        Answer::Written(_) => false,
-    }
-}
 
 // A marked load is not run.
 fn run_loaded(
@@ -59,7 +43,7 @@ fn run_and_write(
 ) -> Answer
     ensures { λ r. ⌜ afterWrite r (now (out .exit))
         ≡ writeAfter 0 (runUnless (loaded .state .mark) rounds (after loaded (lent clauses literals variables times links))) (now (out .entry)) ⌝ }
-    ensures { λ r. ⌜ fits r (length (now (out .entry))) ⌝ }
+    ensures { λ r. ⌜ fits (replyOf r) (length (now (out .entry))) ⌝ }
 {
     let ran = run_loaded(clauses, literals, variables, times, links, loaded, rounds);
     let st = ran.state;
@@ -78,12 +62,12 @@ fn simplify(
     links: &mut [i32],
 ) -> Answer
     ensures { λ r. ⌜ afterWrite r (now (out .exit)) ≡ simplifyIn (lent clauses literals variables times links) (now (text .entry)) rounds (now (out .entry)) ⌝ }
-    ensures { λ r. ⌜ fits r (length (now (out .entry))) ⌝ }
+    ensures { λ r. ⌜ fits (replyOf r) (length (now (out .entry))) ⌝ }
 {
     let st = State::empty();
     let loaded = load::load(text, clauses, literals, variables, times, links, st);
     let answer = loaded.answer;
-    if is_refusal(answer) {
+    if answer.number() != 0 {
         return answer;
     }
     run_and_write(
@@ -101,7 +85,7 @@ fn simplify(
 // The text simplified in so many rounds, written into the output.
 pub fn simplify_text(text: &[u8], rounds: u16, out: &mut [u8]) -> Answer
     ensures { λ r. ⌜ afterWrite r (now (out .exit)) ≡ simplifyText (now (text .entry)) rounds (now (out .entry)) ⌝ }
-    ensures { λ r. ⌜ fits r (length (now (out .entry))) ⌝ }
+    ensures { λ r. ⌜ fits (replyOf r) (length (now (out .entry))) ⌝ }
 {
     let mut clauses: [u32; 12288] = [0; 12288];
     let mut literals: [i32; 16384] = [0; 16384];
@@ -122,23 +106,6 @@ pub fn simplify_text(text: &[u8], rounds: u16, out: &mut [u8]) -> Answer
 
 // ---- the call from C
 
-// The length written, or the refusal's number, negative. A length that fits into an i64 is asked for; the other answers are not given by a call on a text.
-fn result_of(answer: Answer) -> i64
-    requires { ⌜ fits answer (2 ^ 63 - 1) ⌝ }
-    ensures { λ r. ⌜ r ≡ resultOf (replyOf answer) ⌝ }
-{
-    match answer {
-        Answer::Refused(refusal) => refusal.result(),
-        Answer::Loaded => 0,
-        Answer::Open(counts) => counts.visits as i64,
-        Answer::Done(counts) => counts.visits as i64,
-        Answer::Stamped => 0,
-        Answer::Failed(set) => set as i64,
-        Answer::Ran(rounds) => rounds as i64,
-        Answer::Written(length) => length as i64,
-    }
-}
-
 // Text, round count and output buffer; the length written or the refusal's number, negative.
 #[no_mangle]
 pub extern "C" fn unhide_text(text: &[u8], rounds: u16, out: &mut [u8]) -> i64
@@ -146,5 +113,5 @@ pub extern "C" fn unhide_text(text: &[u8], rounds: u16, out: &mut [u8]) -> i64
     ensures { λ _. ⌜ now (out .exit) ≡ simplifyText (now (text .entry)) rounds (now (out .entry)) .out ⌝ }
 {
     let answer = simplify_text(text, rounds, out);
-    result_of(answer)
+    state::result(answer.number(), answer.value())
 }

@@ -1,6 +1,6 @@
 -- The clauses that Write gives are of the variables 1 to V, and their text is short: a literal takes at most 6 bytes with its space, and the standing clauses have at most 16,384 literals, since no two parts overlap.
 -- Assumes nothing.
-use Prim.Native.Nat.{ℕ, zero, suc, _+_, _*_, _/_, _^_, _≤_, _<_}
+use Prim.Native.Nat.{ℕ, zero, suc, _+_, _*_, _^_, _≤_, _<_}
 use native.Mathlib.Omega.{arith}
 use mathlib.Core.Path.{_≡_, refl, ap}
 use mathlib.Core.Bool.{Bool, true, false}
@@ -18,21 +18,13 @@ use Rattle.tables.specs.Tables.{Tables, startOf, lengthOf, standing, classOf, v
 use Rattle.tables.specs.Clauses.{literalsOf}
 use Rattle.shape.specs.Shape.{Parts, Shape}
 use Rattle.printing.specs.Printing.{literalText, clauseText, clausesText, headerText, digits}
-use Rattle.printing.proofs.Storing.{digits-small, digits-length, header-length}
+use Rattle.printing.proofs.Storing.{digits-within, header-length}
 use Rattle.write.specs.Writable.{InClause, InClauses, total}
 use Rattle.write.specs.Gathered.{gathered, unitFor, classFor, clauseFor, unitAt, classAt, clauseAt}
 use Rattle.write.specs.Ready.{Ready}
 use Rattle.write.proofs.Gathering.{gathered-every}
 
 -- ---- a number and its digits
-
--- a number below 10, 100, 1,000, .. has at most 1, 2, 3, .. digits
-digits-within : (k n : ℕ) → n < 10 ^ suc k → length (digits n) ≤ suc k
-digits-within zero n h = omega (arith, ap length (digits-small n (omega arith)))
-digits-within (suc k) n h = ⊎-elim
-    (λ (m : 10 ≤ n). let q : n / 10 < 10 ^ suc k = omega arith in omega (arith, digits-length n m, digits-within k (n / 10) q))
-    (λ (m : n < 10). omega (arith, ap length (digits-small n m)))
-    (le-or 10 n)
 
 pub digits-four : (n : ℕ) → n < 10000 → length (digits n) ≤ 4
 digits-four n h = digits-within 3 n h

@@ -1,12 +1,13 @@
 -- `unhiding::simplify` meets its contract: a refused load is answered, and another is run and written. Assumes nothing.
 use mathlib.Core.Path.{_≡_, sym, ap, _∙_}
 use denote.Ref.{now}
+use Rattle.state.specs.Answers.{replyOf}
 use Rattle.state.specs.States.{emptyState}
 use Rattle.state.specs.declared.State.{State}
 use Rattle.tables.specs.Tables.{tables}
 use Rattle.tables.specs.Calls.{after}
 use Rattle.load.specs.Load.{loadCall}
-use Rattle.unhiding.proofs.Simplified.{refused-load, kept-load, refused-fits}
+use Rattle.unhiding.proofs.Simplified.{refused-load, kept-load}
 use borrow.Author.Needs.{needs}
 use Rattle.unhiding.proofs.simplify.Statement.{statement}
 use Rattle.unhiding.proofs.simplify.Tie as tie
@@ -17,8 +18,8 @@ empty-requires c κs = search needs
 load-requires : tie.Need-load-requires
 load-requires c κs = search needs
 
-is-refusal-requires : tie.Need-is-refusal-requires
-is-refusal-requires c κs = search needs
+number-requires : tie.Need-number-requires
+number-requires c κs = search needs
 
 same-length : tie.Need-same-length
 same-length c = search needs
@@ -42,8 +43,8 @@ returns c =
     let before = tables (now (s .args .clauses)) (now (s .args .literals)) (now (s .args .variables)) (now (s .args .times)) (now (s .args .links)) in
     let left = tables (made .last .1 .0) (made .last .1 .1 .0) (made .last .1 .1 .1 .0) (now (s .args .times)) (now (s .args .links)) in
     let loads : after (made .result) left ≡ loadCall (now (s .args .text)) before emptyState = made .ensures ∙ ap (λ (st : State). loadCall (now (s .args .text)) before st) (c .before .before .before .before .before .before .before .before .before .before .before .before .empty .ensures) in
-    let way = sym (c .before .is-refusal .ensures) ∙ c .if1 .taken in
-    (refused-load (made .result) left _ (s .args .rounds) (now (s .args .out)) loads way, refused-fits (made .result .answer) _ way)
+    let way : replyOf (made .result .answer) .number ≡ 0 → ⊥ = λ z. c .if1 .taken (c .before .number .ensures .0 ∙ z) in
+    (refused-load (made .result) left _ (s .args .rounds) (now (s .args .out)) loads way, λ z. absurd (way z))
 
 run-and-write-requires : tie.Need-run-and-write-requires
 run-and-write-requires c κs = search needs
@@ -73,7 +74,7 @@ returns-2 c =
     let before = tables (now (s .args .clauses)) (now (s .args .literals)) (now (s .args .variables)) (now (s .args .times)) (now (s .args .links)) in
     let left = tables (made .last .1 .0) (made .last .1 .1 .0) (made .last .1 .1 .1 .0) (now (s .args .times)) (now (s .args .links)) in
     let loads : after (made .result) left ≡ loadCall (now (s .args .text)) before emptyState = made .ensures ∙ ap (λ (st : State). loadCall (now (s .args .text)) before st) (c .before .before .before .before .before .before .before .before .before .before .before .before .before .before .before .before .before .before .before .before .before .before .before .before .before .before .before .before .empty .ensures) in
-    let way = sym (c .before .before .before .before .before .before .before .before .before .before .before .before .before .before .before .before .before .is-refusal .ensures) ∙ c .before .before .before .before .before .before .before .before .before .before .before .before .before .before .before .before .if1 .left in
+    let way = sym (c .before .before .before .before .before .before .before .before .before .before .before .before .before .before .before .before .before .number .ensures .0) ∙ c .before .before .before .before .before .before .before .before .before .before .before .before .before .before .before .before .if1 .left in
     (c .before .before .before .before .before .before .before .before .before .run-and-write .ensures .0 ∙ kept-load (made .result) left _ (s .args .rounds) (now (s .args .out)) loads way, c .before .before .before .before .before .before .before .before .before .run-and-write .ensures .1)
 
 pub simplify-spec : {M : Type 1} → statement M
@@ -82,7 +83,7 @@ simplify-spec =
     (tie.spec
     empty-requires
     load-requires
-    is-refusal-requires
+    number-requires
     same-length
     same-length-2
     same-length-3

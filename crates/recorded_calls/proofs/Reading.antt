@@ -1,0 +1,111 @@
+-- Propagate, Merge, Failed and Sweep leave the stamps, and so does a load. Assumes nothing.
+use Prim.Native.Nat.{ℕ, _-_, min}
+use mathlib.Core.Path.{_≡_, refl, sym, subst}
+use mathlib.Core.Bool.{Bool, true, false}
+use mathlib.Core.List.{List}
+use lib.IntN.{ℤ}
+use Rattle.state.specs.declared.State.{State}
+use Rattle.state.specs.declared.Refusal.the-variants.{Shape}
+use Rattle.state.specs.declared.Pass.{Pass}
+use Rattle.state.specs.declared.Pass.the-variants.{Merge, Sweep}
+use Rattle.stamps.specs.Columns.{columns}
+use Rattle.tables.specs.Tables.{Tables}
+use Rattle.tables.specs.Fates.{Fate}
+use Rattle.tables.specs.Passes.{advance}
+use Rattle.tables.specs.Long.{longOk}
+use Rattle.tables.specs.Calls.{After, refuse}
+use Rattle.entry.specs.Entry.{entryOf, openingOf}
+use Rattle.entry.specs.declared.PassName.the-variants as own
+use Rattle.entry.specs.declared.Entry.{Entry}
+use Rattle.entry.specs.declared.Entry.the-variants.{No, Opens, Resumes}
+use Rattle.entry.specs.declared.Opening.{Opening}
+use Rattle.entry.specs.declared.Opening.the-variants.{Denied, Granted}
+use Rattle.entry.proofs.Entering.{opens-entered, resumes-entered}
+use Rattle.clauses.proofs.Entered.{entered-formed, entered-cursor}
+use Rattle.clauses.proofs.Advancing.{advance-cases}
+use Rattle.clauses.proofs.Visiting.{SameStamps, stamps-same, Shrinks, visits-beside}
+use Rattle.dimacs.specs.Text.{judgeText, bodyOf}
+use Rattle.dimacs.specs.declared.Verdict.{Verdict}
+use Rattle.dimacs.specs.declared.Verdict.the-variants as verdict
+use Rattle.load.specs.Load.{laid, loadBy, loadCall}
+use Rattle.propagate.specs.Propagate.{Progress, going, begin, propagateVisits, propagateFrom, propagateBy, propagateCall}
+use Rattle.propagate.proofs.Stepping.{Good}
+use Rattle.propagate.proofs.Shaped.{tablesAt, begin-tables, begin-good, replied-tables, visits-stamps}
+use Rattle.merge.specs.Merge.{mergedClasses, mergeClause, mergeOpen, mergeBy, mergeCall}
+use Rattle.merge.proofs.Visiting.{merge-shrinks}
+use Rattle.merge.proofs.Calling.{open-cases, settled-cases}
+use Rattle.failed.specs.Failed.{failedFresh, failedBy, failedCall}
+use Rattle.failed.specs.Failed as failing
+use Rattle.sweep.specs.Sweep.{sweepClause, sweepBy, sweepCall}
+use Rattle.sweep.specs.Sweep as sweeping
+use Rattle.sweep.proofs.Visiting.{sweep-shrinks}
+
+abbrev pub Reads : Tables → After → Type 0
+Reads t a = SameStamps t (a .tables)
+
+advance-reads : (pass : ℕ → Pass) (a b : Bool) (rule : List ℤ → Fate) → ((C : List ℤ) → Shrinks (rule C)) → (steps k : ℕ) (t : Tables) (st : State) → Reads t (advance rule pass a b steps k t st)
+advance-reads pass a b rule shrinks steps k t st =
+    let S = visits-beside rule shrinks (min steps (st .n - k)) k t .stamps in
+    advance-cases pass a b rule steps k t st (Reads t) (λ counts lt. S) (λ counts done. S)
+
+pub load-reads : (text : List ℕ) (t : Tables) (st : State) → Reads t (loadCall text t st)
+unfolding loadCall laid
+load-reads text t st = by (longOk t) (judgeText text)
+  where
+    by : (b : Bool) (x : Verdict) → Reads t (elim b as (λ y. After) [ true ↦ loadBy x (bodyOf text x) t st | false ↦ refuse Shape st t ])
+    by true (verdict.Refused r) = stamps-same t
+    by true (verdict.Fits v n body) = record { times = refl; links = refl }
+    by false x = stamps-same t
+
+pub propagate-reads : (steps : ℕ) (t : Tables) (st : State) → Reads t (propagateCall steps t st)
+unfolding propagateCall propagateFrom
+propagate-reads steps t st = by (entryOf own.Propagate t st) refl
+  where
+    from : (fresh : Bool) (p : Progress) → Good (st .v) (st .n) p → tablesAt p ≡ t → Reads t (propagateFrom fresh steps p t st)
+    from fresh p G e =
+        let q = propagateVisits (st .n) steps 0 p in
+        subst (SameStamps t) (sym (replied-tables fresh (t .clauses) st (q .visits) (q .progress))) (subst (λ (x : Tables). SameStamps x (tablesAt (q .progress))) e (visits-stamps (st .v) (st .n) steps 0 p G))
+
+    by : (e : Entry) → entryOf own.Propagate t st ≡ e → Reads t (propagateBy e steps t st)
+    by (No r) q = stamps-same t
+    by Opens q = from false (begin (st .n) t) (begin-good (st .v) (st .n) t (entered-formed (opens-entered own.Propagate t st q) tt)) (begin-tables (st .n) t)
+    by (Resumes k changed) q = let E = resumes-entered own.Propagate t st k changed q in from (st .fresh) (going k changed t) (entered-formed E tt, entered-cursor E .0) refl
+
+pub merge-reads : (steps : ℕ) (t : Tables) (st : State) → Reads t (mergeCall steps t st)
+unfolding mergeCall mergedClasses
+merge-reads steps t st = by (entryOf own.Merge t st)
+  where
+    opened : Reads t (mergeOpen steps t st)
+    opened =
+        open-cases steps st t (Reads t) (λ e. stamps-same t)
+        (λ e. let u = mergedClasses (st .v) (st .n) t in let S = advance-reads Merge false false (mergeClause (u .variables)) (merge-shrinks (u .variables)) steps 0 u st in record { times = S .times; links = S .links })
+
+    by : (e : Entry) → Reads t (mergeBy e steps t st)
+    by (No r) = stamps-same t
+    by Opens = settled-cases steps st t (Reads t) (stamps-same t) (λ e. opened)
+    by (Resumes k changed) = advance-reads Merge (st .fresh) (st .fresh) (mergeClause (t .variables)) (merge-shrinks (t .variables)) steps k t st
+
+pub failed-reads : (t : Tables) (st : State) → Reads t (failedCall t st)
+unfolding failedCall failedFresh
+failed-reads t st = by (openingOf t st)
+  where
+    unless : (b : Bool) → Reads t (failing.unlessStale b t st)
+    unless true = record { times = refl; links = refl }
+    unless false = stamps-same t
+
+    by : (o : Opening) → Reads t (failedBy o t st)
+    by (Denied r) = stamps-same t
+    by Granted = unless (st .fresh)
+
+pub sweep-reads : (steps : ℕ) (t : Tables) (st : State) → Reads t (sweepCall steps t st)
+unfolding sweepCall
+sweep-reads steps t st = by (entryOf own.Sweep t st)
+  where
+    unless : (b : Bool) (k : ℕ) → Reads t (sweeping.unlessStale b steps k t st)
+    unless true k = let σ = columns (t .times) (t .links) in advance-reads Sweep true false (sweepClause σ) (sweep-shrinks σ) steps k t st
+    unless false k = stamps-same t
+
+    by : (e : Entry) → Reads t (sweepBy e steps t st)
+    by (No r) = stamps-same t
+    by Opens = unless (st .fresh) 0
+    by (Resumes k changed) = unless (st .fresh) k
