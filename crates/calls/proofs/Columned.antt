@@ -1,4 +1,4 @@
--- The call of `records::columns_of` as the walk of every call makes it: what is passed, what is asked, and what is known of the result. The slice r is lent for the lifetime κ, of which the caller has the share q. Assumes nothing.
+-- The call of `stamp_records::columns_of` as the walk of every call makes it: what is passed, what is asked, and what is known of the result. The slice r is lent for the lifetime κ, of which the caller has the share q. Assumes nothing.
 use mathlib.Core.Path.{_≡_}
 use Prim.Native.Nat.{min}
 use mathlib.Core.List.{List, [], _∷_}
@@ -22,12 +22,12 @@ use denote.Triple.Statement.{Contract}
 use denote.Triple.Clauses.{ensured, lasts}
 use denote.Triple.Entry.{onEntry}
 use denote.Triple.Spec.{tripleOf}
-use Rattle.records.specs.declared.StampRecord.{StampRecord}
-use Rattle.records.specs.declared.Columns.{Columns}
-use Rattle.records.specs.Records.{timesOf, linksOf, heldTimes, heldLinks}
-use Rattle.records.proofs.StampRecord as T
-use Rattle.records.proofs.Columns as K
-use Rattle.records.proofs.columns_of as co
+use Rattle.stamp_records.specs.declared.StampRecord.{StampRecord}
+use Rattle.stamp_records.specs.declared.Columns.{Columns}
+use Rattle.stamp_records.specs.Records.{timesOf, linksOf, heldTimes, heldLinks}
+use Rattle.stamp_records.proofs.StampRecord as T
+use Rattle.stamp_records.proofs.Columns as K
+use Rattle.stamp_records.proofs.columns_of as co
 
 -- the records' type
 abbrev pub R : RattleType

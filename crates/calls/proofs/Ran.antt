@@ -10,10 +10,10 @@ use Rattle.state.specs.declared.State.{State}
 use Rattle.state.specs.declared.Outcome.{Outcome}
 use Rattle.state.specs.declared.Refusal.{Refusal}
 use Rattle.state.specs.declared.Answer.the-variants.{Refused}
-use Rattle.records.specs.declared.StampRecord.{StampRecord}
-use Rattle.records.specs.Records.{timesOf, linksOf, recordsIn}
-use Rattle.records.proofs.Over.{length-pairs}
-use Rattle.records.proofs.Packed.{packed-own, columns-records, columns-packed, over-past}
+use Rattle.stamp_records.specs.declared.StampRecord.{StampRecord}
+use Rattle.stamp_records.specs.Records.{timesOf, linksOf, recordsIn}
+use Rattle.stamp_records.proofs.Over.{length-pairs}
+use Rattle.stamp_records.proofs.Packed.{packed-own, columns-records, columns-packed, over-past}
 use Rattle.tables.specs.Calls.{After, after, refuse}
 use Rattle.run.specs.Run.{runCall}
 use Rattle.calls.specs.Calls.{recorded, AfterRun, afterRun, runInRecords}

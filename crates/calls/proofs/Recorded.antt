@@ -8,16 +8,16 @@ use mathlib.Core.List.{List, map}
 use lib.IntN.{ℤ}
 use lib.ListN.{length, take, drop, length-take}
 use Rattle.literal.specs.Literals.{slotOf}
-use Rattle.graph.specs.Clauses.{implications}
-use Rattle.groups.specs.Groups.{cyclic}
+use Rattle.implications.specs.Clauses.{implications}
+use Rattle.scc.specs.Groups.{cyclic}
 use Rattle.state.specs.declared.State.{State}
 use Rattle.state.specs.declared.Outcome.{Outcome}
 use Rattle.state.specs.declared.Refusal.{Refusal}
 use Rattle.state.specs.declared.Answer.the-variants.{Refused}
-use Rattle.records.specs.declared.StampRecord.{StampRecord}
-use Rattle.records.specs.Records.{timesOf, linksOf, recordsIn}
-use Rattle.records.proofs.Over.{length-pairs}
-use Rattle.records.proofs.Packed.{packed-own, columns-records, columns-packed, over-past}
+use Rattle.stamp_records.specs.declared.StampRecord.{StampRecord}
+use Rattle.stamp_records.specs.Records.{timesOf, linksOf, recordsIn}
+use Rattle.stamp_records.proofs.Over.{length-pairs}
+use Rattle.stamp_records.proofs.Packed.{packed-own, columns-records, columns-packed, over-past}
 use Rattle.tables.specs.Tables.{Tables}
 use Rattle.tables.specs.Clauses.{slotsFrom}
 use Rattle.tables.specs.Calls.{After, after, refuse}

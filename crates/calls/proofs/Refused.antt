@@ -8,7 +8,7 @@ use lib.ListN.{length}
 use Rattle.state.specs.declared.State.{State}
 use Rattle.state.specs.declared.Answer.the-variants.{Refused}
 use Rattle.state.specs.declared.Refusal.the-variants.{Shape}
-use Rattle.records.specs.declared.StampRecord.{StampRecord}
+use Rattle.stamp_records.specs.declared.StampRecord.{StampRecord}
 use Rattle.tables.specs.Tables.{Tables}
 use Rattle.tables.specs.Calls.{After, refuse}
 use Rattle.entry.specs.declared.PassName.the-variants as own

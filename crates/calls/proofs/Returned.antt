@@ -1,4 +1,4 @@
--- The call of `records::put_columns` as the walks of `stamp` and `run` make it with what their call on columns gave: what is passed, what is asked, and what is known of the records after it. The slice r is lent for the lifetime κ, of which the caller has the share q. Assumes nothing.
+-- The call of `stamp_records::put_columns` as the walks of `stamp` and `run` make it with what their call on columns gave: what is passed, what is asked, and what is known of the records after it. The slice r is lent for the lifetime κ, of which the caller has the share q. Assumes nothing.
 use mathlib.Core.Path.{_≡_, sym, _∙_, subst}
 use Prim.Native.Nat.{ℕ, _≤_, min}
 use native.Mathlib.Nat.{min-le-left, min-le-right}
@@ -26,12 +26,12 @@ use denote.Triple.Spec.{tripleOf}
 use denote.Triple.Walked.{says}
 use Rattle.state.proofs.Outcome as Re
 use Rattle.state.proofs.Outcome.Laws as Re′
-use Rattle.records.specs.declared.StampRecord.{StampRecord}
-use Rattle.records.specs.declared.Columns.{Columns}
-use Rattle.records.specs.Records.{packed, heldTimes, heldLinks}
-use Rattle.records.proofs.Columns as K
-use Rattle.records.proofs.Columns.Laws as K′
-use Rattle.records.proofs.put_columns as pu
+use Rattle.stamp_records.specs.declared.StampRecord.{StampRecord}
+use Rattle.stamp_records.specs.declared.Columns.{Columns}
+use Rattle.stamp_records.specs.Records.{packed, heldTimes, heldLinks}
+use Rattle.stamp_records.proofs.Columns as K
+use Rattle.stamp_records.proofs.Columns.Laws as K′
+use Rattle.stamp_records.proofs.put_columns as pu
 use Rattle.calls.specs.declared.Stamped.{Stamped}
 use Rattle.calls.proofs.Stamped as D
 use Rattle.calls.proofs.Stamped.Laws as D′

@@ -14,12 +14,12 @@ use denote.Struct.Laws as LL
 use Rattle.base.specs.Decide.{does-exact}
 use Rattle.state.specs.declared.State.{State}
 use Rattle.state.specs.declared.Refusal.the-variants.{Shape}
-use Rattle.records.specs.declared.Columns.{Columns}
-use Rattle.records.specs.declared.StampRecord.{StampRecord}
-use Rattle.records.specs.Records.{timesOf, linksOf, heldTimes, heldLinks}
-use Rattle.records.proofs.Over.{length-pairs}
-use Rattle.records.proofs.Columns as K
-use Rattle.records.proofs.Columns.Laws as K′
+use Rattle.stamp_records.specs.declared.Columns.{Columns}
+use Rattle.stamp_records.specs.declared.StampRecord.{StampRecord}
+use Rattle.stamp_records.specs.Records.{timesOf, linksOf, heldTimes, heldLinks}
+use Rattle.stamp_records.proofs.Over.{length-pairs}
+use Rattle.stamp_records.proofs.Columns as K
+use Rattle.stamp_records.proofs.Columns.Laws as K′
 use Rattle.tables.specs.Tables.{Tables}
 use Rattle.tables.specs.Long.{long?, longOk}
 use Rattle.shape.specs.Decision.{shapeOk}

@@ -5,9 +5,9 @@ use lib.IntN.{ℤ}
 use Rattle.state.specs.Answers.{Reply, replyOf}
 use Rattle.state.specs.declared.State.{State}
 use Rattle.state.specs.declared.Outcome.{Outcome}
-use Rattle.records.specs.declared.StampRecord.{StampRecord}
-use Rattle.records.specs.declared.Columns.{Columns}
-use Rattle.records.specs.Records.{timesOf, linksOf, packed, heldTimes, heldLinks}
+use Rattle.stamp_records.specs.declared.StampRecord.{StampRecord}
+use Rattle.stamp_records.specs.declared.Columns.{Columns}
+use Rattle.stamp_records.specs.Records.{timesOf, linksOf, packed, heldTimes, heldLinks}
 use Rattle.tables.specs.Tables.{Tables, tables}
 use Rattle.tables.specs.Calls.{After}
 

@@ -1,7 +1,7 @@
 // The calls over a lent slice of stamp records. Each copies the records into columns and hands these, by value, to a function that makes the call on columns:
 // refusal 1 where they hold fewer than 2,048 records, and else what the call's own crate does with them.
-use records::Columns;
-use records::StampRecord;
+use stamp_records::Columns;
+use stamp_records::StampRecord;
 use state::Answer;
 use state::Outcome;
 use state::Refusal;
@@ -61,7 +61,7 @@ pub fn load(
     ensures { λ r. ⌜ after r (recorded (now (clauses .exit)) (now (literals .exit)) (now (variables .exit)) (now (stamps .entry)))
         ≡ loadCall (now (text .entry)) (recorded (now (clauses .entry)) (now (literals .entry)) (now (variables .entry)) (now (stamps .entry))) st ⌝ }
 {
-    let c = records::columns_of(stamps);
+    let c = stamp_records::columns_of(stamps);
     load_columns(text, clauses, literals, variables, c, st)
 }
 
@@ -94,7 +94,7 @@ pub fn write(
 ) -> Answer
     ensures { λ r. ⌜ afterWrite r (now (out .exit)) ≡ writeCall (recorded (now (clauses .entry)) (now (literals .entry)) (now (variables .entry)) (now (stamps .entry))) st (now (out .entry)) ⌝ }
 {
-    let c = records::columns_of(stamps);
+    let c = stamp_records::columns_of(stamps);
     write_columns(clauses, literals, variables, c, st, out)
 }
 
@@ -129,7 +129,7 @@ pub fn propagate(
     ensures { λ r. ⌜ after r (recorded (now (clauses .exit)) (now (literals .exit)) (now (variables .exit)) (now (stamps .entry)))
         ≡ propagateCall n (recorded (now (clauses .entry)) (now (literals .entry)) (now (variables .entry)) (now (stamps .entry))) st ⌝ }
 {
-    let c = records::columns_of(stamps);
+    let c = stamp_records::columns_of(stamps);
     propagate_columns(clauses, literals, variables, c, st, n)
 }
 
@@ -164,7 +164,7 @@ pub fn merge(
     ensures { λ r. ⌜ after r (recorded (now (clauses .exit)) (now (literals .exit)) (now (variables .exit)) (now (stamps .entry)))
         ≡ mergeCall n (recorded (now (clauses .entry)) (now (literals .entry)) (now (variables .entry)) (now (stamps .entry))) st ⌝ }
 {
-    let c = records::columns_of(stamps);
+    let c = stamp_records::columns_of(stamps);
     merge_columns(clauses, literals, variables, c, st, n)
 }
 
@@ -225,9 +225,9 @@ pub fn stamp(
     ensures { λ r. ⌜ afterStamp r (now (stamps .exit))
         ≡ inRecords (stampCall (now (order .entry)) (recorded (now (clauses .entry)) (now (literals .entry)) (now (variables .entry)) (now (stamps .entry))) st) (now (stamps .entry)) ⌝ }
 {
-    let c = records::columns_of(stamps);
+    let c = stamp_records::columns_of(stamps);
     let d = stamp_columns(clauses, literals, variables, c, st, order);
-    records::put_columns(stamps, d.columns);
+    stamp_records::put_columns(stamps, d.columns);
     d.outcome
 }
 
@@ -260,7 +260,7 @@ pub fn failed(
     ensures { λ r. ⌜ after r (recorded (now (clauses .entry)) (now (literals .entry)) (now (variables .exit)) (now (stamps .entry)))
         ≡ failedCall (recorded (now (clauses .entry)) (now (literals .entry)) (now (variables .entry)) (now (stamps .entry))) st ⌝ }
 {
-    let c = records::columns_of(stamps);
+    let c = stamp_records::columns_of(stamps);
     failed_columns(clauses, literals, variables, c, st)
 }
 
@@ -295,7 +295,7 @@ pub fn sweep(
     ensures { λ r. ⌜ after r (recorded (now (clauses .exit)) (now (literals .exit)) (now (variables .entry)) (now (stamps .entry)))
         ≡ sweepCall n (recorded (now (clauses .entry)) (now (literals .entry)) (now (variables .entry)) (now (stamps .entry))) st ⌝ }
 {
-    let c = records::columns_of(stamps);
+    let c = stamp_records::columns_of(stamps);
     sweep_columns(clauses, literals, variables, c, st, n)
 }
 
@@ -343,8 +343,8 @@ pub fn run(
     ensures { λ r. ⌜ afterRun r (now (clauses .exit)) (now (literals .exit)) (now (variables .exit)) (now (stamps .exit))
         ≡ runInRecords (runCall n (recorded (now (clauses .entry)) (now (literals .entry)) (now (variables .entry)) (now (stamps .entry))) st) (now (stamps .entry)) ⌝ }
 {
-    let c = records::columns_of(stamps);
+    let c = stamp_records::columns_of(stamps);
     let ran = run_columns(clauses, literals, variables, c, st, n);
-    records::put_columns(stamps, ran.columns);
+    stamp_records::put_columns(stamps, ran.columns);
     ran.outcome
 }

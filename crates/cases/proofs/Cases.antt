@@ -9,9 +9,9 @@ use Rattle.base.specs.Decide.{and?, or?, if?, not?, so?, every?, eqᵇ?, eqℤ?
 use Rattle.base.specs.Lists.{any, filter, absent, first, anyBelow, allBelow, sameList, numbers, turned, evens, odds, interleave}
 use Rattle.literal.specs.Literals.{twin}
 use Rattle.walk.specs.Walk.{arrive, leave, edge, edges, enters, starts, stampAll}
-use Rattle.graph.specs.Edges.{outs}
-use Rattle.graph.specs.Clauses.{froms, tos}
-use Rattle.groups.specs.Groups.{reaches, connected, cyclic, leastMutual}
+use Rattle.implications.specs.Edges.{outs}
+use Rattle.implications.specs.Clauses.{froms, tos}
+use Rattle.scc.specs.Groups.{reaches, connected, cyclic, leastMutual}
 use Rattle.stamps.specs.Decision.{literal?, holds?, times?, parent?, start?, nested?, fresh?}
 use Rattle.state.specs.Answers.{Reply, reply}
 use Rattle.tables.specs.Long.{long?, longOk}
@@ -35,8 +35,8 @@ use Rattle.failed.specs.Failed.{failedAt, failedFrom, failedFresh, failedCall}
 use Rattle.sweep.specs.Sweep.{sweepClause, sweepCall}
 use Rattle.settle.specs.Settle.{settleFor, settle}
 use Rattle.run.specs.Run.{orderOf, follow, round, unchanged, runFrom, runCall}
-use Rattle.unhiding.specs.Texts.{simplifyText, unhideText}
-use Rattle.unhiding.specs.Lists.{merge, stamp, failed, sweep, stepOn, stepsOn}
+use Rattle.simplify.specs.Texts.{simplifyText, unhideText}
+use Rattle.call_lists.specs.Lists.{merge, stamp, failed, sweep, stepOn, stepsOn}
 use Rattle.cases.specs.Case.{bytes, Case, calls, prints, Seen, All}
 
 -- what is expected: replies, mark, the fronts of clauses, literals, variables, times and links, and what Write gives

@@ -13,8 +13,8 @@ use Rattle.state.specs.Answers.{Reply}
 use Rattle.tables.specs.Calls.{After}
 use Rattle.load.specs.Load.{loadCall}
 use Rattle.write.specs.Write.{writeText}
-use Rattle.unhiding.specs.Texts.{emptyTables, unhideText}
-use Rattle.unhiding.specs.Lists.{Call, Step, Trail, stepsOn}
+use Rattle.simplify.specs.Texts.{emptyTables, unhideText}
+use Rattle.call_lists.specs.Lists.{Call, Step, Trail, stepsOn}
 
 abbrev pub bytes : String → List ℕ
 bytes nil = []

@@ -18,7 +18,7 @@ use Rattle.dimacs.specs.Text.{judgeText}
 use Rattle.dimacs.specs.declared.Verdict.{Verdict}
 use Rattle.dimacs.specs.declared.Verdict.the-variants.{Refused, Fits}
 use Rattle.write.specs.Write.{AfterWrite, afterWrite, writeText, writeInto}
-use Rattle.unhiding.specs.Texts.{emptyTables, simplifyIn, simplifyText, resultOf}
+use Rattle.simplify.specs.Texts.{emptyTables, simplifyIn, simplifyText, resultOf}
 use Rattle.equivalence.specs.Returns.{longest, Returns, wrote, short}
 use Rattle.equivalence.specs.Returns as returns
 use Rattle.equivalence.proofs.Ending.{endFrom, refused-text, end-shape, accepted-text}

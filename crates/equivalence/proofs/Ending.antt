@@ -27,12 +27,12 @@ use Rattle.write.proofs.Text.{call-written}
 use Rattle.roundtrip.proofs.LoadBack.{long-enough}
 use Rattle.roundtrip.proofs.Reread.{text-loads}
 use Rattle.settle.specs.Settle.{Standing}
-use Rattle.unhiding.specs.Lists.{stepsOn}
-use Rattle.unhiding.specs.Texts.{runUnless, simplifyLoaded, simplifyIn}
-use Rattle.unhiding.proofs.Simplified.{refused-load}
-use Rattle.represented.proofs.Loaded.{load-held}
-use Rattle.represented.proofs.Demand3.{demand-3, steps-held}
-use Rattle.represented.proofs.Running.{run-calls, run-keeps}
+use Rattle.call_lists.specs.Lists.{stepsOn}
+use Rattle.simplify.specs.Texts.{runUnless, simplifyLoaded, simplifyIn}
+use Rattle.simplify.proofs.Simplified.{refused-load}
+use Rattle.refinement.proofs.Loaded.{load-held}
+use Rattle.refinement.proofs.Demand3.{demand-3, steps-held}
+use Rattle.refinement.proofs.Running.{run-calls, run-keeps}
 use Rattle.equivalence.proofs.Variables.{run-same}
 
 -- what the load leaves

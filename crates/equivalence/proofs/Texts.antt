@@ -28,7 +28,7 @@ use Rattle.roundtrip.proofs.Accepted.{text-within}
 use Rattle.roundtrip.proofs.ReadBack.{bodyAt, judged, read-back}
 use Rattle.roundtrip.proofs.Written.{written-in}
 use Rattle.printing.specs.Printing.{refusedLine}
-use Rattle.unhiding.specs.Texts.{emptyTables, simplifyIn, simplifyText, resultOf, shown, shownAfter, unhideText}
+use Rattle.simplify.specs.Texts.{emptyTables, simplifyIn, simplifyText, resultOf, shown, shownAfter, unhideText}
 use Rattle.state.proofs.Numbers.{number-bounds}
 use Rattle.equivalence.specs.Equivalent.{Equivalent}
 use Rattle.equivalence.specs.Returns.{RefusalLine}

@@ -7,8 +7,8 @@ use lib.ListN.{length}
 use lib.Dec.{ltb, eqb}
 use lib.IntN.{ℤ}
 use Rattle.stamps.specs.Columns.{columns}
-use Rattle.graph.specs.Clauses.{implications}
-use Rattle.groups.specs.Groups.{cyclic}
+use Rattle.implications.specs.Clauses.{implications}
+use Rattle.scc.specs.Groups.{cyclic}
 use Rattle.state.specs.States.{closed, marked}
 use Rattle.state.specs.declared.State.{State}
 use Rattle.state.specs.declared.Pass.{Pass}
@@ -32,8 +32,8 @@ use Rattle.sweep.specs.Sweep.{sweepBy, sweepCall}
 use Rattle.sweep.specs.Sweep as sweeping
 use Rattle.settle.specs.Settle.{Standing}
 use Rattle.run.specs.Run.{runCall}
-use Rattle.unhiding.specs.Lists.{Call, propagate, merge, stamp, failed, sweep, callOn, Step, stepOn, stepsOn, lend}
-use Rattle.represented.proofs.Running.{run-calls}
+use Rattle.call_lists.specs.Lists.{Call, propagate, merge, stamp, failed, sweep, callOn, Step, stepOn, stepsOn, lend}
+use Rattle.refinement.proofs.Running.{run-calls}
 
 abbrev Same : State → After → Type 0
 Same st a = a .state .v ≡ st .v

@@ -18,7 +18,7 @@ use Rattle.entry.specs.Entry.{openingOf}
 use Rattle.entry.specs.declared.Opening.{Opening}
 use Rattle.entry.specs.declared.Opening.the-variants.{Denied, Granted}
 use Rattle.entry.proofs.Entering.{granted-entered}
-use Rattle.clauses.proofs.Entered.{entered-formed}
+use Rattle.visits.proofs.Entered.{entered-formed}
 use Rattle.failed.specs.Failed.{Found, found, failedFrom, withVariables, stateAfter, failedReply, failedFresh, unlessStale, failedBy, failedCall}
 use Rattle.failed.specs.Steps.{foundOf, Stamped, Callable}
 use Rattle.failed.specs.declared.Tally.{Tally}

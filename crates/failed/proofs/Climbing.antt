@@ -22,7 +22,7 @@ use Rattle.hidden.specs.Failed.{sameStart, failedSlot}
 use Rattle.hidden.proofs.Intervals.{true-holds, inside}
 use Rattle.hidden.proofs.Failed.{Linked, climb, failed-slot, failed-climb}
 use Rattle.hidden.proofs.Columns.{fresh-linked}
-use Rattle.intervals.specs.Slots.{Child}
+use Rattle.discovery_order.specs.Slots.{Child}
 use Rattle.failed.specs.Steps.{Rooted, Stamped, Shared}
 
 -- ---- fresh stamps

@@ -13,7 +13,7 @@ use Rattle.walk.specs.Walk.{Stamps}
 use Rattle.stamps.specs.Columns.{columns}
 use Rattle.hidden.specs.Failed.{sameStart, failedSlot}
 use Rattle.tables.specs.Values.{isTrue, isFalse, setTrue}
-use Rattle.clauses.specs.Formed.{Variables, Known}
+use Rattle.visits.specs.Formed.{Variables, Known}
 use Rattle.failed.specs.Failed.{Found, found, assert, failedAt, failedFrom}
 use Rattle.failed.specs.Steps.{foundOf, Rooted, Stamped, Shared, Failable}
 use Rattle.failed.specs.declared.Tally.{Tally}

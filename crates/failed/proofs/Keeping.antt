@@ -16,8 +16,8 @@ use Rattle.stamps.specs.Columns.{columns}
 use Rattle.hidden.specs.Failed.{sameStart, failedSlot}
 use Rattle.tables.specs.Tables.{classOf}
 use Rattle.tables.specs.Values.{isTrue, isFalse, setTrue}
-use Rattle.clauses.specs.Formed.{Variables}
-use Rattle.clauses.proofs.MadeTrue.{true-classes, true-variables}
+use Rattle.visits.specs.Formed.{Variables}
+use Rattle.visits.proofs.MadeTrue.{true-classes, true-variables}
 use Rattle.failed.specs.Failed.{Found, found, assert, failedAt, failedFrom}
 use Rattle.failed.specs.Steps.{Stamped}
 use Rattle.failed.proofs.Climbing.{slot-ranged, failed-below}

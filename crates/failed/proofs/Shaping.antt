@@ -16,9 +16,9 @@ use Rattle.entry.specs.Entry.{openingOf}
 use Rattle.entry.specs.declared.Opening.{Opening}
 use Rattle.entry.specs.declared.Opening.the-variants.{Denied, Granted}
 use Rattle.entry.proofs.Entering.{Entered, granted-entered}
-use Rattle.clauses.specs.Formed.{Formed}
-use Rattle.clauses.proofs.Forming.{formed-values, formed-marked, formed-shape}
-use Rattle.clauses.proofs.Entered.{entered-formed}
+use Rattle.visits.specs.Formed.{Formed}
+use Rattle.visits.proofs.Forming.{formed-values, formed-marked, formed-shape}
+use Rattle.visits.proofs.Entered.{entered-formed}
 use Rattle.failed.specs.Failed.{Found, found, failedFrom, withVariables, failedFresh, unlessStale, failedBy, failedCall}
 use Rattle.failed.specs.Steps.{Stamped}
 use Rattle.failed.proofs.Keeping.{Kept, failed-kept}

@@ -11,7 +11,7 @@ use Rattle.stamps.specs.Fresh.{startOf, FreshStamps}
 use Rattle.stamps.specs.Columns.{columns}
 use Rattle.hidden.specs.Failed.{sameStart}
 use Rattle.state.specs.declared.State.{State}
-use Rattle.clauses.specs.Formed.{Variables}
+use Rattle.visits.specs.Formed.{Variables}
 use Rattle.failed.specs.Failed.{Found, found}
 use Rattle.failed.specs.declared.Tally.{Tally}
 

@@ -16,7 +16,7 @@ ghost use Rattle.hidden.specs.Hidden.{holds};
 ghost use Rattle.hidden.specs.Failed.{sameStart, failedSlot};
 ghost use Rattle.tables.specs.Lent.{lent, returned, unlent};
 ghost use Rattle.tables.specs.Calls.{after};
-ghost use Rattle.clauses.specs.Formed.{Variables, Known};
+ghost use Rattle.visits.specs.Formed.{Variables, Known};
 ghost use Rattle.failed.specs.Failed.{found, assert, failedAt, failedFrom, failedFresh, unlessStale, failedCall, stateAfter};
 ghost use Rattle.failed.specs.Steps.{foundOf, root, Rooted, Stamped, Shared, Failable, Callable};
 
@@ -48,10 +48,10 @@ fn holds(times: &[u32], a: u32, b: u32) -> bool
     requires { ⌜ (2 * a + 1 < length (now times)) × (2 * b + 1 < length (now times)) ⌝ }
     ensures { λ r. ⌜ ((links : List ℤ) → r ≡ holds (columns (now (times .entry)) links) a b) ⌝ }
 {
-    if intervals::discovery(times, b) < intervals::discovery(times, a) {
+    if discovery_order::discovery(times, b) < discovery_order::discovery(times, a) {
         return false;
     }
-    intervals::finish(times, b) <= intervals::finish(times, a)
+    discovery_order::finish(times, b) <= discovery_order::finish(times, a)
 }
 
 // The slot that has failed, where the literal of slot s and its complement have the same start: the first from s along the parents that holds the complement too.
@@ -63,7 +63,7 @@ fn climb(times: &[u32], links: &[i32], s: u32) -> u32
     let t = literal::twin_of(s);
     let mut x = s;
     while !holds(times, x, t) {
-        x = intervals::parent(links, x);
+        x = discovery_order::parent(links, x);
     }
     x
 }
@@ -73,19 +73,19 @@ fn assert_true(variables: &mut [i32], l: i32, n: u32) -> Tally
     requires { ⌜ Known (now variables) l × (n ≤ 1024) ⌝ }
     ensures { λ r. ⌜ foundOf r (now (variables .exit)) ≡ assert l (now (variables .entry)) n ⌝ }
 {
-    if clauses::is_true(variables, l) {
+    if visits::is_true(variables, l) {
         return Tally {
             set: n,
             opposite: false,
         };
     }
-    if clauses::is_false(variables, l) {
+    if visits::is_false(variables, l) {
         return Tally {
             set: n,
             opposite: true,
         };
     }
-    clauses::set_true(variables, l);
+    visits::set_true(variables, l);
     Tally {
         set: n + 1,
         opposite: false,

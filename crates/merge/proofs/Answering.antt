@@ -12,10 +12,10 @@ use Rattle.tables.specs.Tables.{tables}
 use Rattle.tables.specs.Clauses.{gone}
 use Rattle.tables.specs.Fates.{visits}
 use Rattle.tables.specs.Calls.{After}
-use Rattle.clauses.specs.Formed.{Counted}
-use Rattle.clauses.proofs.Counting.{formed-counted}
-use Rattle.clauses.proofs.Keeping.{FormedTo}
-use Rattle.clauses.proofs.Advancing.{advanced}
+use Rattle.visits.specs.Formed.{Counted}
+use Rattle.visits.proofs.Counting.{formed-counted}
+use Rattle.visits.proofs.Keeping.{FormedTo}
+use Rattle.visits.proofs.Advancing.{advanced}
 use Rattle.merge.specs.Merge.{mergeClause, mergeFrom}
 use Rattle.merge.specs.Visits.{Visitable}
 use Rattle.merge.specs.Steps.{repliedAt, Ready}

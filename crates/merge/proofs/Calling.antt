@@ -24,9 +24,9 @@ use Rattle.entry.specs.declared.PassName.the-variants as own
 use Rattle.entry.specs.declared.Entry.{Entry}
 use Rattle.entry.specs.declared.Entry.the-variants.{No, Opens, Resumes}
 use Rattle.entry.proofs.Entering.{opens-entered, resumes-entered}
-use Rattle.clauses.specs.Formed.{Formed}
-use Rattle.clauses.proofs.Counting.{none-gone}
-use Rattle.clauses.proofs.Entered.{entered-to, entered-formed, entered-cursor}
+use Rattle.visits.specs.Formed.{Formed}
+use Rattle.visits.proofs.Counting.{none-gone}
+use Rattle.visits.proofs.Entered.{entered-to, entered-formed, entered-cursor}
 use Rattle.merge.specs.Merge.{edgesOf, clashes, representative, regrouped, mergedClasses, mergeFrom, mergeOpen, mergeSettled, mergeBy, mergeCall}
 use Rattle.merge.specs.Opening.{openedClasses}
 use Rattle.merge.specs.Steps.{Ready}

@@ -6,9 +6,9 @@ use lib.IntN.{ℤ, pos, negsuc}
 use Rattle.base.specs.Lists.{first, anyBelow}
 use Rattle.literal.specs.Literals.{twin}
 use Rattle.walk.specs.Walk.{arrive, leave, edge, edges, enters, starts}
-use Rattle.graph.specs.Edges.{outs}
-use Rattle.graph.specs.Clauses.{froms, tos, implications}
-use Rattle.groups.specs.Groups.{reaches, connected, leastMutual}
+use Rattle.implications.specs.Edges.{outs}
+use Rattle.implications.specs.Clauses.{froms, tos, implications}
+use Rattle.scc.specs.Groups.{reaches, connected, leastMutual}
 use Rattle.tables.specs.Tables.{Tables, tables}
 use Rattle.tables.specs.Clauses.{slotsAt, slotsFrom}
 use Rattle.tables.specs.Fates.{left, dropped}

@@ -17,19 +17,19 @@ use Rattle.literal.proofs.Laws.{lit-slot, slot-below}
 use Rattle.literal.proofs.Truth.{holds-twin}
 use Rattle.walk.specs.Forest.{Reach}
 use Rattle.walk.proofs.Theorems.{reach-implies}
-use Rattle.graph.specs.Skew.{Skew}
-use Rattle.graph.specs.Edges.{outs}
-use Rattle.graph.specs.Clauses.{clauseFroms, clauseTos, froms, tos, implications}
-use Rattle.graph.proofs.Implications.{Satisfies, edge-true}
-use Rattle.groups.proofs.Least.{least-mutual}
+use Rattle.implications.specs.Skew.{Skew}
+use Rattle.implications.specs.Edges.{outs}
+use Rattle.implications.specs.Clauses.{clauseFroms, clauseTos, froms, tos, implications}
+use Rattle.implications.proofs.Implications.{Satisfies, edge-true}
+use Rattle.scc.proofs.Least.{least-mutual}
 use Rattle.state.specs.declared.State.{State}
 use Rattle.tables.specs.Tables.{Tables, lengthOf, standing, classOf, valueOf}
 use Rattle.tables.specs.Clauses.{literalsOf, slotsAt, slotsFrom}
 use Rattle.tables.specs.Stands.{Stands}
-use Rattle.clauses.specs.Formed.{Formed}
-use Rattle.clauses.proofs.Forming.{clause-fits}
-use Rattle.pairs.proofs.Listing.{formed-listed, from-clauses, slot-literal}
-use Rattle.components.proofs.Chain.{listed-skew}
+use Rattle.visits.specs.Formed.{Formed}
+use Rattle.visits.proofs.Forming.{clause-fits}
+use Rattle.table_graph.proofs.Listing.{formed-listed, from-clauses, slot-literal}
+use Rattle.table_graph.proofs.Chain.{listed-skew}
 use Rattle.merge.specs.Merge.{edgesOf, clashes, representative, regrouped, mergedClasses}
 use Rattle.merge.proofs.Regrouped.{regrouped-class, regrouped-value}
 use Rattle.merge.proofs.Opening.{clashes-some}

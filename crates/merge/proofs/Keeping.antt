@@ -15,11 +15,11 @@ use Rattle.tables.specs.Tables.{Tables, lengthOf, standing}
 use Rattle.tables.specs.Values.{classLiteral}
 use Rattle.tables.specs.Clauses.{literalsOf}
 use Rattle.tables.specs.Fates.{Fate, left, dropped, store, visit, visits}
-use Rattle.clauses.specs.Formed.{FitClause, Known}
-use Rattle.clauses.proofs.Forming.{clause-fits, part-length}
-use Rattle.clauses.proofs.Keeping.{FormedTo, formed-shortened, formed-dropped, formed-cases}
-use Rattle.clauses.proofs.Visiting.{visit-beside}
-use Rattle.clauses.proofs.Known.{class-ranged, class-own}
+use Rattle.visits.specs.Formed.{FitClause, Known}
+use Rattle.visits.proofs.Forming.{clause-fits, part-length}
+use Rattle.visits.proofs.Keeping.{FormedTo, formed-shortened, formed-dropped, formed-cases}
+use Rattle.visits.proofs.Visiting.{visit-beside}
+use Rattle.visits.proofs.Known.{class-ranged, class-own}
 use Rattle.merge.specs.Merge.{mergeClause}
 use Rattle.merge.specs.Visits.{substituted}
 use Rattle.merge.proofs.Repeats.{Own, distinct-short, distinct-none, distinct-all, distinct-once, all-map, once-fits}

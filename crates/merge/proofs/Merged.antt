@@ -21,23 +21,23 @@ use Rattle.literal.proofs.Signed.{abs-neg, ne-eqZ}
 use Rattle.literal.proofs.Laws.{lit-slot, lit-var, slot-twin, slot-below, slot-variable}
 use Rattle.literal.proofs.Twins.{twin-odd}
 use Rattle.walk.specs.Forest.{Reach, here, on}
-use Rattle.graph.specs.Skew.{Skew}
-use Rattle.graph.specs.Edges.{outs}
-use Rattle.graph.specs.Clauses.{froms, tos, implications}
-use Rattle.graph.proofs.Csr.{outs-out}
-use Rattle.groups.specs.Groups.{leastMutual, Representative}
-use Rattle.groups.proofs.Least.{least-mutual}
-use Rattle.groups.proofs.Classes.{same-rep, twin-rep}
+use Rattle.implications.specs.Skew.{Skew}
+use Rattle.implications.specs.Edges.{outs}
+use Rattle.implications.specs.Clauses.{froms, tos, implications}
+use Rattle.implications.proofs.Csr.{outs-out}
+use Rattle.scc.specs.Groups.{leastMutual, Representative}
+use Rattle.scc.proofs.Least.{least-mutual}
+use Rattle.scc.proofs.Classes.{same-rep, twin-rep}
 use Rattle.tables.specs.Tables.{Tables, startOf, lengthOf, standing, variableAt, classOf, valueOf}
 use Rattle.tables.specs.Clauses.{literalsOf, slotsFrom}
 use Rattle.tables.specs.Passes.{valued, unsettled, firstUnsettled}
 use Rattle.shape.specs.Shape.{Variable}
-use Rattle.clauses.specs.Formed.{Formed}
-use Rattle.clauses.proofs.Forming.{part-length, stands-one}
-use Rattle.clauses.proofs.Keeping.{FormedTo}
-use Rattle.pairs.specs.Pairs.{Listed}
-use Rattle.pairs.proofs.Listing.{formed-listed, from-clauses, froms-mem, slot-literal}
-use Rattle.components.proofs.Chain.{listed-skew}
+use Rattle.visits.specs.Formed.{Formed}
+use Rattle.visits.proofs.Forming.{part-length, stands-one}
+use Rattle.visits.proofs.Keeping.{FormedTo}
+use Rattle.table_graph.specs.Pairs.{Listed}
+use Rattle.table_graph.proofs.Listing.{formed-listed, from-clauses, froms-mem, slot-literal}
+use Rattle.table_graph.proofs.Chain.{listed-skew}
 use Rattle.merge.specs.Merge.{edgesOf, clashes, representative, regrouped, mergedClasses}
 use Rattle.merge.proofs.Regrouped.{regrouped-length, regrouped-class, regrouped-value}
 use Rattle.merge.proofs.Opening.{none-clash}

@@ -15,16 +15,16 @@ use Rattle.literal.specs.Literals.{Literal, slotOf, litAt, twin}
 use Rattle.literal.proofs.Laws.{slot-below}
 use Rattle.literal.proofs.Twins.{twin-even, twin-odd}
 use Rattle.walk.specs.Forest.{Reach}
-use Rattle.graph.specs.Skew.{Skew}
-use Rattle.graph.specs.Clauses.{implications}
-use Rattle.groups.specs.Groups.{clash, reaches, connected, leastMutual}
-use Rattle.groups.proofs.Least.{least-mutual, reaches-means}
-use Rattle.groups.proofs.Clash.{clash-means, no-clash}
+use Rattle.implications.specs.Skew.{Skew}
+use Rattle.implications.specs.Clauses.{implications}
+use Rattle.scc.specs.Groups.{clash, reaches, connected, leastMutual}
+use Rattle.scc.proofs.Least.{least-mutual, reaches-means}
+use Rattle.scc.proofs.Clash.{clash-means, no-clash}
 use Rattle.tables.specs.Tables.{classOf}
 use Rattle.tables.specs.Clauses.{slotsFrom}
-use Rattle.clauses.specs.Formed.{Formed}
-use Rattle.pairs.proofs.Listing.{formed-listed}
-use Rattle.components.proofs.Chain.{listed-skew}
+use Rattle.visits.specs.Formed.{Formed}
+use Rattle.table_graph.proofs.Listing.{formed-listed}
+use Rattle.table_graph.proofs.Chain.{listed-skew}
 use Rattle.merge.specs.Merge.{clashes, representative, regrouped}
 use Rattle.merge.specs.Opening.{through, Regroups}
 use Rattle.merge.proofs.Regrouped.{class-at, regrouped-as}

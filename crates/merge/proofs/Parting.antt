@@ -10,9 +10,9 @@ use lib.IntN.{ℤ, pos}
 use Rattle.literal.specs.Literals.{Small}
 use Rattle.literal.specs.Clauses.{distinct, tautology}
 use Rattle.tables.specs.Values.{classLiteral}
-use Rattle.clauses.specs.Formed.{EachKnown}
-use Rattle.clauses.specs.Holding.{holding}
-use Rattle.clauses.proofs.Known.{known-small, known-class}
+use Rattle.visits.specs.Formed.{EachKnown}
+use Rattle.visits.specs.Holding.{holding}
+use Rattle.visits.proofs.Known.{known-small, known-class}
 use Rattle.merge.specs.Visits.{EachSmall, substituted, Part, partOf, partAfter}
 use Rattle.merge.specs.declared.Visited.the-variants.{Left, Dropped}
 use Rattle.merge.proofs.Repeats.{distinct-short, distinct-all, all-at, all-map}

@@ -8,7 +8,7 @@ use lib.ListN.{length}
 use lib.IntN.{ℤ}
 use Rattle.tables.specs.Tables.{tables}
 use Rattle.tables.specs.Fates.{visit, visits}
-use Rattle.clauses.proofs.Keeping.{FormedTo}
+use Rattle.visits.proofs.Keeping.{FormedTo}
 use Rattle.merge.specs.Merge.{mergeClause}
 use Rattle.merge.specs.Visits.{Visitable}
 use Rattle.merge.proofs.Keeping.{formed-visit}

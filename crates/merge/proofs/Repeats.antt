@@ -13,8 +13,8 @@ use Rattle.literal.specs.Clauses.{has, distinctFrom, distinct, tautology}
 use Rattle.literal.proofs.Signed.{eq-eqZ, ne-eqZ}
 use Rattle.literal.proofs.Distinct.{from-sized, has-at}
 use Rattle.tables.specs.Tables.{classOf}
-use Rattle.clauses.specs.Formed.{FitClause}
-use Rattle.clauses.proofs.Fitting.{FitHead, fit-none, fit-cons}
+use Rattle.visits.specs.Formed.{FitClause}
+use Rattle.visits.proofs.Fitting.{FitHead, fit-none, fit-cons}
 
 -- ---- length
 

@@ -11,8 +11,8 @@ use lib.IntN.{ℤ, pos, negℤ}
 use Rattle.literal.specs.Clauses.{has, distinct, distinctFrom, tautology}
 use Rattle.literal.proofs.Compact.{Compact, stay, gone, finish}
 use Rattle.tables.specs.Values.{classLiteral}
-use Rattle.clauses.specs.Holding.{holding}
-use Rattle.clauses.proofs.Ahead.{Ahead, ahead-none, ahead-set}
+use Rattle.visits.specs.Holding.{holding}
+use Rattle.visits.proofs.Ahead.{Ahead, ahead-none, ahead-set}
 
 -- ---- substitute: class literals stand in front, and what is still to be read is as it was
 

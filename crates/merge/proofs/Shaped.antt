@@ -18,10 +18,10 @@ use Rattle.entry.specs.Entry.{entryOf}
 use Rattle.entry.specs.declared.PassName.the-variants as own
 use Rattle.entry.specs.declared.Entry.{Entry}
 use Rattle.entry.specs.declared.Entry.the-variants.{No, Opens, Resumes}
-use Rattle.clauses.proofs.Forming.{formed-marked, formed-shape}
-use Rattle.clauses.proofs.Visiting.{Beside, visits-beside}
-use Rattle.clauses.proofs.Keeping.{FormedTo, formed-shape-as}
-use Rattle.clauses.proofs.Advancing.{advance-cases}
+use Rattle.visits.proofs.Forming.{formed-marked, formed-shape}
+use Rattle.visits.proofs.Visiting.{Beside, visits-beside}
+use Rattle.visits.proofs.Keeping.{FormedTo, formed-shape-as}
+use Rattle.visits.proofs.Advancing.{advance-cases}
 use Rattle.merge.specs.Merge.{mergedClasses, mergeClause, mergeFrom, mergeOpen, mergeBy, mergeCall}
 use Rattle.merge.proofs.Merged.{classes-formed}
 use Rattle.merge.proofs.Visiting.{merge-shrinks}

@@ -28,13 +28,13 @@ use Rattle.entry.specs.declared.PassName.the-variants as own
 use Rattle.entry.specs.declared.Entry.{Entry}
 use Rattle.entry.specs.declared.Entry.the-variants.{No, Opens, Resumes}
 use Rattle.entry.proofs.Entering.{opens-entered, resumes-entered}
-use Rattle.clauses.specs.Formed.{Formed, Known}
-use Rattle.clauses.proofs.Stores.{recorded, recorded-here, recorded-other, storedAt, stored-view, stored-other}
-use Rattle.clauses.proofs.Forming.{clause-fits, record-inside, recorded-same}
-use Rattle.clauses.proofs.Known.{known-row}
-use Rattle.clauses.proofs.Visiting.{visit-beside}
-use Rattle.clauses.proofs.Keeping.{FormedTo, formed-cases}
-use Rattle.clauses.proofs.Advancing.{advance-cases}
+use Rattle.visits.specs.Formed.{Formed, Known}
+use Rattle.visits.proofs.Stores.{recorded, recorded-here, recorded-other, storedAt, stored-view, stored-other}
+use Rattle.visits.proofs.Forming.{clause-fits, record-inside, recorded-same}
+use Rattle.visits.proofs.Known.{known-row}
+use Rattle.visits.proofs.Visiting.{visit-beside}
+use Rattle.visits.proofs.Keeping.{FormedTo, formed-cases}
+use Rattle.visits.proofs.Advancing.{advance-cases}
 use Rattle.merge.specs.Merge.{mergedClasses, mergeClause, mergeFrom, mergeOpen, mergeBy, mergeCall}
 use Rattle.merge.specs.Visits.{substituted}
 use Rattle.merge.proofs.Merged.{classes-formed}

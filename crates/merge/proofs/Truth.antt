@@ -15,7 +15,7 @@ use Rattle.literal.proofs.Signed.{eqZ-true}
 use Rattle.literal.proofs.Truth.{holds-neg}
 use Rattle.tables.specs.Tables.{classOf}
 use Rattle.tables.specs.Values.{classLiteral}
-use Rattle.clauses.proofs.Known.{abs-signed}
+use Rattle.visits.proofs.Known.{abs-signed}
 use Rattle.merge.specs.Visits.{substituted}
 use Rattle.merge.proofs.Repeats.{All, distinct-all, all-map}
 

@@ -9,9 +9,9 @@ use Rattle.literal.specs.Clauses.{tautology}
 use Rattle.tables.specs.Tables.{Tables, tables, startOf, lengthOf, standing}
 use Rattle.tables.specs.Clauses.{literalsOf}
 use Rattle.tables.specs.Fates.{Fate, left, dropped, store, visit, shortened, droppedAt}
-use Rattle.clauses.specs.Holding.{holding}
-use Rattle.clauses.proofs.Placing.{replaced, put-holding}
-use Rattle.clauses.proofs.Visiting.{visit-standing, Shrinks, leaves, drops}
+use Rattle.visits.specs.Holding.{holding}
+use Rattle.visits.proofs.Placing.{replaced, put-holding}
+use Rattle.visits.proofs.Visiting.{visit-standing, Shrinks, leaves, drops}
 use Rattle.merge.specs.Merge.{mergeClause, unlessTautology}
 use Rattle.merge.specs.Visits.{substituted, Part, partOf, partAfter, recordAfter}
 use Rattle.merge.specs.declared.Visited.{Visited}

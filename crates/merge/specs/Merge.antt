@@ -9,8 +9,8 @@ use lib.IntN.{ℤ}
 use Rattle.base.specs.Lists.{anyBelow}
 use Rattle.literal.specs.Literals.{slotOf, litAt}
 use Rattle.literal.specs.Clauses.{distinct, tautology}
-use Rattle.graph.specs.Clauses.{implications}
-use Rattle.groups.specs.Groups.{connected, leastMutual}
+use Rattle.implications.specs.Clauses.{implications}
+use Rattle.scc.specs.Groups.{connected, leastMutual}
 use Rattle.state.specs.States.{marked}
 use Rattle.state.specs.declared.State.{State}
 use Rattle.state.specs.declared.Pass.the-variants.{Merge}

@@ -13,7 +13,7 @@ use Rattle.state.specs.declared.Answer.the-variants.{Open, Done}
 use Rattle.tables.specs.Tables.{Tables, tables}
 use Rattle.tables.specs.Passes.{firstUnsettled}
 use Rattle.tables.specs.Calls.{After, answered}
-use Rattle.clauses.specs.Formed.{Formed}
+use Rattle.visits.specs.Formed.{Formed}
 
 -- the answer of a call that has made its visits and stands before clause k: `reached`, by the counts
 abbrev pub repliedAt : Bool → Counts → ℕ → State → Tables → After

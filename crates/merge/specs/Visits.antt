@@ -7,8 +7,8 @@ use lib.IntN.{ℤ, pos}
 use Rattle.literal.specs.Literals.{Small}
 use Rattle.literal.specs.Clauses.{distinct, tautology}
 use Rattle.tables.specs.Values.{classLiteral}
-use Rattle.clauses.specs.Formed.{Formed}
-use Rattle.clauses.specs.Holding.{holding}
+use Rattle.visits.specs.Formed.{Formed}
+use Rattle.visits.specs.Holding.{holding}
 use Rattle.merge.specs.declared.Visited.{Visited}
 use Rattle.merge.specs.declared.Visited.the-variants.{Left, Dropped}
 

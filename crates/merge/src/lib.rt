@@ -20,11 +20,11 @@ ghost use Rattle.tables.specs.Lent.{lent, returned, unlent};
 ghost use Rattle.tables.specs.Values.{classLiteral};
 ghost use Rattle.tables.specs.Fates.{visit, visits};
 ghost use Rattle.tables.specs.Calls.{after};
-ghost use Rattle.clauses.specs.Formed.{EachKnown};
-ghost use Rattle.graph.specs.Clauses.{implications};
+ghost use Rattle.visits.specs.Formed.{EachKnown};
+ghost use Rattle.implications.specs.Clauses.{implications};
 ghost use Rattle.tables.specs.Clauses.{slotsFrom};
-ghost use Rattle.clauses.specs.Formed.{Formed};
-ghost use Rattle.clauses.specs.Holding.{holding};
+ghost use Rattle.visits.specs.Formed.{Formed};
+ghost use Rattle.visits.specs.Holding.{holding};
 ghost use Rattle.merge.specs.Merge.{clashes, regrouped, mergeClause, mergeFrom, mergeOpen, mergeSettled, mergeCall};
 ghost use Rattle.merge.specs.Opening.{openedClasses, through, Regroups};
 ghost use Rattle.merge.specs.Visits.{EachSmall, substituted, partOf, partAfter, recordAfter, Visitable};
@@ -67,8 +67,8 @@ pub fn regroup_by(
     ensures { λ r. ⌜ (r ≡ clashes (implications (slotsFrom (now (clauses .entry)) (now (literals .entry)) n 0)) v)
         × (now (variables .exit) ≡ openedClasses r (implications (slotsFrom (now (clauses .entry)) (now (literals .entry)) n 0)) v (now (variables .entry))) ⌝ }
 {
-    components::representatives(v, n, clauses, literals, rep);
-    if groups::has_clash(rep) {
+    table_graph::representatives(v, n, clauses, literals, rep);
+    if scc::has_clash(rep) {
         return true;
     }
     regroup(variables, rep, v);
@@ -109,7 +109,7 @@ fn substitute(part: &mut [i32], variables: &[i32])
     let mut i = 0;
     while i < part.len() {
         let l = part[i];
-        part[i] = clauses::class_literal(variables, l);
+        part[i] = visits::class_literal(variables, l);
         i += 1;
     }
 }
@@ -240,12 +240,12 @@ pub fn merge_from(
         ≡ mergeFrom fresh steps cursor (lent clauses literals variables (unlent times) (unlent links)) st) ⌝ }
 {
     let n = st.n;
-    let visits = clauses::fewer(steps, n - cursor);
+    let visits = visits::fewer(steps, n - cursor);
     let end = cursor + visits;
-    let before = clauses::count_standing(clauses, n as usize);
+    let before = visits::count_standing(clauses, n as usize);
     visit_some(clauses, literals, variables, cursor, end);
-    let left = clauses::count_standing(clauses, n as usize);
-    let counts = clauses::counts_of(visits, before, left);
+    let left = visits::count_standing(clauses, n as usize);
+    let counts = visits::counts_of(visits, before, left);
     answer(st, fresh, counts, end)
 }
 
@@ -290,7 +290,7 @@ pub fn merge_settled(
         ≡ mergeSettled steps (lent clauses literals variables (unlent times) (unlent links)) st) ⌝ }
 {
     let n = st.n as usize;
-    let first = settled::first_unsettled(clauses, literals, variables, n);
+    let first = visits::first_unsettled(clauses, literals, variables, n);
     if first < n {
         return Outcome {
             answer: Answer::Refused(Refusal::Unsettled(first as u32 + 1)),

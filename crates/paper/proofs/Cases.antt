@@ -7,8 +7,8 @@ use lib.IntN.{pos, negsuc}
 use Rattle.base.specs.Lists.{any, filter, absent, evens, odds, interleave}
 use Rattle.literal.specs.Literals.{twin}
 use Rattle.walk.specs.Walk.{arrive, leave, edge, edges, enters, starts, stampAll}
-use Rattle.graph.specs.Edges.{outs}
-use Rattle.graph.specs.Clauses.{froms, tos}
+use Rattle.implications.specs.Edges.{outs}
+use Rattle.implications.specs.Clauses.{froms, tos}
 use Rattle.stamps.specs.Columns.{columns}
 use Rattle.hidden.specs.Hidden.{holds, insert, byDiscovery, passes, scanAt, scan, hiddenTautology, unhidden, shorten}
 use Rattle.tables.specs.Tables.{Tables, tables}

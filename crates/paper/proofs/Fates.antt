@@ -22,8 +22,8 @@ use Rattle.hidden.proofs.Scan.{hidden-of, tautology-means}
 use Rattle.hidden.proofs.Shorten.{unhidden-sub, shorten-slots}
 use Rattle.hidden.proofs.Figure5.{figure5-means}
 use Rattle.tables.specs.Tables.{Tables}
-use Rattle.clauses.specs.Formed.{FitClause}
-use Rattle.clauses.proofs.Fitting.{fit-head, fit-member, fit-slots}
+use Rattle.visits.specs.Formed.{FitClause}
+use Rattle.visits.proofs.Fitting.{fit-head, fit-member, fit-slots}
 use Rattle.paper.specs.Records.{discovered, parent, Holds}
 use Rattle.paper.specs.Sweeping.{Hidden, HiddenPair, Shortened}
 use Rattle.paper.proofs.Pairs.{Jump, pair-exact}

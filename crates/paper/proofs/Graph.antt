@@ -11,18 +11,18 @@ use Rattle.base.specs.Decide.{same-or}
 use Rattle.literal.specs.Literals.{Literal, slotOf, litAt, twin}
 use Rattle.literal.proofs.Laws.{slot-lit, slot-twin, slot-same, lit-above, lit-var}
 use Rattle.literal.proofs.Signed.{abs-neg}
-use Rattle.graph.specs.Clauses.{froms, tos, implications}
-use Rattle.graph.proofs.Implications.{root-edges}
-use Rattle.cycles.proofs.Forward.{edge-below}
+use Rattle.implications.specs.Clauses.{froms, tos, implications}
+use Rattle.implications.proofs.Implications.{root-edges}
+use Rattle.scc.proofs.Forward.{edge-below}
 use Rattle.hidden.proofs.Scan.{Reads}
 use Rattle.state.specs.declared.State.{State}
 use Rattle.tables.specs.Tables.{Tables, standing}
 use Rattle.tables.specs.Clauses.{literalsOf, slotsAt, slotsFrom}
-use Rattle.clauses.proofs.Forming.{shape-formed, clause-fits, part-length, stands-one}
-use Rattle.clauses.proofs.Fitting.{fit-member}
+use Rattle.visits.proofs.Forming.{shape-formed, clause-fits, part-length, stands-one}
+use Rattle.visits.proofs.Fitting.{fit-member}
 use Rattle.shape.specs.Shape.{Shape}
-use Rattle.pairs.specs.Pairs.{Room}
-use Rattle.pairs.proofs.Listing.{formed-listed, from-clauses, slots-in, fit-edges}
+use Rattle.table_graph.specs.Pairs.{Room}
+use Rattle.table_graph.proofs.Listing.{formed-listed, from-clauses, slots-in, fit-edges}
 use Rattle.sound.specs.Formula.{literalsIn, graph}
 use Rattle.sound.specs.Formula as formula
 use Rattle.sound.proofs.Graph.{edge-pair, reads-edge}

@@ -12,23 +12,23 @@ use Rattle.walk.specs.Walk.{Stamps}
 use Rattle.walk.specs.Forest.{dis, fin, par, top, Above, self, up, here, on, Top, Under}
 use Rattle.walk.specs.Forest as forest
 use Rattle.walk.proofs.Theorems.{Stamped, above-holds, holds-above, start-top, back-cycle, reach-down}
-use Rattle.graph.proofs.Implications.{no-self-edge}
-use Rattle.groups.specs.Groups.{cyclic}
-use Rattle.cycles.proofs.Forward.{cyclic-none}
+use Rattle.implications.proofs.Implications.{no-self-edge}
+use Rattle.scc.specs.Groups.{cyclic}
+use Rattle.scc.proofs.Forward.{cyclic-none}
 use Rattle.stamps.specs.Fresh.{FreshStamps}
 use Rattle.hidden.proofs.Agree.{Agree}
 use Rattle.hidden.proofs.Columns.{column-dis, column-fin, column-par, column-top}
 use Rattle.stamps.specs.Columns.{columns}
 use Rattle.state.specs.declared.State.{State}
 use Rattle.tables.specs.Tables.{Tables}
-use Rattle.pairs.proofs.Listing.{slots-in}
-use Rattle.stamping.specs.Stamping.{Proper}
+use Rattle.table_graph.proofs.Listing.{slots-in}
+use Rattle.stamp_walk.specs.Stamping.{Proper}
 use Rattle.stamp.specs.Stamp.{stampedTables}
 use Rattle.stamp.proofs.Asking.{Known, known-proper}
 use Rattle.stamp.proofs.Writing.{full-lists}
 use Rattle.stamp.proofs.Freshness.{stamps-stamped, disc-size, fin-size, par-size, top-size}
 use Rattle.stamp.proofs.Shaped.{written-fresh}
-use Rattle.demand.proofs.Records.{stamped-agree}
+use Rattle.moves.proofs.Records.{stamped-agree}
 use Rattle.paper.specs.Records.{discovered, finished, parent, start, Holds, Ancestor}
 use Rattle.paper.specs.Records as records
 use Rattle.paper.specs.Edges.{Edge}

@@ -16,9 +16,9 @@ use Rattle.entry.specs.declared.PassName.the-variants as own
 use Rattle.entry.specs.declared.Entry.{Entry}
 use Rattle.entry.specs.declared.Entry.the-variants.{No, Opens, Resumes}
 use Rattle.entry.proofs.Entering.{Entered, opens-entered, resumes-entered}
-use Rattle.clauses.proofs.Entered.{NoMerge, entered-formed, entered-cursor}
-use Rattle.clauses.proofs.Visiting.{visits-beside}
-use Rattle.clauses.proofs.Advancing.{advance-cases}
+use Rattle.visits.proofs.Entered.{NoMerge, entered-formed, entered-cursor}
+use Rattle.visits.proofs.Visiting.{visits-beside}
+use Rattle.visits.proofs.Advancing.{advance-cases}
 use Rattle.sweep.specs.Sweep.{sweepClause, sweepFrom, unlessStale, sweepBy, sweepCall}
 use Rattle.sweep.proofs.Visiting.{sweep-shrinks}
 use Rattle.paper.specs.Sweeping.{sweptFrom, SweptCall}

@@ -5,7 +5,7 @@ use mathlib.Core.Bool.{true}
 use Rattle.state.specs.declared.State.{State}
 use Rattle.tables.specs.Tables.{Tables}
 use Rattle.shape.specs.Shape.{Shape}
-use Rattle.clauses.proofs.Forming.{shape-formed}
+use Rattle.visits.proofs.Forming.{shape-formed}
 use Rattle.paper.specs.Clauses.{clauseAt, flagAt}
 use Rattle.paper.specs.Sweeping.{SweptAs, sweptAt}
 use Rattle.paper.proofs.Visits.{visit-swept}

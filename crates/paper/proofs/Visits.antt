@@ -18,11 +18,11 @@ use Rattle.hidden.proofs.Columns.{fresh-nested}
 use Rattle.tables.specs.Tables.{Tables, lengthOf, standing}
 use Rattle.tables.specs.Clauses.{literalsOf}
 use Rattle.tables.specs.Fates.{Fate, store, shortened, droppedAt, visit, visits}
-use Rattle.clauses.specs.Formed.{Formed, FitClause}
-use Rattle.clauses.proofs.Forming.{clause-fits, part-length, record-inside, recorded-same, stands-one}
-use Rattle.clauses.proofs.Stores.{recorded, recorded-here, recorded-other, storedAt, stored-view, stored-other}
-use Rattle.clauses.proofs.Keeping.{FormedIn}
-use Rattle.clauses.proofs.Visiting.{visit-dropped, visit-standing}
+use Rattle.visits.specs.Formed.{Formed, FitClause}
+use Rattle.visits.proofs.Forming.{clause-fits, part-length, record-inside, recorded-same, stands-one}
+use Rattle.visits.proofs.Stores.{recorded, recorded-here, recorded-other, storedAt, stored-view, stored-other}
+use Rattle.visits.proofs.Keeping.{FormedIn}
+use Rattle.visits.proofs.Visiting.{visit-dropped, visit-standing}
 use Rattle.sweep.specs.Sweep.{sweepClause}
 use Rattle.sweep.proofs.Parting.{fate-short, fate-hidden, fate-left, shorten-shorter}
 use Rattle.sweep.proofs.Keeping.{formed-visit}

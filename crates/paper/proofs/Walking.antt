@@ -15,9 +15,9 @@ use Rattle.walk.specs.Forest.{dis}
 use Rattle.walk.proofs.Run.{Less, less-refl, edge-new, edge-old, edge-cases, edges-less, enters-less, fresh-set}
 use Rattle.walk.proofs.Drive.{fresh-le}
 use Rattle.walk.proofs.Depth.{figure-1}
-use Rattle.graph.specs.Clauses.{tos, implications}
-use Rattle.groups.specs.Groups.{blank, Lists}
-use Rattle.cycles.proofs.Forward.{edge-below}
+use Rattle.implications.specs.Clauses.{tos, implications}
+use Rattle.scc.specs.Groups.{blank, Lists}
+use Rattle.scc.proofs.Forward.{edge-below}
 use Rattle.stamp.specs.Stamp.{stampsOf}
 use Rattle.paper.specs.Figure1.{Figure1, startsBy, Walked}
 

@@ -7,7 +7,7 @@ use lib.ListN.{length, replicate}
 use Rattle.base.specs.Lists.{filter}
 use Rattle.walk.specs.Walk.{Stamps, arrive, leave, edges}
 use Rattle.walk.specs.Forest.{dis}
-use Rattle.groups.specs.Groups.{blank}
+use Rattle.scc.specs.Groups.{blank}
 
 -- `stamp r p s` is Stamp(s) for an s that is not yet entered, coming from p, in the tree that starts at r: s is entered; each edge of s is walked, in order, and enters its literal, coming from s, unless that is entered already; s is left
 abbrev pub Figure1 : (ℕ → List ℕ) → ℕ → (ℕ → ℕ → ℕ → Stamps → Stamps) → Type 0

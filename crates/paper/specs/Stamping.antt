@@ -9,7 +9,7 @@ use Rattle.base.specs.Lists.{absent}
 use Rattle.literal.specs.Literals.{Literal, slotOf, litAt}
 use Rattle.walk.specs.Walk.{Stamps}
 use Rattle.walk.specs.Forest.{dis, fin, par, top}
-use Rattle.graph.specs.Clauses.{tos, implications}
+use Rattle.implications.specs.Clauses.{tos, implications}
 use Rattle.state.specs.declared.State.{State}
 use Rattle.tables.specs.Tables.{Tables}
 use Rattle.tables.specs.Clauses.{slotsFrom}

@@ -10,7 +10,7 @@ use Rattle.state.specs.Answers.{Reply, replyOf, firstValue}
 use Rattle.state.specs.declared.Answer.{Answer}
 use Rattle.printing.specs.Printing.{refusedLine}
 use Rattle.write.specs.Write.{AfterWrite, afterWrite}
-use Rattle.unhiding.specs.Texts.{simplifyText, shown, shownAfter, unhideText}
+use Rattle.simplify.specs.Texts.{simplifyText, shown, shownAfter, unhideText}
 
 module _ (input : List ℕ) where
   -- more than 65,535 bytes

@@ -2,7 +2,7 @@
 ghost use mathlib.Core.Path.{_≡_};
 ghost use Prim.Native.Nat.{_≤_};
 ghost use lib.ListN.{take, replicate};
-ghost use Rattle.unhiding.specs.Texts.{unhideText};
+ghost use Rattle.simplify.specs.Texts.{unhideText};
 
 // Makes the bytes that are printed in `out`, which is empty; how many they are. One round; an input of more than 65,535 bytes is refused unread.
 pub fn print_into(input: &[u8], out: &mut [u8]) -> usize
@@ -12,7 +12,7 @@ pub fn print_into(input: &[u8], out: &mut [u8]) -> usize
     if 65535 < input.len() {
         return printing::put_refusal(out, 0, 3, 65535);
     }
-    let answer = unhiding::simplify_text(input, 1, out);
+    let answer = simplify::simplify_text(input, 1, out);
     let number = answer.number();
     let value = answer.value();
     if number == 0 {

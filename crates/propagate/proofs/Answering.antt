@@ -9,8 +9,8 @@ use Rattle.state.specs.declared.Counts.{Counts}
 use Rattle.tables.specs.Tables.{Tables, tables}
 use Rattle.tables.specs.Clauses.{gone}
 use Rattle.tables.specs.Calls.{After}
-use Rattle.clauses.specs.Formed.{Counted}
-use Rattle.clauses.proofs.Counting.{formed-counted}
+use Rattle.visits.specs.Formed.{Counted}
+use Rattle.visits.proofs.Counting.{formed-counted}
 use Rattle.propagate.specs.Propagate.{Progress, going, Reached, propagateVisits, propagateFrom, replied}
 use Rattle.propagate.specs.Steps.{progressOf, reachedAs, repliedWith, Ready}
 use Rattle.propagate.specs.declared.Stand.{Stand}

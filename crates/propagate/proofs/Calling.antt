@@ -12,9 +12,9 @@ use Rattle.entry.specs.declared.PassName.the-variants as own
 use Rattle.entry.specs.declared.Entry.{Entry}
 use Rattle.entry.specs.declared.Entry.the-variants.{No, Opens, Resumes}
 use Rattle.entry.proofs.Entering.{opens-entered, resumes-entered}
-use Rattle.clauses.specs.Formed.{Formed}
-use Rattle.clauses.proofs.Counting.{none-gone}
-use Rattle.clauses.proofs.Entered.{entered-formed, entered-cursor}
+use Rattle.visits.specs.Formed.{Formed}
+use Rattle.visits.proofs.Counting.{none-gone}
+use Rattle.visits.proofs.Entered.{entered-formed, entered-cursor}
 use Rattle.propagate.specs.Propagate.{Progress, going, settled, begin, Reached, replied, propagateVisits, propagateFrom, propagateBy, propagateCall}
 use Rattle.propagate.specs.Steps.{repliedWith, Ready}
 use Rattle.propagate.specs.declared.Stand.the-variants.{Settled}

@@ -13,11 +13,11 @@ use Rattle.tables.specs.Tables.{Tables, standing, classOf}
 use Rattle.tables.specs.Values.{isTrue, isFalse, setTrue}
 use Rattle.tables.specs.Clauses.{literalsOf}
 use Rattle.tables.specs.Fates.{Fate, conflict, store, fateAt, shortened, droppedAt}
-use Rattle.clauses.specs.Formed.{Formed, FitClause}
-use Rattle.clauses.proofs.Forming.{clause-fits, part-length, formed-values}
-use Rattle.clauses.proofs.Fitting.{fit-none, fit-filter, filter-shorter}
-use Rattle.clauses.proofs.Keeping.{FormedIn, formed-shortened, formed-dropped, formed-cases}
-use Rattle.clauses.proofs.MadeTrue.{true-classes, true-variables}
+use Rattle.visits.specs.Formed.{Formed, FitClause}
+use Rattle.visits.proofs.Forming.{clause-fits, part-length, formed-values}
+use Rattle.visits.proofs.Fitting.{fit-none, fit-filter, filter-shorter}
+use Rattle.visits.proofs.Keeping.{FormedIn, formed-shortened, formed-dropped, formed-cases}
+use Rattle.visits.proofs.MadeTrue.{true-classes, true-variables}
 use Rattle.propagate.specs.Propagate.{notFalse, remaining, propagateClause}
 use Rattle.propagate.proofs.Parting.{fate-true, fate-left}
 

@@ -17,10 +17,10 @@ use Rattle.tables.specs.Tables.{Tables, tables, startOf, lengthOf, standing, va
 use Rattle.tables.specs.Clauses.{literalsOf}
 use Rattle.tables.specs.Fates.{Fate, kept, left, dropped, unit, conflict, store, fateAt}
 use Rattle.tables.specs.Passes.{valued, unsettled}
-use Rattle.clauses.specs.Formed.{Formed}
-use Rattle.clauses.proofs.Forming.{part-length, clause-fits}
-use Rattle.clauses.proofs.Fitting.{fit-member}
-use Rattle.clauses.proofs.Keeping.{FormedIn}
+use Rattle.visits.specs.Formed.{Formed}
+use Rattle.visits.proofs.Forming.{part-length, clause-fits}
+use Rattle.visits.proofs.Fitting.{fit-member}
+use Rattle.visits.proofs.Keeping.{FormedIn}
 use Rattle.occurrences.specs.Chains.{ownerOf, Chained, Before, Linking, Linkable, Room}
 use Rattle.occurrences.specs.Pending.{Covered, Walkable, HasChain, PendingAll}
 use Rattle.occurrences.proofs.Pending.{covered-clear}

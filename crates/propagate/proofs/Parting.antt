@@ -9,9 +9,9 @@ use lib.IntN.{ℤ, pos, natAbs}
 use Rattle.base.specs.Lists.{any, filter}
 use Rattle.tables.specs.Values.{isTrue, isFalse, setTrue}
 use Rattle.tables.specs.Fates.{Fate, left, dropped, unit, conflict}
-use Rattle.clauses.specs.Formed.{Known, EachKnown}
-use Rattle.clauses.specs.Holding.{holding}
-use Rattle.clauses.proofs.Fitting.{filter-shorter}
+use Rattle.visits.specs.Formed.{Known, EachKnown}
+use Rattle.visits.specs.Holding.{holding}
+use Rattle.visits.proofs.Fitting.{filter-shorter}
 use Rattle.propagate.specs.Propagate.{notFalse, remaining, propagateClause}
 use Rattle.propagate.specs.Visits.{partOf, partAfter}
 use Rattle.propagate.specs.declared.Visited.the-variants.{Left, Dropped, Unit1, Conflict}

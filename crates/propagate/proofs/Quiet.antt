@@ -20,15 +20,15 @@ use Rattle.tables.specs.Values.{isTrue, isFalse, classLiteral, setTrue}
 use Rattle.tables.specs.Clauses.{literalsOf}
 use Rattle.tables.specs.Fates.{Fate, kept, left, dropped, unit, conflict, store, fateAt, shortened, droppedAt}
 use Rattle.tables.specs.Passes.{valued, unsettled}
-use Rattle.clauses.specs.Formed.{Formed, FitClause, Variables}
-use Rattle.clauses.proofs.Stores.{recorded, storedAt, stored-view, stored-other, recorded-other, recorded-here}
-use Rattle.clauses.proofs.Placing.{shortened-same}
-use Rattle.clauses.proofs.Forming.{part-inside, part-length, clause-fits, record-inside, stands-one, recorded-same, set-others}
-use Rattle.clauses.proofs.Fitting.{filter-shorter, fit-member}
-use Rattle.clauses.proofs.Known.{abs-signed, class-ranged, class-own}
-use Rattle.clauses.proofs.Visiting.{fate-dropped, fate-standing}
-use Rattle.clauses.proofs.Keeping.{FormedIn, formed-cases}
-use Rattle.settled.proofs.Looking.{dropped-settled, valued-unsettled, unit-unsettled}
+use Rattle.visits.specs.Formed.{Formed, FitClause, Variables}
+use Rattle.visits.proofs.Stores.{recorded, storedAt, stored-view, stored-other, recorded-other, recorded-here}
+use Rattle.visits.proofs.Placing.{shortened-same}
+use Rattle.visits.proofs.Forming.{part-inside, part-length, clause-fits, record-inside, stands-one, recorded-same, set-others}
+use Rattle.visits.proofs.Fitting.{filter-shorter, fit-member}
+use Rattle.visits.proofs.Known.{abs-signed, class-ranged, class-own}
+use Rattle.visits.proofs.Visiting.{fate-dropped, fate-standing}
+use Rattle.visits.proofs.Keeping.{FormedIn, formed-cases}
+use Rattle.visits.proofs.Looking.{dropped-settled, valued-unsettled, unit-unsettled}
 use Rattle.propagate.specs.Propagate.{Progress, going, onward, visited, remaining, notFalse, propagateClause, propagateVisit, propagateVisits}
 use Rattle.propagate.proofs.Parting.{fate-true, fate-left}
 use Rattle.propagate.proofs.Stepping.{onward-more}

@@ -8,7 +8,7 @@ use lib.IntN.{ℤ, pos}
 use Rattle.base.proofs.Lists.{filter-in, filter-out}
 use Rattle.literal.proofs.Compact.{Compact, start, stay, gone}
 use Rattle.tables.specs.Values.{isFalse}
-use Rattle.clauses.proofs.Ahead.{Ahead, ahead-none, ahead-next, ahead-set}
+use Rattle.visits.proofs.Ahead.{Ahead, ahead-none, ahead-next, ahead-set}
 use Rattle.propagate.specs.Propagate.{notFalse}
 
 -- literals move to the front, and what is still to be read is as it was

@@ -11,12 +11,12 @@ use lib.IntN.{ℤ}
 use borrow.Author.Tests.{ltb-true, lt-ltb, le-ltb}
 use Rattle.tables.specs.Tables.{Tables, tables, lengthOf, standing}
 use Rattle.tables.specs.Fates.{Fate, kept, left, dropped, unit, conflict, store, fateAt}
-use Rattle.clauses.specs.Formed.{Formed}
+use Rattle.visits.specs.Formed.{Formed}
 use Rattle.propagate.specs.Propagate.{Progress, going, settled, contradicted, onward, changes, visited, propagateClause, propagateVisit, propagateVisits, reached}
 use Rattle.propagate.specs.Visits.{visitedAs, Visit, visitOf, visitAt, Visitable}
 use Rattle.propagate.specs.Steps.{progressOf, standAfter, Ready}
 use Rattle.propagate.specs.declared.Visited.{Visited}
-use Rattle.clauses.proofs.Keeping.{FormedIn}
+use Rattle.visits.proofs.Keeping.{FormedIn}
 use Rattle.propagate.proofs.Keeping.{formed-visit, formed-conflict, conflict-stands}
 
 -- ---- where the pass goes on

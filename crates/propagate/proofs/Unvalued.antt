@@ -14,9 +14,9 @@ use Rattle.literal.specs.Literals.{eqZ, signBy}
 use Rattle.tables.specs.Tables.{classOf, valueOf}
 use Rattle.tables.specs.Values.{classLiteral, ownTruth, isTrue, isFalse}
 use Rattle.tables.specs.Passes.{valued}
-use Rattle.clauses.specs.Formed.{Variables, FitClause, Known}
-use Rattle.clauses.proofs.Fitting.{fit-head, fit-tail, filter-shorter}
-use Rattle.clauses.proofs.Known.{known-row}
+use Rattle.visits.specs.Formed.{Variables, FitClause, Known}
+use Rattle.visits.proofs.Fitting.{fit-head, fit-tail, filter-shorter}
+use Rattle.visits.proofs.Known.{known-row}
 use Rattle.propagate.specs.Propagate.{notFalse}
 
 -- ---- one literal

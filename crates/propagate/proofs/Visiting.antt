@@ -8,8 +8,8 @@ use Rattle.tables.specs.Tables.{Tables, tables, startOf, lengthOf, standing}
 use Rattle.tables.specs.Values.{setTrue}
 use Rattle.tables.specs.Clauses.{literalsOf}
 use Rattle.tables.specs.Fates.{Fate, kept, left, dropped, unit, conflict, shortened, droppedAt}
-use Rattle.clauses.proofs.Placing.{replaced, put-holding, put-same}
-use Rattle.clauses.proofs.Visiting.{fate-dropped, fate-standing}
+use Rattle.visits.proofs.Placing.{replaced, put-holding, put-same}
+use Rattle.visits.proofs.Visiting.{fate-dropped, fate-standing}
 use Rattle.propagate.specs.Propagate.{propagateClause}
 use Rattle.propagate.specs.Visits.{Part, partOf, partAfter, recordAfter, visitOf, visitBy, visitAt}
 use Rattle.propagate.specs.declared.Visited.{Visited}

@@ -12,7 +12,7 @@ use Rattle.state.specs.declared.Pass.the-variants.{Propagate}
 use Rattle.state.specs.declared.Answer.the-variants.{Open, Done}
 use Rattle.tables.specs.Tables.{Tables}
 use Rattle.tables.specs.Calls.{After, answered}
-use Rattle.clauses.specs.Formed.{Formed}
+use Rattle.visits.specs.Formed.{Formed}
 use Rattle.propagate.specs.Propagate.{Progress, going, settled, contradicted, onward, Reached, reached}
 use Rattle.propagate.specs.declared.Visited.{Visited}
 use Rattle.propagate.specs.declared.Visited.the-variants.{Kept, Left, Dropped, Unit1, Conflict}

@@ -7,8 +7,8 @@ use lib.IntN.{ℤ, natAbs}
 use Rattle.tables.specs.Tables.{Tables}
 use Rattle.tables.specs.Values.{setTrue}
 use Rattle.tables.specs.Fates.{Fate, kept, left, dropped, unit, conflict, store, fateAt}
-use Rattle.clauses.specs.Formed.{Formed}
-use Rattle.clauses.specs.Holding.{holding}
+use Rattle.visits.specs.Formed.{Formed}
+use Rattle.visits.specs.Holding.{holding}
 use Rattle.propagate.specs.Propagate.{propagateClause}
 use Rattle.propagate.specs.declared.Visited.{Visited}
 use Rattle.propagate.specs.declared.Visited.the-variants.{Kept, Left, Dropped, Unit1, Conflict}

@@ -12,7 +12,7 @@ ghost use Prim.Native.Nat.{ℕ, _+_, _*_, _-_, _≤_, _<_};
 ghost use lib.ListN.{length, replicate};
 ghost use Rattle.base.specs.Lists.{any};
 ghost use Rattle.tables.specs.Values.{isTrue};
-ghost use Rattle.clauses.specs.Formed.{EachKnown, Formed};
+ghost use Rattle.visits.specs.Formed.{EachKnown, Formed};
 ghost use Rattle.propagate.specs.Propagate.{notFalse, propagateClause, going, onward, propagateVisit, propagateVisits, begin, propagateFrom, propagateCall};
 ghost use Rattle.propagate.specs.Visits.{partOf, partAfter, recordAfter, visitOf, visitAt, Visitable};
 ghost use Rattle.propagate.specs.Steps.{progressOf, standAfter, reachedAs, repliedWith, Ready};
@@ -56,7 +56,7 @@ fn any_true(part: &[i32], variables: &[i32]) -> bool
     while i < part.len() {
         let l = part[i];
         i += 1;
-        if clauses::is_true(variables, l) {
+        if visits::is_true(variables, l) {
             return true;
         }
     }
@@ -74,7 +74,7 @@ fn remove_false(part: &mut [i32], variables: &[i32]) -> usize
     while i < part.len() {
         let l = part[i];
         i += 1;
-        if !clauses::is_false(variables, l) {
+        if !visits::is_false(variables, l) {
             part[n] = l;
             n += 1;
         }
@@ -98,7 +98,7 @@ fn visit_part(part: &mut [i32], variables: &mut [i32]) -> Visited
     }
     if n == 1 {
         let l = part[0];
-        clauses::set_true(variables, l);
+        visits::set_true(variables, l);
         part[0] = 0;
         return Visited::Unit1(literal::var_of(l) as u32);
     }
@@ -263,8 +263,8 @@ fn skip(n: u32, room: u32, k: u32, j: u32, changed: bool) -> Reach
     ensures { λ r. ⌜ (0 < r .visits) × ((r .visits ≤ room) × ((k + r .visits ≤ n) × (k + r .visits ≤ j))) ⌝ }
     ensures { λ r. ⌜ ((t : Tables) → progressOf (r .stand) t ≡ onward n (k + r .visits) changed t) ⌝ }
 {
-    let end = clauses::fewer(j, n);
-    let visits = clauses::fewer(end - k, room);
+    let end = visits::fewer(j, n);
+    let visits = visits::fewer(end - k, room);
     let stand = onward(n, k + visits, changed);
     Reach { visits, stand }
 }
@@ -409,7 +409,7 @@ pub fn visit_some(
     ensures { λ r. ⌜ ((times : List ℕ) (links : List ℤ) → reachedAs r (returned clauses literals variables (unlent times) (unlent links))
         ≡ propagateVisits n steps 0 (going cursor flag (lent clauses literals variables (unlent times) (unlent links)))) ⌝ }
 {
-    let first = clauses::fewer(4 * n, steps);
+    let first = visits::fewer(4 * n, steps);
     let reach = visit_each(clauses, literals, variables, n, first, cursor, flag);
     let stand = reach.stand;
     let Stand::Going(k, changed) = stand else {
@@ -463,12 +463,12 @@ pub fn propagate_from(
         (lent clauses literals variables (unlent times) (unlent links)) st) ⌝ }
 {
     let n = st.n;
-    let before = clauses::count_standing(clauses, n as usize);
+    let before = visits::count_standing(clauses, n as usize);
     let reach = visit_some(clauses, literals, variables, n, steps, cursor, flag);
-    let left = clauses::count_standing(clauses, n as usize);
+    let left = visits::count_standing(clauses, n as usize);
     let visits = reach.visits;
     let stand = reach.stand;
-    let counts = clauses::counts_of(visits, before, left);
+    let counts = visits::counts_of(visits, before, left);
     answer(st, fresh, counts, stand)
 }
 

@@ -25,18 +25,18 @@ use denote.Slice.{sliceVal, MutSlice, ShrSlice, Room, finally}
 use denote.Struct.Struct.{Struct}
 use denote.Struct.Declared.{shape, fields}
 use denote.Struct.Laws as LL
-use Rattle.records.specs.declared.StampRecord.{StampRecord}
-use Rattle.records.proofs.StampRecord as T
-use Rattle.records.proofs.StampRecord.Laws as T′
+use Rattle.stamp_records.specs.declared.StampRecord.{StampRecord}
+use Rattle.stamp_records.proofs.StampRecord as T
+use Rattle.stamp_records.proofs.StampRecord.Laws as T′
 use Rattle.state.specs.declared.Outcome.{Outcome}
 use Rattle.state.proofs.Outcome as Re
 use Rattle.state.proofs.Outcome.Laws as Re′
-use Rattle.records.proofs.Again.{at-list}
-use Rattle.records.proofs.Local.{only}
+use Rattle.stamp_records.proofs.Again.{at-list}
+use Rattle.stamp_records.proofs.Local.{only}
 use Rattle.record_cases.specs.declared.Recorded.{Recorded}
 use Rattle.record_cases.proofs.Recorded as D
 use Rattle.record_cases.proofs.Recorded.Laws as D′
-use Rattle.records.proofs.First.{Kept, SharedKept, lends-first, first-back, shares-first, shared-first-back}
+use Rattle.stamp_records.proofs.First.{Kept, SharedKept, lends-first, first-back, shares-first, shared-first-back}
 
 abbrev pub R : RattleType
 R = T.the-row

@@ -2,10 +2,10 @@
 // All records are filled with 7s before, so that those that stayed are seen. The records are passed by value, with the number of them that is lent:
 // only `stamp_lent` and `sweep_lent` make a loan of records, and each of them makes one call.
 ghost use Prim.Native.Nat.{_≤_};
-use records::StampRecord;
 use reporting::end_line;
 use reporting::print;
 use reporting::print_answer;
+use stamp_records::StampRecord;
 use state::Answer;
 use state::Outcome;
 use state::State;

@@ -4,9 +4,9 @@ use native.Mathlib.Omega.{arith}
 use mathlib.Core.Path.{_≡_, refl, sym, ap, _∙_}
 use mathlib.Core.List.{List, [], _∷_, _++_}
 use lib.ListN.{length, take, drop, take-append-drop}
-use Rattle.records.specs.declared.StampRecord.{StampRecord}
-use Rattle.records.specs.Records.{pairsIn, over}
-use Rattle.records.proofs.Over.{two-more}
+use Rattle.stamp_records.specs.declared.StampRecord.{StampRecord}
+use Rattle.stamp_records.specs.Records.{pairsIn, over}
+use Rattle.stamp_records.proofs.Over.{two-more}
 
 -- two fronts of a list, in either order
 front-front : {A : Type 0} (m n : ℕ) (l : List A) → take m (take n l) ≡ take n (take m l)

@@ -8,9 +8,9 @@ use Rattle.state.specs.declared.State.{State}
 use Rattle.state.specs.declared.Outcome.{Outcome}
 use Rattle.state.specs.declared.Answer.the-variants.{Refused}
 use Rattle.state.specs.declared.Refusal.the-variants.{Shape}
-use Rattle.records.specs.declared.StampRecord.{StampRecord}
-use Rattle.records.specs.Records.{timesOf}
-use Rattle.records.proofs.Packed.{packed-own}
+use Rattle.stamp_records.specs.declared.StampRecord.{StampRecord}
+use Rattle.stamp_records.specs.Records.{timesOf}
+use Rattle.stamp_records.proofs.Packed.{packed-own}
 use Rattle.tables.specs.Tables.{Tables}
 use Rattle.tables.specs.Calls.{After, after, refuse}
 use Rattle.load.specs.Load.{loadCall}
@@ -23,7 +23,7 @@ use Rattle.run.specs.Run.{runCall}
 use Rattle.calls.specs.Calls.{recorded, AfterStamp, afterStamp, inRecords, AfterRun, afterRun, runInRecords}
 use Rattle.calls.proofs.Short.{few-lent}
 use Rattle.calls.proofs.Refused.{propagate-short, merge-short, stamp-short, failed-short, sweep-short}
-use Rattle.unhiding.specs.Lists.{Call, propagate, merge, stamp, failed, sweep}
+use Rattle.call_lists.specs.Lists.{Call, propagate, merge, stamp, failed, sweep}
 use Rattle.recorded_calls.specs.Steps.{Holding, holding, columned, Left, leaving, readingStamps, writingStamps, callOnRecords, loadOnRecords, runOnRecords, lend, Step, withBack, stepOn}
 
 -- before the call the tables, the records and the state are these; the code's outcome is o, and what it wrote is primed

@@ -14,10 +14,10 @@ use Rattle.literal.specs.Literals.{slotOf}
 use Rattle.literal.specs.Clauses.{distinct, tautology}
 use Rattle.literal.specs.Assignments.{Assignment, Satisfies}
 use Rattle.state.specs.declared.State.{State}
-use Rattle.records.specs.declared.StampRecord.{StampRecord}
-use Rattle.records.specs.Records.{pairsIn, timesOf, linksOf, packed}
-use Rattle.records.proofs.Over.{length-pairs}
-use Rattle.records.proofs.Packed.{columns-packed}
+use Rattle.stamp_records.specs.declared.StampRecord.{StampRecord}
+use Rattle.stamp_records.specs.Records.{pairsIn, timesOf, linksOf, packed}
+use Rattle.stamp_records.proofs.Over.{length-pairs}
+use Rattle.stamp_records.proofs.Packed.{columns-packed}
 use Rattle.tables.specs.Tables.{tables, standing}
 use Rattle.tables.specs.Long.{Long}
 use Rattle.tables.specs.Values.{classLiteral}
@@ -28,11 +28,11 @@ use Rattle.dimacs.specs.Text.{judgeText, textClauses}
 use Rattle.dimacs.specs.declared.Verdict.the-variants.{Fits}
 use Rattle.load.specs.Load.{loadCall}
 use Rattle.run.specs.Run.{runCall}
-use Rattle.unhiding.specs.Lists as columns
+use Rattle.call_lists.specs.Lists as columns
 use Rattle.calls.proofs.Spanned.{AsMany, run-many}
-use Rattle.represented.proofs.Laid.{nth}
-use Rattle.represented.proofs.Running.{run-keeps}
-use Rattle.represented.proofs.Demand3.{demand-3, left-out}
+use Rattle.refinement.proofs.Laid.{nth}
+use Rattle.refinement.proofs.Running.{run-keeps}
+use Rattle.refinement.proofs.Demand3.{demand-3, left-out}
 use Rattle.recorded_calls.specs.Steps.{Holding, columned, Enough, loadOnRecords, Left, runOnRecords, Step, Trail, stepsOn}
 use Rattle.recorded_calls.proofs.Reading.{Reads, load-reads}
 use Rattle.recorded_calls.proofs.Simulated.{stepInColumns, trailInColumns, leftInColumns, steps-simulated}

@@ -21,9 +21,9 @@ use Rattle.entry.specs.declared.Entry.the-variants.{No, Opens, Resumes}
 use Rattle.entry.specs.declared.Opening.{Opening}
 use Rattle.entry.specs.declared.Opening.the-variants.{Denied, Granted}
 use Rattle.entry.proofs.Entering.{opens-entered, resumes-entered}
-use Rattle.clauses.proofs.Entered.{entered-formed, entered-cursor}
-use Rattle.clauses.proofs.Advancing.{advance-cases}
-use Rattle.clauses.proofs.Visiting.{SameStamps, stamps-same, Shrinks, visits-beside}
+use Rattle.visits.proofs.Entered.{entered-formed, entered-cursor}
+use Rattle.visits.proofs.Advancing.{advance-cases}
+use Rattle.visits.proofs.Visiting.{SameStamps, stamps-same, Shrinks, visits-beside}
 use Rattle.dimacs.specs.Text.{judgeText, bodyOf}
 use Rattle.dimacs.specs.declared.Verdict.{Verdict}
 use Rattle.dimacs.specs.declared.Verdict.the-variants as verdict

@@ -5,15 +5,15 @@ use mathlib.Core.List.{List, [], _∷_, _++_, map}
 use lib.ListN.{length, take, drop}
 use lib.IntN.{ℤ}
 use Rattle.state.specs.declared.State.{State}
-use Rattle.records.specs.declared.StampRecord.{StampRecord}
-use Rattle.records.specs.Records.{timesIn, linksIn, timesOf, linksOf, recordsIn, packed}
-use Rattle.records.proofs.Over.{length-pairs}
-use Rattle.records.proofs.Packed.{columns-records}
+use Rattle.stamp_records.specs.declared.StampRecord.{StampRecord}
+use Rattle.stamp_records.specs.Records.{timesIn, linksIn, timesOf, linksOf, recordsIn, packed}
+use Rattle.stamp_records.proofs.Over.{length-pairs}
+use Rattle.stamp_records.proofs.Packed.{columns-records}
 use Rattle.tables.specs.Tables.{Tables, tables}
 use Rattle.tables.specs.Calls.{After}
 use Rattle.calls.proofs.Recorded.{Kept, stamp-kept}
-use Rattle.unhiding.specs.Lists.{Call, propagate, merge, stamp, failed, sweep, callOn}
-use Rattle.unhiding.specs.Lists as columns
+use Rattle.call_lists.specs.Lists.{Call, propagate, merge, stamp, failed, sweep, callOn}
+use Rattle.call_lists.specs.Lists as columns
 use Rattle.recorded_calls.specs.Steps.{Holding, columned, Left, readingStamps, writingStamps, callOnRecords, Lent, lend, giveBack, Step, withBack, stepOn, Trail, stepsOn}
 use Rattle.recorded_calls.proofs.Reading.{Reads, propagate-reads, merge-reads, failed-reads, sweep-reads}
 use Rattle.recorded_calls.proofs.Columns.{column-lent, column-read, column-written}

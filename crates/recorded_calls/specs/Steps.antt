@@ -7,7 +7,7 @@ use lib.IntN.{ℤ}
 use Rattle.state.specs.Answers.{Reply, replyOf}
 use Rattle.state.specs.declared.State.{State}
 use Rattle.state.specs.declared.Outcome.{Outcome}
-use Rattle.records.specs.declared.StampRecord.{StampRecord}
+use Rattle.stamp_records.specs.declared.StampRecord.{StampRecord}
 use Rattle.tables.specs.Tables.{Tables}
 use Rattle.tables.specs.Calls.{After}
 use Rattle.load.specs.Load.{loadCall}
@@ -18,7 +18,7 @@ use Rattle.failed.specs.Failed.{failedCall}
 use Rattle.sweep.specs.Sweep.{sweepCall}
 use Rattle.run.specs.Run.{runCall}
 use Rattle.calls.specs.Calls.{recorded, inRecords, runInRecords}
-use Rattle.unhiding.specs.Lists.{Call, propagate, merge, stamp, failed, sweep}
+use Rattle.call_lists.specs.Lists.{Call, propagate, merge, stamp, failed, sweep}
 
 -- what the caller holds: the tables, the stamps as records
 pub record Holding : Type 0 where

@@ -6,8 +6,8 @@ use mathlib.Core.Bool.{Bool, true, false}
 use mathlib.Core.List.{List, [], _∷_}
 use lib.Dec.{eqb}
 use lib.IntN.{ℤ}
-use Rattle.graph.specs.Clauses.{implications}
-use Rattle.groups.specs.Groups.{cyclic}
+use Rattle.implications.specs.Clauses.{implications}
+use Rattle.scc.specs.Groups.{cyclic}
 use Rattle.stamps.specs.Columns.{columns}
 use Rattle.state.specs.States.{closed, marked}
 use Rattle.state.specs.declared.State.{State}
@@ -16,7 +16,7 @@ use Rattle.tables.specs.Tables.{Tables}
 use Rattle.tables.specs.Clauses.{slotsFrom}
 use Rattle.tables.specs.Calls.{After}
 use Rattle.shape.specs.Shape.{Shape}
-use Rattle.figures.specs.Stamped.{Stamped}
+use Rattle.sweep_clause.specs.Stamped.{Stamped}
 use Rattle.stamp.specs.Stamp.{stampAcyclic, stampOrdered}
 use Rattle.stamp.specs.Asking.{askOrdered}
 use Rattle.stamp.specs.declared.Ruling.{Ruling}

@@ -15,8 +15,8 @@ use Rattle.entry.specs.declared.Entry.the-variants.{Opens}
 use Rattle.entry.specs.declared.Opening.{Opening}
 use Rattle.entry.specs.declared.Opening.the-variants.{Granted}
 use Rattle.entry.proofs.Entering.{Entered, entry-idle, opening-idle}
-use Rattle.clauses.specs.Formed.{Formed}
-use Rattle.clauses.proofs.Entered.{entered-formed}
+use Rattle.visits.specs.Formed.{Formed}
+use Rattle.visits.proofs.Entered.{entered-formed}
 use Rattle.stamp.specs.Stamp.{stampAcyclic, stampOrdered, stampBy, stampCall}
 use Rattle.stamp.specs.Asking.{askOrdered, askOf}
 use Rattle.stamp.specs.declared.Ruling.the-variants.{No, Fit}

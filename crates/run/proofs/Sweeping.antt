@@ -14,10 +14,10 @@ use Rattle.tables.specs.Tables.{Tables}
 use Rattle.tables.specs.Fates.{visits}
 use Rattle.tables.specs.Calls.{After}
 use Rattle.shape.specs.Shape.{Shape}
-use Rattle.clauses.proofs.Visiting.{visits-beside}
-use Rattle.clauses.proofs.Keeping.{FormedIn, formed-shape-as}
-use Rattle.clauses.proofs.Advancing.{advance-whole}
-use Rattle.figures.specs.Stamped.{Stamped}
+use Rattle.visits.proofs.Visiting.{visits-beside}
+use Rattle.visits.proofs.Keeping.{FormedIn, formed-shape-as}
+use Rattle.visits.proofs.Advancing.{advance-whole}
+use Rattle.sweep_clause.specs.Stamped.{Stamped}
 use Rattle.sweep.specs.Sweep.{sweepClause, sweepFrom}
 use Rattle.sweep.proofs.Visiting.{sweep-shrinks}
 use Rattle.sweep.proofs.Keeping.{formed-visits}

@@ -13,7 +13,7 @@ use Rattle.state.specs.declared.Refusal.the-variants.{Unsettled, Cyclic, Order}
 use Rattle.tables.specs.Tables.{Tables}
 use Rattle.tables.specs.Passes.{firstUnsettled}
 use Rattle.tables.specs.Calls.{After, refuse}
-use Rattle.groups.specs.Groups.{cyclic}
+use Rattle.scc.specs.Groups.{cyclic}
 use Rattle.merge.specs.Merge.{edgesOf}
 use Rattle.stamp.specs.Stamp.{firstBad, stampFresh, stampAcyclic, stampSettled, stampOrdered}
 use Rattle.settle.specs.Settle.{Standing, settle}

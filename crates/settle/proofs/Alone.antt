@@ -12,18 +12,18 @@ use Rattle.base.specs.Decide.{same-or}
 use Rattle.literal.specs.Literals.{Literal, slotOf, litAt, twin}
 use Rattle.literal.proofs.Laws.{lit-slot, slot-below}
 use Rattle.literal.proofs.Twins.{twin-even, twin-odd}
-use Rattle.groups.specs.Groups.{cyclic, leastMutual}
-use Rattle.cycles.specs.Forward.{Acyclic}
-use Rattle.cycles.proofs.Forward.{cyclic-none}
+use Rattle.scc.specs.Groups.{cyclic, leastMutual}
+use Rattle.scc.specs.Forward.{Acyclic}
+use Rattle.scc.proofs.Forward.{cyclic-none}
 use Rattle.state.specs.declared.State.{State}
 use Rattle.tables.specs.Tables.{Tables}
 use Rattle.tables.specs.Clauses.{literalsOf, slotsFrom}
 use Rattle.tables.specs.Fates.{Fate, store, visit, visits}
-use Rattle.clauses.specs.Formed.{FitClause}
-use Rattle.clauses.proofs.Placing.{shortened-same}
-use Rattle.clauses.proofs.Forming.{part-inside, clause-fits}
-use Rattle.clauses.proofs.Keeping.{FormedTo, formed-cases}
-use Rattle.pairs.proofs.Listing.{formed-listed, slots-in}
+use Rattle.visits.specs.Formed.{FitClause}
+use Rattle.visits.proofs.Placing.{shortened-same}
+use Rattle.visits.proofs.Forming.{part-inside, clause-fits}
+use Rattle.visits.proofs.Keeping.{FormedTo, formed-cases}
+use Rattle.table_graph.proofs.Listing.{formed-listed, slots-in}
 use Rattle.merge.specs.Merge.{edgesOf, clashes, representative, regrouped, mergedClasses, mergeClause}
 use Rattle.merge.proofs.Regrouped.{class-at, regrouped-as}
 use Rattle.merge.proofs.Opening.{clashes-some}

@@ -6,9 +6,9 @@ use lib.IntN.{pos, negsuc}
 use Rattle.base.specs.Lists.{any, filter, first, anyBelow}
 use Rattle.literal.specs.Literals.{twin}
 use Rattle.walk.specs.Walk.{arrive, leave, edge, edges, enters, starts}
-use Rattle.graph.specs.Edges.{outs}
-use Rattle.graph.specs.Clauses.{froms, tos}
-use Rattle.groups.specs.Groups.{reaches, connected, cyclic, leastMutual}
+use Rattle.implications.specs.Edges.{outs}
+use Rattle.implications.specs.Clauses.{froms, tos}
+use Rattle.scc.specs.Groups.{reaches, connected, cyclic, leastMutual}
 use Rattle.state.specs.States.{state}
 use Rattle.state.specs.declared.Pass.the-variants.{Idle}
 use Rattle.tables.specs.Tables.{tables}

@@ -13,9 +13,9 @@ use Rattle.state.specs.declared.State.{State}
 use Rattle.tables.specs.Tables.{Tables}
 use Rattle.tables.specs.Clauses.{literalCount}
 use Rattle.tables.specs.Passes.{unsettled, firstUnsettled}
-use Rattle.clauses.specs.Formed.{Formed}
-use Rattle.clauses.proofs.Keeping.{FormedIn}
-use Rattle.settled.proofs.Looking.{FoundFrom, found-none, found-next, found-end}
+use Rattle.visits.specs.Formed.{Formed}
+use Rattle.visits.proofs.Keeping.{FormedIn}
+use Rattle.visits.proofs.Looking.{FoundFrom, found-none, found-next, found-end}
 use Rattle.propagate.specs.Propagate.{Progress, going, settled, contradicted, onward, propagateVisits, begin}
 use Rattle.settle.specs.Settle.{enough}
 use Rattle.settle.proofs.Measure.{total, literals-total}

@@ -13,14 +13,14 @@ use Rattle.literal.proofs.Laws.{slot-below, slot-variable}
 use Rattle.literal.proofs.Twins.{twin-even, twin-odd}
 use Rattle.walk.specs.Forest.{Reach, here}
 use Rattle.literal.proofs.Twins.{twin-variable}
-use Rattle.groups.specs.Groups.{cyclic, leastMutual, Representative}
-use Rattle.groups.proofs.Kosaraju.{mirror}
-use Rattle.cycles.proofs.Forward.{cyclic-found, reach-within}
+use Rattle.scc.specs.Groups.{cyclic, leastMutual, Representative}
+use Rattle.scc.proofs.Kosaraju.{mirror}
+use Rattle.scc.proofs.Forward.{cyclic-found, reach-within}
 use Rattle.state.specs.declared.State.{State}
 use Rattle.tables.specs.Tables.{Tables, classOf}
 use Rattle.tables.specs.Clauses.{slotsFrom}
-use Rattle.clauses.proofs.Keeping.{FormedTo}
-use Rattle.pairs.proofs.Listing.{formed-listed, slots-in}
+use Rattle.visits.proofs.Keeping.{FormedTo}
+use Rattle.table_graph.proofs.Listing.{formed-listed, slots-in}
 use Rattle.merge.specs.Merge.{edgesOf, clashes, representative, regrouped}
 use Rattle.merge.proofs.Opening.{none-clash}
 use Rattle.merge.proofs.Merged.{edges-skew, edges-least, moved-own, variable-new}

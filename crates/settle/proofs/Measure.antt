@@ -11,8 +11,8 @@ use lib.IntN.{ℤ}
 use Rattle.base.specs.Decide.{same-or}
 use Rattle.tables.specs.Tables.{lengthOf, standing}
 use Rattle.tables.specs.Clauses.{literalCount}
-use Rattle.clauses.specs.Formed.{Formed}
-use Rattle.clauses.proofs.Counting.{Counting, counting-none, counting-dropped, counting-standing, counting-done, formed-counted}
+use Rattle.visits.specs.Formed.{Formed}
+use Rattle.visits.proofs.Counting.{Counting, counting-none, counting-dropped, counting-standing, counting-done, formed-counted}
 
 -- the lengths of the first m records
 unfoldable pub total : List ℕ → ℕ → ℕ

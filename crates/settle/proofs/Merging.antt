@@ -10,9 +10,9 @@ use Rattle.state.specs.declared.Pass.the-variants.{Idle, Merge}
 use Rattle.tables.specs.Tables.{Tables}
 use Rattle.tables.specs.Fates.{visits}
 use Rattle.tables.specs.Passes.{firstUnsettled}
-use Rattle.clauses.proofs.Visiting.{visits-beside}
-use Rattle.clauses.proofs.Keeping.{FormedTo}
-use Rattle.clauses.proofs.Advancing.{advance-whole}
+use Rattle.visits.proofs.Visiting.{visits-beside}
+use Rattle.visits.proofs.Keeping.{FormedTo}
+use Rattle.visits.proofs.Advancing.{advance-whole}
 use Rattle.merge.specs.Merge.{edgesOf, clashes, representative, regrouped, mergedClasses, mergeClause}
 use Rattle.merge.proofs.Merged.{classes-formed}
 use Rattle.merge.proofs.Visiting.{merge-shrinks}

@@ -7,7 +7,7 @@ use lib.Dec.{ltb}
 use lib.IntN.{ℤ}
 use Rattle.state.specs.declared.State.{State}
 use Rattle.tables.specs.Tables.{tables}
-use Rattle.clauses.specs.Formed.{Formed, Variables}
+use Rattle.visits.specs.Formed.{Formed, Variables}
 use Rattle.merge.specs.Steps.{Openable}
 use Rattle.settle.specs.Settle.{Standing, propagated, merged, grouped}
 use Rattle.settle.specs.Steps.{standingIn, passed, afterMerge, afterPropagate, bothPasses}

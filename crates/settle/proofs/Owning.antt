@@ -12,7 +12,7 @@ use Rattle.literal.specs.Literals.{Literal, Small, slotOf, litAt}
 use Rattle.literal.proofs.Signed.{eq-eqZ, ne-eqZ}
 use Rattle.literal.proofs.Laws.{lit-slot}
 use Rattle.tables.specs.Tables.{classOf}
-use Rattle.clauses.specs.Formed.{Variables}
+use Rattle.visits.specs.Formed.{Variables}
 use Rattle.merge.proofs.Regrouped.{class-at}
 use Rattle.settle.specs.Own.{owns}
 

@@ -10,9 +10,9 @@ use Rattle.state.specs.States.{marked}
 use Rattle.state.specs.declared.State.{State}
 use Rattle.tables.specs.Tables.{Tables}
 use Rattle.tables.specs.Passes.{firstUnsettled}
-use Rattle.clauses.specs.Formed.{Formed}
+use Rattle.visits.specs.Formed.{Formed}
 use Rattle.merge.specs.Merge.{edgesOf, clashes}
-use Rattle.clauses.proofs.Keeping.{FormedTo}
+use Rattle.visits.proofs.Keeping.{FormedTo}
 use Rattle.settle.specs.Settle.{Standing, propagated, merged, grouped}
 use Rattle.settle.specs.Steps.{standingIn, Passed, passed, afterMerge, afterPropagate, bothPasses}
 use Rattle.settle.specs.Own.{owns}

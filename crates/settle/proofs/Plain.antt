@@ -12,8 +12,8 @@ use Rattle.literal.specs.Clauses.{has, distinctFrom, distinct, tautology}
 use Rattle.literal.proofs.Signed.{abs-neg, eqZ-true, ne-eqZ}
 use Rattle.tables.specs.Values.{classLiteral}
 use Rattle.tables.specs.Fates.{Fate, left, dropped}
-use Rattle.clauses.specs.Formed.{FitClause}
-use Rattle.clauses.proofs.Fitting.{fit-head, fit-tail}
+use Rattle.visits.specs.Formed.{FitClause}
+use Rattle.visits.proofs.Fitting.{fit-head, fit-tail}
 use Rattle.merge.specs.Merge.{mergeClause}
 use Rattle.propagate.proofs.Unvalued.{own-literal}
 

@@ -12,7 +12,7 @@ use Rattle.base.specs.Decide.{same-or}
 use Rattle.tables.specs.Tables.{startOf, lengthOf}
 use Rattle.tables.specs.Clauses.{literalCount}
 use Rattle.shape.specs.Shape.{Parts}
-use Rattle.clauses.specs.Formed.{Formed}
+use Rattle.visits.specs.Formed.{Formed}
 use Rattle.settle.proofs.Measure.{total, literals-total}
 
 -- no part that has places ends above `end`

@@ -8,7 +8,7 @@ use lib.ListN.{length}
 use lib.IntN.{ℤ}
 use Rattle.state.specs.declared.State.{State}
 use Rattle.tables.specs.Tables.{tables}
-use Rattle.clauses.specs.Formed.{Formed}
+use Rattle.visits.specs.Formed.{Formed}
 use Rattle.settle.specs.Settle.{settleFor, settle}
 use Rattle.settle.specs.Steps.{standingIn, Passed, passed, bothPasses}
 use Rattle.settle.specs.Own.{owns}

@@ -17,13 +17,13 @@ use Rattle.tables.specs.Values.{isTrue, setTrue}
 use Rattle.tables.specs.Clauses.{literalsOf}
 use Rattle.tables.specs.Fates.{Fate, left, dropped, unit, conflict, store, fateAt, shortened, droppedAt}
 use Rattle.tables.specs.Passes.{unsettled}
-use Rattle.clauses.specs.Formed.{Formed, FitClause}
-use Rattle.clauses.proofs.Stores.{recorded-other, recorded-here}
-use Rattle.clauses.proofs.Placing.{shortened-same}
-use Rattle.clauses.proofs.Forming.{part-inside, part-length, clause-fits, record-inside, stands-one}
-use Rattle.clauses.proofs.Visiting.{fate-dropped, fate-standing}
-use Rattle.clauses.proofs.Keeping.{FormedIn}
-use Rattle.settled.proofs.Looking.{dropped-settled, valued-unsettled}
+use Rattle.visits.specs.Formed.{Formed, FitClause}
+use Rattle.visits.proofs.Stores.{recorded-other, recorded-here}
+use Rattle.visits.proofs.Placing.{shortened-same}
+use Rattle.visits.proofs.Forming.{part-inside, part-length, clause-fits, record-inside, stands-one}
+use Rattle.visits.proofs.Visiting.{fate-dropped, fate-standing}
+use Rattle.visits.proofs.Keeping.{FormedIn}
+use Rattle.visits.proofs.Looking.{dropped-settled, valued-unsettled}
 use Rattle.propagate.specs.Propagate.{Progress, contradicted, onward, visited, remaining, notFalse, propagateClause, propagateVisit}
 use Rattle.propagate.proofs.Parting.{fate-true, fate-left}
 use Rattle.propagate.proofs.Keeping.{formed-visit, formed-conflict}

@@ -9,9 +9,9 @@ use Rattle.state.specs.declared.State.{State}
 use Rattle.state.specs.declared.Pass.the-variants.{Idle}
 use Rattle.tables.specs.Tables.{Tables, classOf}
 use Rattle.tables.specs.Passes.{firstUnsettled}
-use Rattle.clauses.specs.Formed.{Formed}
-use Rattle.clauses.proofs.Visiting.{SameStamps}
-use Rattle.clauses.proofs.Keeping.{FormedIn}
+use Rattle.visits.specs.Formed.{Formed}
+use Rattle.visits.proofs.Visiting.{SameStamps}
+use Rattle.visits.proofs.Keeping.{FormedIn}
 use Rattle.propagate.specs.Propagate.{Progress, going, settled, contradicted, begin, Reached, propagateVisits, replied, propagateFrom}
 use Rattle.propagate.proofs.Stepping.{Good}
 use Rattle.propagate.proofs.Shaped.{tablesAt, visits-stamps, visits-classes, begin-tables, begin-good}

@@ -2,7 +2,7 @@
 use Prim.Native.Nat.{ℕ, zero, suc, _+_, _*_}
 use mathlib.Core.Bool.{Bool, true, false}
 use lib.ListN.{take}
-use Rattle.groups.specs.Groups.{cyclic}
+use Rattle.scc.specs.Groups.{cyclic}
 use Rattle.state.specs.declared.State.{State}
 use Rattle.tables.specs.Tables.{Tables}
 use Rattle.tables.specs.Clauses.{literalCount}

@@ -6,7 +6,7 @@ ghost use mathlib.Core.List.{List};
 ghost use Prim.Native.Nat.{ℕ};
 ghost use lib.IntN.{ℤ};
 ghost use Rattle.tables.specs.Lent.{lent, returned, unlent};
-ghost use Rattle.clauses.specs.Formed.{Variables, Formed};
+ghost use Rattle.visits.specs.Formed.{Variables, Formed};
 ghost use Rattle.merge.specs.Steps.{Openable};
 ghost use Rattle.settle.specs.Settle.{propagated, merged, settle};
 ghost use Rattle.settle.specs.Own.{owns};
@@ -50,7 +50,7 @@ fn propagate_whole(
         ≡ propagated (standingIn (lent clauses literals variables (unlent times) (unlent links)) st)) ⌝ }
 {
     let n = st.n;
-    let totals = clauses::count_standing(clauses, n as usize);
+    let totals = visits::count_standing(clauses, n as usize);
     let steps = (totals.literals + 2) * n;
     let outcome = propagate::open_pass(clauses, literals, variables, st, steps);
     outcome.state

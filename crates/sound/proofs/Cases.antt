@@ -9,14 +9,14 @@ use Rattle.base.specs.Lists.{any, filter, absent}
 use Rattle.literal.specs.Literals.{twin}
 use Rattle.literal.specs.Assignments.{Assignment}
 use Rattle.walk.specs.Walk.{arrive, leave, edge, edges, enters, starts, stampAll}
-use Rattle.graph.specs.Edges.{outs}
-use Rattle.graph.specs.Clauses.{froms, tos}
+use Rattle.implications.specs.Edges.{outs}
+use Rattle.implications.specs.Clauses.{froms, tos}
 use Rattle.hidden.specs.Hidden.{holds, insert, byDiscovery, passes, scanAt, scan, hiddenTautology, unhidden, shorten}
 use Rattle.hidden.proofs.Cases.{columns2, columns4, columns6}
 use Rattle.stamp.specs.Stamp.{stampsOf}
 use Rattle.sound.specs.Formula.{Clause, dropped, standing, literalsIn, value, formulaStamps}
 use Rattle.sound.specs.Sweep.{judge, onStanding, visitFirst, sweepFirst, jumps, tautology2, sweepFirst2}
-use Rattle.cycles.specs.Forward.{forward}
+use Rattle.scc.specs.Forward.{forward}
 
 -- 1, -1, 2, -2, .. are 0, 1, 2, 3, ..
 o2 : List ℕ

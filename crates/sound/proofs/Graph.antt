@@ -5,12 +5,12 @@ use mathlib.Core.Path.{_≡_, refl, sym, ap, subst}
 use mathlib.Core.Logic.{_⊎_, inl, inr, ⊎-elim}
 use mathlib.Core.List.{List, [], _∷_, map, List·Memᴰ, List·Memᴰ·head, List·Memᴰ·tail, List·Memᴰ·not-nil, List·Memᴰ·cases-cons, Memᴰ·map, Memᴰ·of-map}
 use Rattle.literal.specs.Literals.{twin}
-use Rattle.graph.specs.Clauses.{froms, tos, Once, empty}
-use Rattle.graph.proofs.Implications.{flip, no-self-edge}
+use Rattle.implications.specs.Clauses.{froms, tos, Once, empty}
+use Rattle.implications.proofs.Implications.{flip, no-self-edge}
 use Rattle.hidden.proofs.Scan.{Reads, by-reads}
 use Rattle.sound.specs.Formula.{Clause, dropped, standing, literalsIn, graph}
 use Rattle.sound.specs.Kept.{Shaped}
-use Rattle.cycles.proofs.Edges.{Edge, first, later, outs-edge, edge-outs}
+use Rattle.scc.proofs.Edges.{Edge, first, later, outs-edge, edge-outs}
 
 -- ---- clauses
 

@@ -8,19 +8,19 @@ use Rattle.base.specs.Lists.{any, filter, absent, anyBelow}
 use Rattle.literal.specs.Literals.{twin}
 use Rattle.literal.specs.Assignments.{Assignment}
 use Rattle.walk.specs.Walk.{arrive, leave, edge, edges, enters, starts, stampAll}
-use Rattle.graph.specs.Edges.{outs}
-use Rattle.graph.specs.Clauses.{froms, tos}
-use Rattle.groups.specs.Groups.{Lists, cyclic}
+use Rattle.implications.specs.Edges.{outs}
+use Rattle.implications.specs.Clauses.{froms, tos}
+use Rattle.scc.specs.Groups.{Lists, cyclic}
 use Rattle.stamp.specs.Stamp.{stampsOf}
 use Rattle.stamp.proofs.Freshness.{stamps-stamped}
 use Rattle.sound.specs.Formula.{literalsIn, Models, graph, formulaStamps}
 use Rattle.sound.specs.Sweep.{sweepFirst}
 use Rattle.sound.specs.Kept.{Shaped}
-use Rattle.cycles.specs.Forward.{forward}
+use Rattle.scc.specs.Forward.{forward}
 use Rattle.sound.proofs.Cases.{o4, f2}
 use Rattle.sound.proofs.Tests.{once?, clause?, shaped?, lists?, shaped-of, lists-of}
 use Rattle.sound.proofs.Graph.{shaped-below, shaped-once}
-use Rattle.cycles.proofs.Forward.{cyclic-forward}
+use Rattle.scc.proofs.Forward.{cyclic-forward}
 use Rattle.sound.proofs.Walked.{stamp-sweep-keeps}
 
 p2-shaped : Shaped 4 f2

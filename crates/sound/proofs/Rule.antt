@@ -9,7 +9,7 @@ use Rattle.walk.specs.Walk.{Stamps}
 use Rattle.walk.specs.Forest.{dis, fin, Reach, here, on, Forest}
 use Rattle.base.specs.Decide.{same-or}
 use Rattle.walk.proofs.Theorems.{holds-reach, reach-down, reach-entered}
-use Rattle.cycles.specs.Forward.{Acyclic}
+use Rattle.scc.specs.Forward.{Acyclic}
 use Rattle.sound.specs.Kept.{Detour}
 
 module _ (adj : ℕ → List ℕ) (σ : Stamps) (F : Forest adj σ) (acyclic : Acyclic adj) where

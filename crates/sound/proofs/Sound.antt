@@ -23,19 +23,19 @@ use Rattle.literal.proofs.Twins.{twin-below}
 use Rattle.walk.specs.Walk.{Stamps}
 use Rattle.walk.specs.Forest.{Reach}
 use Rattle.walk.proofs.Theorems.{Stamped, reach-implies}
-use Rattle.graph.specs.Clauses.{Once}
-use Rattle.groups.proofs.Kosaraju.{reach-trans}
+use Rattle.implications.specs.Clauses.{Once}
+use Rattle.scc.proofs.Kosaraju.{reach-trans}
 use Rattle.hidden.specs.Hidden.{shorten}
 use Rattle.hidden.proofs.Intervals.{Within}
 use Rattle.hidden.proofs.Scan.{Reads, by-reads}
 use Rattle.hidden.proofs.Shorten.{shorten-sub}
 use Rattle.sound.specs.Formula.{Clause, dropped, standing, literalsIn, True, Sat, Models, graph}
 use Rattle.sound.specs.Sweep.{judge, sweepSlots, onStanding, visit, visitFirst, visitFrom, sweepFirst, tautology2, sweepFirst2}
-use Rattle.cycles.specs.Forward.{Acyclic}
+use Rattle.scc.specs.Forward.{Acyclic}
 use Rattle.sound.specs.Kept.{Detour, Kept, same, shorter, round, implied, Since, none, each, Shaped}
 use Rattle.sound.proofs.Truth.{true-or, not-both}
 use Rattle.sound.proofs.Graph.{standing-eq, not-standing, shaped-below, edge-pair}
-use Rattle.cycles.proofs.Forward.{edge-below}
+use Rattle.scc.proofs.Forward.{edge-below}
 use Rattle.sound.proofs.Rule.{rule}
 use Rattle.sound.proofs.Visit.{sweep-kept, sweep2-kept}
 

@@ -10,8 +10,8 @@ use Rattle.base.specs.Lists.{any, anyBelow}
 use Rattle.base.proofs.Booleans.{and-left, and-right, bool-or, clash}
 use Rattle.base.proofs.Lists.{any-in, any-out}
 use Rattle.base.proofs.Searches.{anyBelow-in}
-use Rattle.graph.specs.Clauses.{Once, empty, more}
-use Rattle.groups.specs.Groups.{Lists}
+use Rattle.implications.specs.Clauses.{Once, empty, more}
+use Rattle.scc.specs.Groups.{Lists}
 use Rattle.sound.specs.Formula.{Clause, standing, literalsIn}
 use Rattle.sound.specs.Kept.{Shaped}
 

@@ -12,8 +12,8 @@ use Rattle.literal.proofs.Twins.{twin-twice, twin-eq}
 use Rattle.walk.specs.Walk.{Stamps}
 use Rattle.walk.specs.Forest.{dis, par, Holds, Reach, here, on, Top, Under}
 use Rattle.walk.proofs.Theorems.{Stamped, holds-reach, reach-mirror}
-use Rattle.graph.specs.Clauses.{Once}
-use Rattle.groups.proofs.Kosaraju.{reach-trans}
+use Rattle.implications.specs.Clauses.{Once}
+use Rattle.scc.proofs.Kosaraju.{reach-trans}
 use Rattle.hidden.specs.Hidden.{holds, hiddenTautology, shorten}
 use Rattle.hidden.proofs.Intervals.{Within, holds-true}
 use Rattle.hidden.proofs.Scan.{Reads, by-reads, Hidden, hidden-of, tautology-pair}

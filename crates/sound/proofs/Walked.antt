@@ -9,13 +9,13 @@ use mathlib.Core.Bool.{false}
 use mathlib.Core.Logic.{_↔_}
 use mathlib.Core.List.{List, map}
 use Rattle.literal.specs.Assignments.{Assignment}
-use Rattle.groups.specs.Groups.{Lists, cyclic}
+use Rattle.scc.specs.Groups.{Lists, cyclic}
 use Rattle.stamp.proofs.Freshness.{stamps-sized, stamps-stamped}
 use Rattle.sound.specs.Formula.{Clause, literalsIn, Models, graph, formulaStamps}
 use Rattle.sound.specs.Sweep.{sweepFirst}
-use Rattle.cycles.specs.Forward.{Acyclic}
+use Rattle.scc.specs.Forward.{Acyclic}
 use Rattle.sound.specs.Kept.{Shaped}
-use Rattle.cycles.proofs.Forward.{cyclic-none, none-cyclic}
+use Rattle.scc.proofs.Forward.{cyclic-none, none-cyclic}
 use Rattle.sound.proofs.Graph.{shaped-below}
 use Rattle.sound.proofs.Sound.{Ready, sweep-keeps}
 

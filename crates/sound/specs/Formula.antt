@@ -7,7 +7,7 @@ use mathlib.Core.List.{List, [], map, List·Memᴰ}
 use Rattle.literal.specs.Literals.{litAt}
 use Rattle.literal.specs.Assignments.{Assignment, holds}
 use Rattle.walk.specs.Walk.{Stamps}
-use Rattle.graph.specs.Clauses.{implications}
+use Rattle.implications.specs.Clauses.{implications}
 use Rattle.stamp.specs.Stamp.{stampsOf}
 
 pub data Clause : Type 0 where

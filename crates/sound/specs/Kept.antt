@@ -6,7 +6,7 @@ use mathlib.Core.List.{List, [], _∷_, List·Memᴰ, Sublistᴰ}
 use lib.ListN.{length}
 use Rattle.literal.specs.Literals.{twin}
 use Rattle.walk.specs.Forest.{Reach}
-use Rattle.graph.specs.Clauses.{Once}
+use Rattle.implications.specs.Clauses.{Once}
 use Rattle.sound.specs.Formula.{Clause, dropped, standing}
 
 -- a path from p to q by way of a third literal: where no two literals reach each other, a path of at least two edges

@@ -15,8 +15,8 @@ use Rattle.state.specs.declared.Refusal.{Refusal}
 use Rattle.state.specs.declared.Refusal.the-variants.{Unsettled, Cyclic, Order, OtherPass, Shape as Misshapen}
 use Rattle.state.specs.declared.Answer.the-variants.{Stamped}
 use Rattle.literal.specs.Literals.{slotOf}
-use Rattle.graph.specs.Clauses.{implications}
-use Rattle.groups.specs.Groups.{cyclic}
+use Rattle.implications.specs.Clauses.{implications}
+use Rattle.scc.specs.Groups.{cyclic}
 use Rattle.tables.specs.Tables.{Tables}
 use Rattle.tables.specs.Clauses.{slotsFrom}
 use Rattle.tables.specs.Passes.{firstUnsettled}
@@ -27,11 +27,11 @@ use Rattle.shape.specs.Shape.{Shape}
 use Rattle.entry.specs.declared.Opening.{Opening}
 use Rattle.entry.specs.declared.Opening.the-variants.{Denied, Granted}
 use Rattle.entry.proofs.Entering.{granted-entered}
-use Rattle.clauses.specs.Formed.{Formed}
-use Rattle.clauses.proofs.Forming.{shape-formed}
-use Rattle.clauses.proofs.Entered.{entered-formed}
-use Rattle.stamping.specs.Stamping.{Proper}
-use Rattle.stamping.proofs.Graphing.{formed-proper}
+use Rattle.visits.specs.Formed.{Formed}
+use Rattle.visits.proofs.Forming.{shape-formed}
+use Rattle.visits.proofs.Entered.{entered-formed}
+use Rattle.stamp_walk.specs.Stamping.{Proper}
+use Rattle.stamp_walk.proofs.Graphing.{formed-proper}
 use Rattle.stamp.specs.Stamp.{firstBad, stampsOf, stampFresh, stampAcyclic, stampSettled, stampOrdered, stampBy, stampCall}
 use Rattle.stamp.specs.Asking.{askSettled, askOrdered, askBy, askOf, Full, Records, writtenTables, answerOf}
 use Rattle.stamp.specs.declared.Ruling.{Ruling}

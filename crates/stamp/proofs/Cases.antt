@@ -6,9 +6,9 @@ use lib.IntN.{pos, negsuc}
 use Rattle.base.specs.Lists.{filter, absent, first, anyBelow, interleave}
 use Rattle.literal.specs.Literals.{twin}
 use Rattle.walk.specs.Walk.{arrive, leave, edge, edges, enters, starts, stampAll}
-use Rattle.graph.specs.Edges.{outs}
-use Rattle.graph.specs.Clauses.{froms, tos, implications}
-use Rattle.groups.specs.Groups.{reaches, connected, cyclic}
+use Rattle.implications.specs.Edges.{outs}
+use Rattle.implications.specs.Clauses.{froms, tos, implications}
+use Rattle.scc.specs.Groups.{reaches, connected, cyclic}
 use Rattle.tables.specs.Tables.{tables}
 use Rattle.stamp.specs.Stamp.{firstBad, stampsOf, stampedTables}
 

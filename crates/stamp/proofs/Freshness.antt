@@ -22,14 +22,14 @@ use Rattle.walk.specs.Walk.{Stamps, edges, starts, stampAll}
 use Rattle.walk.specs.Forest.{dis, fin, par, top, Holds, Parted, Forest, Top}
 use Rattle.walk.proofs.Run.{Less, less-trans, edges-less, enters-less}
 use Rattle.walk.proofs.Theorems.{Stamped, stamp-theorem, times-apart, entered-below, links-below}
-use Rattle.graph.specs.Clauses.{tos, implications}
-use Rattle.groups.specs.Groups.{blank, Lists}
-use Rattle.cycles.proofs.Forward.{edge-below}
+use Rattle.implications.specs.Clauses.{tos, implications}
+use Rattle.scc.specs.Groups.{blank, Lists}
+use Rattle.scc.proofs.Forward.{edge-below}
 use Rattle.tables.specs.Tables.{Tables}
 use Rattle.tables.specs.Clauses.{slotsFrom}
-use Rattle.pairs.proofs.Listing.{slots-in}
-use Rattle.stamping.specs.Stamping.{Holding, Proper}
-use Rattle.stamping.proofs.Copying.{many-records}
+use Rattle.table_graph.proofs.Listing.{slots-in}
+use Rattle.stamp_walk.specs.Stamping.{Holding, Proper}
+use Rattle.stamp_walk.proofs.Copying.{many-records}
 use Rattle.stamp.specs.Stamp.{stampsOf, stampedTables}
 use Rattle.stamp.specs.Asking.{Full}
 use Rattle.stamp.proofs.Writing.{full-lists}

@@ -6,8 +6,8 @@ use mathlib.Core.Bool.{Bool, true, false}
 use mathlib.Core.List.{List, map}
 use lib.IntN.{ℤ}
 use Rattle.literal.specs.Literals.{slotOf}
-use Rattle.graph.specs.Clauses.{implications}
-use Rattle.groups.specs.Groups.{cyclic}
+use Rattle.implications.specs.Clauses.{implications}
+use Rattle.scc.specs.Groups.{cyclic}
 use Rattle.state.specs.States.{closed}
 use Rattle.state.specs.declared.State.{State}
 use Rattle.state.specs.declared.Pass.{Pass}
@@ -17,8 +17,8 @@ use Rattle.tables.specs.Clauses.{slotsFrom}
 use Rattle.tables.specs.Calls.{After}
 use Rattle.stamps.specs.Fresh.{FreshStamps}
 use Rattle.shape.specs.Shape.{Shape, settledTo}
-use Rattle.clauses.specs.Formed.{Formed}
-use Rattle.clauses.proofs.Forming.{shape-formed, formed-shape}
+use Rattle.visits.specs.Formed.{Formed}
+use Rattle.visits.proofs.Forming.{shape-formed, formed-shape}
 use Rattle.stamp.specs.Stamp.{stampsOf, stampedTables, stampAcyclic, stampCall}
 use Rattle.stamp.specs.Asking.{askOf}
 use Rattle.stamp.specs.declared.Ruling.{Ruling}

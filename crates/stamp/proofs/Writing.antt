@@ -10,12 +10,12 @@ use Rattle.base.proofs.Lists.{take-zeros, front-zeros}
 use Rattle.literal.specs.Literals.{slotOf, litAt}
 use Rattle.literal.proofs.Laws.{slot-below}
 use Rattle.walk.specs.Walk.{Stamps, stampAll}
-use Rattle.graph.specs.Clauses.{tos, implications}
-use Rattle.groups.specs.Groups.{blank, Lists}
+use Rattle.implications.specs.Clauses.{tos, implications}
+use Rattle.scc.specs.Groups.{blank, Lists}
 use Rattle.tables.specs.Tables.{tables}
 use Rattle.tables.specs.Clauses.{slotsFrom}
-use Rattle.pairs.proofs.Listing.{mem-map}
-use Rattle.stamping.specs.Stamping.{Holding, Columned, Proper, Ordered, Literals}
+use Rattle.table_graph.proofs.Listing.{mem-map}
+use Rattle.stamp_walk.specs.Stamping.{Holding, Columned, Proper, Ordered, Literals}
 use Rattle.stamp.specs.Stamp.{stampsOf, stampedTables}
 use Rattle.stamp.specs.Asking.{Full, Blank}
 

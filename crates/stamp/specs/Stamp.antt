@@ -10,8 +10,8 @@ use Rattle.base.specs.Lists.{absent, first, interleave}
 use Rattle.literal.specs.Literals.{inRange, slotOf, litAt}
 use Rattle.literal.specs.Clauses.{has}
 use Rattle.walk.specs.Walk.{Stamps, stampAll}
-use Rattle.graph.specs.Clauses.{implications, tos}
-use Rattle.groups.specs.Groups.{blank, cyclic}
+use Rattle.implications.specs.Clauses.{implications, tos}
+use Rattle.scc.specs.Groups.{blank, cyclic}
 use Rattle.state.specs.States.{closed}
 use Rattle.state.specs.declared.State.{State}
 use Rattle.state.specs.declared.Pass.the-variants.{Idle}

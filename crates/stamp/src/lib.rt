@@ -10,13 +10,13 @@ ghost use mathlib.Core.List.{List, map};
 ghost use Prim.Native.Nat.{ℕ, _*_, _≤_};
 ghost use lib.IntN.{ℤ};
 ghost use Rattle.literal.specs.Literals.{slotOf};
-ghost use Rattle.graph.specs.Clauses.{implications};
-ghost use Rattle.groups.specs.Groups.{cyclic};
+ghost use Rattle.implications.specs.Clauses.{implications};
+ghost use Rattle.scc.specs.Groups.{cyclic};
 ghost use Rattle.tables.specs.Lent.{lent, returned, unlent};
 ghost use Rattle.tables.specs.Clauses.{slotsFrom};
 ghost use Rattle.tables.specs.Calls.{after};
-ghost use Rattle.clauses.specs.Formed.{Formed};
-ghost use Rattle.stamping.specs.Stamping.{Proper};
+ghost use Rattle.visits.specs.Formed.{Formed};
+ghost use Rattle.stamp_walk.specs.Stamping.{Proper};
 ghost use Rattle.stamp.specs.Stamp.{firstBad, stampsOf, stampAcyclic, stampCall};
 ghost use Rattle.stamp.specs.Asking.{askOrdered, askOf, Full, Records, Blank, writtenTables, answerOf};
 
@@ -70,7 +70,7 @@ pub fn ask_ordered(
         return Ruling::No(Refusal::Order(wrong));
     }
     let n = st.n as usize;
-    let unsettled = settled::first_unsettled(clauses, literals, variables, n);
+    let unsettled = visits::first_unsettled(clauses, literals, variables, n);
     if unsettled < n {
         return Ruling::No(Refusal::Unsettled(unsettled as u32 + 1));
     }
@@ -118,12 +118,12 @@ fn write_stamps(
         ≡ writtenTables r v (stampsOf (slotsFrom (now (clauses .entry)) (now (literals .entry)) n 0) (2 * v) (map slotOf (now (order .entry))))
         (lent clauses literals (unlent variables) times links)) ⌝ }
 {
-    stamping::list_slots(order, slots);
-    if stamping::stamp_columns(v, n, clauses, literals, slots, disc, fin, par, top) {
+    stamp_walk::list_slots(order, slots);
+    if stamp_walk::stamp_columns(v, n, clauses, literals, slots, disc, fin, par, top) {
         return true;
     }
-    stamping::copy_times(disc, fin, times);
-    stamping::copy_links(par, top, links);
+    stamp_walk::copy_times(disc, fin, times);
+    stamp_walk::copy_links(par, top, links);
     false
 }
 

@@ -15,7 +15,7 @@ use Rattle.entry.specs.declared.PassName.the-variants as own
 use Rattle.entry.specs.declared.Entry.{Entry}
 use Rattle.entry.specs.declared.Entry.the-variants.{No, Opens, Resumes}
 use Rattle.entry.proofs.Entering.{Entered}
-use Rattle.clauses.proofs.Entered.{NoMerge, entered-formed}
+use Rattle.visits.proofs.Entered.{NoMerge, entered-formed}
 use Rattle.sweep.specs.Sweep.{sweepFrom, unlessStale, sweepBy, sweepCall}
 use Rattle.sweep.specs.Visits.{Ready}
 

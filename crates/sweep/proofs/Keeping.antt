@@ -17,10 +17,10 @@ use Rattle.hidden.proofs.Columns.{fresh-nested}
 use Rattle.tables.specs.Tables.{Tables, tables, standing}
 use Rattle.tables.specs.Clauses.{literalsOf}
 use Rattle.tables.specs.Fates.{Fate, left, dropped, store, visit, visits, shortened}
-use Rattle.clauses.specs.Formed.{FitClause}
-use Rattle.clauses.proofs.Forming.{clause-fits, part-length}
-use Rattle.clauses.proofs.Fitting.{fit-slots}
-use Rattle.clauses.proofs.Keeping.{FormedIn, formed-shortened, formed-dropped, formed-cases}
+use Rattle.visits.specs.Formed.{FitClause}
+use Rattle.visits.proofs.Forming.{clause-fits, part-length}
+use Rattle.visits.proofs.Fitting.{fit-slots}
+use Rattle.visits.proofs.Keeping.{FormedIn, formed-shortened, formed-dropped, formed-cases}
 use Rattle.sweep.specs.Sweep.{sweepClause}
 use Rattle.sweep.specs.Visits.{Ready, Sweepable}
 use Rattle.sweep.proofs.Parting.{shorten-shorter, shorten-fits}

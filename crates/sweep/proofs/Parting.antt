@@ -11,9 +11,9 @@ use Rattle.walk.specs.Walk.{Stamps}
 use Rattle.stamps.specs.Columns.{columns}
 use Rattle.tables.specs.Fates.{Fate, kept, left, dropped}
 use Rattle.hidden.specs.Hidden.{holds, hiddenTautology, unhidden, shorten}
-use Rattle.clauses.specs.Formed.{FitClause}
-use Rattle.clauses.specs.Holding.{holding}
-use Rattle.clauses.proofs.Fitting.{fit-filter, filter-shorter}
+use Rattle.visits.specs.Formed.{FitClause}
+use Rattle.visits.specs.Holding.{holding}
+use Rattle.visits.proofs.Fitting.{fit-filter, filter-shorter}
 use Rattle.sweep.specs.Sweep.{sweepClause}
 use Rattle.sweep.specs.Visits.{partOf, partAfter}
 use Rattle.sweep.specs.declared.Visited.the-variants.{Kept, Left, Dropped}

@@ -12,10 +12,10 @@ use Rattle.hidden.specs.Hidden.{hiddenTautology, shorten}
 use Rattle.tables.specs.Tables.{tables, startOf, lengthOf, standing}
 use Rattle.tables.specs.Clauses.{literalsOf}
 use Rattle.tables.specs.Fates.{Fate, kept, left, dropped, store, visit, shortened, droppedAt}
-use Rattle.clauses.proofs.Forming.{clause-fits}
-use Rattle.clauses.proofs.Placing.{replaced, put-holding, put-same}
-use Rattle.clauses.proofs.Visiting.{visit-standing, Shrinks, stays, leaves, drops}
-use Rattle.figures.specs.Stamped.{Judged}
+use Rattle.visits.proofs.Forming.{clause-fits}
+use Rattle.visits.proofs.Placing.{replaced, put-holding, put-same}
+use Rattle.visits.proofs.Visiting.{visit-standing, Shrinks, stays, leaves, drops}
+use Rattle.sweep_clause.specs.Stamped.{Judged}
 use Rattle.sweep.specs.Sweep.{sweepClause}
 use Rattle.sweep.specs.Visits.{Part, partOf, partAfter, recordAfter, Ready}
 use Rattle.sweep.specs.declared.Visited.{Visited}

@@ -13,9 +13,9 @@ use Rattle.state.specs.declared.Answer.the-variants.{Open, Done}
 use Rattle.tables.specs.Tables.{Tables}
 use Rattle.tables.specs.Fates.{Fate, kept, left, dropped, unit, conflict}
 use Rattle.tables.specs.Calls.{After, answered}
-use Rattle.clauses.specs.Formed.{Formed}
-use Rattle.clauses.specs.Holding.{holding}
-use Rattle.figures.specs.Stamped.{Stamped}
+use Rattle.visits.specs.Formed.{Formed}
+use Rattle.visits.specs.Holding.{holding}
+use Rattle.sweep_clause.specs.Stamped.{Stamped}
 use Rattle.sweep.specs.declared.Visited.{Visited}
 use Rattle.sweep.specs.declared.Visited.the-variants.{Kept, Left, Dropped}
 

@@ -20,7 +20,7 @@ ghost use Rattle.tables.specs.Calls.{after};
 ghost use Rattle.tables.specs.Fates.{visit, visits};
 ghost use Rattle.sweep.specs.Sweep.{sweepClause, sweepFrom, unlessStale, sweepCall};
 ghost use Rattle.sweep.specs.Visits.{partOf, partAfter, recordAfter, Ready, Sweepable, standsBefore};
-ghost use Rattle.figures.specs.Stamped.{Judged};
+ghost use Rattle.sweep_clause.specs.Stamped.{Judged};
 
 // What a visit makes of a clause: nothing changes; so many literals are left; it is dropped.
 pub enum Visited {
@@ -43,11 +43,11 @@ fn visit_part(
     if part.len() < 2 {
         return Visited::Kept;
     }
-    if figures::hidden_tautology(part, times, links, slots, twins) {
+    if sweep_clause::hidden_tautology(part, times, links, slots, twins) {
         literal::zero_from(part, 0);
         return Visited::Dropped;
     }
-    let n = figures::shorten_part(part, slots, twins, times);
+    let n = sweep_clause::shorten_part(part, slots, twins, times);
     Visited::Left(n as u32)
 }
 
@@ -157,8 +157,8 @@ pub fn sweep_from(
     let mut slots = [0u32; 16384];
     let mut twins = [0u32; 16384];
     let n = st.n;
-    let before = clauses::count_standing(clauses, n as usize);
-    let m = clauses::fewer(steps, n - cursor);
+    let before = visits::count_standing(clauses, n as usize);
+    let m = visits::fewer(steps, n - cursor);
     sweep_visits(
         clauses,
         literals,
@@ -169,8 +169,8 @@ pub fn sweep_from(
         cursor as usize,
         m as usize,
     );
-    let left = clauses::count_standing(clauses, n as usize);
-    answer_at(st, cursor + m, clauses::counts_of(m, before, left))
+    let left = visits::count_standing(clauses, n as usize);
+    answer_at(st, cursor + m, visits::counts_of(m, before, left))
 }
 
 // A call that no refusal above 9 stops: it opens the pass or resumes it, from clause `cursor` on. Run enters here.

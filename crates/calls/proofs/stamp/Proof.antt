@@ -50,18 +50,18 @@ use Rattle.state.proofs.State as S
 use Rattle.state.proofs.State.Laws as S′
 use Rattle.state.proofs.Outcome as Re
 use Rattle.state.proofs.Outcome.Laws as Re′
-use Rattle.records.specs.declared.StampRecord.{StampRecord}
-use Rattle.records.specs.declared.Columns.{Columns}
-use Rattle.records.proofs.Local.{only}
-use Rattle.records.proofs.Columns as K
-use Rattle.records.proofs.Columns.Laws as K′
-use Rattle.records.proofs.columns_of.Symbol as co-def
-use Rattle.records.proofs.columns_of.Symbol.{name as #co}
-use Rattle.records.proofs.columns_of.Met as co-thm
-use Rattle.records.proofs.put_columns as pu
-use Rattle.records.proofs.put_columns.Symbol as pu-def
-use Rattle.records.proofs.put_columns.Symbol.{name as #pu}
-use Rattle.records.proofs.put_columns.Met as pu-thm
+use Rattle.stamp_records.specs.declared.StampRecord.{StampRecord}
+use Rattle.stamp_records.specs.declared.Columns.{Columns}
+use Rattle.stamp_records.proofs.Local.{only}
+use Rattle.stamp_records.proofs.Columns as K
+use Rattle.stamp_records.proofs.Columns.Laws as K′
+use Rattle.stamp_records.proofs.columns_of.Symbol as co-def
+use Rattle.stamp_records.proofs.columns_of.Symbol.{name as #co}
+use Rattle.stamp_records.proofs.columns_of.Met as co-thm
+use Rattle.stamp_records.proofs.put_columns as pu
+use Rattle.stamp_records.proofs.put_columns.Symbol as pu-def
+use Rattle.stamp_records.proofs.put_columns.Symbol.{name as #pu}
+use Rattle.stamp_records.proofs.put_columns.Met as pu-thm
 use Rattle.tables.specs.Tables.{tables as tableLists}
 use Rattle.tables.specs.Calls.{After, after}
 use Rattle.stamp.specs.Stamp.{stampCall}

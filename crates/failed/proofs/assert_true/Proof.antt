@@ -8,9 +8,9 @@ use Rattle.failed.proofs.assert_true.Statement.{statement}
 use Rattle.failed.proofs.assert_true.Tie as tie
 use Rattle.failed.proofs.assert_true.Reads as reads
 use Rattle.failed.proofs.assert_true.Lts as lts
-use Rattle.clauses.proofs.is_false.Reads as is-false-reads
-use Rattle.clauses.proofs.is_true.Reads as is-true-reads
-use Rattle.clauses.proofs.set_true.Reads as set-true-reads
+use Rattle.visits.proofs.is_false.Reads as is-false-reads
+use Rattle.visits.proofs.is_true.Reads as is-true-reads
+use Rattle.visits.proofs.set_true.Reads as set-true-reads
 
 -- what the tests say of l
 true-is : (c : tie.After-is-true) → isTrue (c .before .before .args .variables .now) (c .before .before .args .l) ≡ c .is-true .result

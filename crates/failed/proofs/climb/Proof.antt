@@ -10,7 +10,7 @@ use Rattle.failed.proofs.climb.Tie as tie
 use Rattle.failed.proofs.climb.Reads as reads
 use Rattle.failed.proofs.climb.Lts as lts
 use Rattle.failed.proofs.holds.Reads as holds-reads
-use Rattle.intervals.proofs.parent.Reads as parent-reads
+use Rattle.discovery_order.proofs.parent.Reads as parent-reads
 use Rattle.literal.proofs.twin_of.Reads as twin-of-reads
 
 abbrev Inv-loop : tie.InvT-loop

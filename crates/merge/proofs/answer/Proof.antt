@@ -1,6 +1,6 @@
 -- `merge::answer` meets its contract. Assumes nothing.
 use Rattle.state.specs.declared.Pass.the-variants.{Merge}
-use Rattle.clauses.proofs.Advancing.{stands-open, stands-done}
+use Rattle.visits.proofs.Advancing.{stands-open, stands-done}
 use borrow.Author.Needs.{needs}
 use Rattle.merge.proofs.answer.Statement.{statement}
 use Rattle.merge.proofs.answer.Tie as tie

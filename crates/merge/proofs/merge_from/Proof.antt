@@ -1,17 +1,17 @@
 -- `merge::merge_from` meets its contract. Assumes nothing.
 use Rattle.tables.specs.Tables.{tables}
 use Rattle.tables.specs.Calls.{after}
-use Rattle.clauses.proofs.Counting.{formed-counted, counts-are}
+use Rattle.visits.proofs.Counting.{formed-counted, counts-are}
 use Rattle.merge.proofs.Answering.{ready-visitable, made-counted, advanced-by}
 use borrow.Author.Needs.{needs}
 use Rattle.merge.proofs.merge_from.Statement.{statement}
 use Rattle.merge.proofs.merge_from.Tie as tie
 use Rattle.merge.proofs.merge_from.Reads as reads
 use Rattle.merge.proofs.merge_from.Lts as lts
-use Rattle.clauses.proofs.count_standing.Reads as count-standing-reads
-use Rattle.clauses.proofs.counts_of.Reads as counts-of-reads
+use Rattle.visits.proofs.count_standing.Reads as count-standing-reads
+use Rattle.visits.proofs.counts_of.Reads as counts-of-reads
 use Rattle.merge.proofs.answer.Reads as answer-reads
-use Rattle.clauses.proofs.fewer.Reads as fewer-reads
+use Rattle.visits.proofs.fewer.Reads as fewer-reads
 use Rattle.merge.proofs.visit_some.Reads as visit-some-reads
 
 sub-fewer : tie.Need-sub-fewer

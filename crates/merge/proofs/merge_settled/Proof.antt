@@ -1,7 +1,7 @@
 -- `merge::merge_settled` meets its contract. Assumes nothing.
 use mathlib.Core.Path.{_∙_}
 use Rattle.tables.specs.Tables.{tables}
-use Rattle.settled.proofs.Looking.{formed-asked}
+use Rattle.visits.proofs.Looking.{formed-asked}
 use Rattle.merge.proofs.Calling.{first-refused, first-opens, all-settled}
 use borrow.Author.Needs.{needs}
 use Rattle.merge.proofs.merge_settled.Statement.{statement}
@@ -9,7 +9,7 @@ use Rattle.merge.proofs.merge_settled.Tie as tie
 use Rattle.merge.proofs.merge_settled.Reads as reads
 use Rattle.merge.proofs.merge_settled.Lts as lts
 use Rattle.merge.proofs.merge_open.Reads as merge-open-reads
-use Rattle.settled.proofs.first_unsettled.Reads as first-unsettled-reads
+use Rattle.visits.proofs.first_unsettled.Reads as first-unsettled-reads
 
 cast-n : tie.Need-cast-n
 cast-n c = search needs

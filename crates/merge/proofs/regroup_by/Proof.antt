@@ -1,10 +1,10 @@
 -- `merge::regroup_by` meets its contract. Assumes nothing.
 use Rattle.merge.proofs.Opening.{clash-is, regroups, classes-are}
-use Rattle.pairs.proofs.Listing.{formed-listed}
+use Rattle.table_graph.proofs.Listing.{formed-listed}
 use Rattle.merge.specs.Merge.{clashes, representative, regrouped}
 use Rattle.merge.specs.Opening.{Regroups, through}
-use Rattle.groups.specs.Groups.{clash}
-use Rattle.graph.specs.Clauses.{implications}
+use Rattle.scc.specs.Groups.{clash}
+use Rattle.implications.specs.Clauses.{implications}
 use Rattle.tables.specs.Clauses.{slotsFrom}
 use Prim.Native.Nat.{ℕ, _*_}
 use mathlib.Core.Path.{_≡_, refl, sym, _∙_}
@@ -15,8 +15,8 @@ use Rattle.merge.proofs.regroup_by.Statement.{statement}
 use Rattle.merge.proofs.regroup_by.Tie as tie
 use Rattle.merge.proofs.regroup_by.Reads as reads
 use Rattle.merge.proofs.regroup_by.Lts as lts
-use Rattle.components.proofs.representatives.Reads as representatives-reads
-use Rattle.groups.proofs.has_clash.Reads as has-clash-reads
+use Rattle.table_graph.proofs.representatives.Reads as representatives-reads
+use Rattle.scc.proofs.has_clash.Reads as has-clash-reads
 use Rattle.merge.proofs.regroup.Reads as regroup-reads
 
 -- once the representatives are found

@@ -6,14 +6,14 @@ use lib.ListN.{length, length-set}
 use mir.Facts.{toZ-ofZ}
 use borrow.Author.Needs.{sfits-of}
 use Rattle.literal.proofs.Signed.{read}
-use Rattle.clauses.proofs.Ahead.{ahead-known}
+use Rattle.visits.proofs.Ahead.{ahead-known}
 use Rattle.merge.proofs.Scanning.{Putting, putting-none, putting-next, putting-done}
 use borrow.Author.Needs.{needs}
 use Rattle.merge.proofs.substitute.Statement.{statement}
 use Rattle.merge.proofs.substitute.Tie as tie
 use Rattle.merge.proofs.substitute.Reads as reads
 use Rattle.merge.proofs.substitute.Lts as lts
-use Rattle.clauses.proofs.class_literal.Reads as class-literal-reads
+use Rattle.visits.proofs.class_literal.Reads as class-literal-reads
 
 abbrev Inv-loop : tie.InvT-loop
 Inv-loop part₀ variables i₀ part i = Putting variables part₀ part i

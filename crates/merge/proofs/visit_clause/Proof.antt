@@ -8,8 +8,8 @@ use lib.IntN.{ℤ}
 use Rattle.literal.proofs.Zeros.{mid, put-part}
 use Rattle.tables.specs.Tables.{tables, startOf, lengthOf}
 use Rattle.merge.specs.Merge.{mergeClause}
-use Rattle.clauses.proofs.Forming.{record-place, part-places, part-short, clause-known}
-use Rattle.clauses.proofs.Visiting.{visit-dropped}
+use Rattle.visits.proofs.Forming.{record-place, part-places, part-short, clause-known}
+use Rattle.visits.proofs.Visiting.{visit-dropped}
 use Rattle.merge.proofs.Visiting.{visit-is}
 use borrow.Author.Needs.{needs}
 use Rattle.merge.proofs.visit_clause.Statement.{statement}

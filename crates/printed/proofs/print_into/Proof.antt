@@ -7,7 +7,7 @@ use Rattle.state.specs.Answers.{replyOf, firstValue}
 use Rattle.printing.specs.Printing.{refusedLine}
 use Rattle.printing.proofs.Storing.{refusal-short, stored-front}
 use Rattle.write.specs.Write.{afterWrite}
-use Rattle.unhiding.specs.Texts.{simplifyText}
+use Rattle.simplify.specs.Texts.{simplifyText}
 use Rattle.printed.proofs.Printed.{long-printed, written-printed, refused-printed}
 use borrow.Author.Needs.{needs}
 use Rattle.printed.proofs.print_into.Statement.{statement}
@@ -17,7 +17,7 @@ use Rattle.printed.proofs.print_into.Lts as lts
 use Rattle.printing.proofs.put_refusal.Reads as put-refusal-reads
 use Rattle.state.proofs.Answer.number.Reads as number-reads
 use Rattle.state.proofs.Answer.value.Reads as value-reads
-use Rattle.unhiding.proofs.simplify_text.Reads as simplify-text-reads
+use Rattle.simplify.proofs.simplify_text.Reads as simplify-text-reads
 
 put-refusal-requires : tie.Need-put-refusal-requires
 put-refusal-requires c κs = omega (arith, refusal-short 3 65535 (omega arith) (omega arith))

@@ -11,7 +11,7 @@ use borrow.Author.Tests.{not-true, not-false}
 use Rattle.base.specs.Lists.{filter}
 use Rattle.literal.proofs.Signed.{read}
 use Rattle.literal.proofs.Compact.{finish}
-use Rattle.clauses.proofs.Ahead.{ahead-known}
+use Rattle.visits.proofs.Ahead.{ahead-known}
 use Rattle.propagate.specs.Propagate.{notFalse}
 use Rattle.propagate.proofs.Scanning.{Moving, moving-none, moving-stays, moving-goes}
 use borrow.Author.Needs.{needs}
@@ -19,7 +19,7 @@ use Rattle.propagate.proofs.remove_false.Statement.{statement}
 use Rattle.propagate.proofs.remove_false.Tie as tie
 use Rattle.propagate.proofs.remove_false.Reads as reads
 use Rattle.propagate.proofs.remove_false.Lts as lts
-use Rattle.clauses.proofs.is_false.Reads as is-false-reads
+use Rattle.visits.proofs.is_false.Reads as is-false-reads
 use Rattle.literal.proofs.zero_from.Reads as zero-from-reads
 
 abbrev Inv-loop : tie.InvT-loop

@@ -4,7 +4,7 @@ use Rattle.propagate.proofs.skip.Statement.{statement}
 use Rattle.propagate.proofs.skip.Tie as tie
 use Rattle.propagate.proofs.skip.Reads as reads
 use Rattle.propagate.proofs.skip.Lts as lts
-use Rattle.clauses.proofs.fewer.Reads as fewer-reads
+use Rattle.visits.proofs.fewer.Reads as fewer-reads
 use Rattle.propagate.proofs.onward.Reads as onward-reads
 
 fewer-requires : tie.Need-fewer-requires

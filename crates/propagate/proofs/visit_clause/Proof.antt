@@ -8,7 +8,7 @@ use lib.IntN.{ℤ}
 use Rattle.literal.proofs.Zeros.{mid, put-part}
 use Rattle.tables.specs.Tables.{tables, startOf, lengthOf}
 use Rattle.propagate.specs.Visits.{visitOf}
-use Rattle.clauses.proofs.Forming.{part-places, part-short, clause-known}
+use Rattle.visits.proofs.Forming.{part-places, part-short, clause-known}
 use Rattle.propagate.proofs.Visiting.{visit-dropped, visit-is}
 use borrow.Author.Needs.{needs}
 use Rattle.propagate.proofs.visit_clause.Statement.{statement}

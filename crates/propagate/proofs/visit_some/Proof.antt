@@ -11,7 +11,7 @@ use Rattle.propagate.proofs.visit_some.Statement.{statement}
 use Rattle.propagate.proofs.visit_some.Tie as tie
 use Rattle.propagate.proofs.visit_some.Reads as reads
 use Rattle.propagate.proofs.visit_some.Lts as lts
-use Rattle.clauses.proofs.fewer.Reads as fewer-reads
+use Rattle.visits.proofs.fewer.Reads as fewer-reads
 use Rattle.propagate.proofs.visit_each.Reads as visit-each-reads
 use Rattle.propagate.proofs.visit_listed.Reads as visit-listed-reads
 

@@ -46,8 +46,8 @@ use Rattle.state.proofs.State as S
 use Rattle.state.proofs.State.Laws as S′
 use Rattle.state.proofs.Outcome as Re
 use Rattle.state.proofs.Outcome.Laws as Re′
-use Rattle.records.specs.declared.StampRecord.{StampRecord}
-use Rattle.records.proofs.StampRecord.Laws as T′
+use Rattle.stamp_records.specs.declared.StampRecord.{StampRecord}
+use Rattle.stamp_records.proofs.StampRecord.Laws as T′
 use Rattle.calls.proofs.sweep as ca
 use Rattle.calls.proofs.sweep.Symbol as ca-def
 use Rattle.calls.proofs.sweep.Symbol.{name as #ca}

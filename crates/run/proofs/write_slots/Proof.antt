@@ -1,7 +1,7 @@
 -- `run::write_slots` meets its contract. Assumes nothing.
 use Prim.Native.Nat.{_+_, _-_}
 use native.Mathlib.Omega.{arith}
-use Rattle.stamping.proofs.Copying.{lit-stored}
+use Rattle.stamp_walk.proofs.Copying.{lit-stored}
 use lib.ListN.{length}
 use Rattle.run.proofs.Orders.{Listing, listing-none, listing-more, listing-all}
 use borrow.Author.Needs.{needs}

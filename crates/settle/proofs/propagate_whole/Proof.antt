@@ -4,7 +4,7 @@ use mathlib.Core.Bool.{false}
 use native.Mathlib.Omega.{arith}
 use mathlib.Core.Path.{ap, _∙_}
 use Rattle.tables.specs.Tables.{Tables, tables}
-use Rattle.clauses.proofs.Counting.{formed-counted}
+use Rattle.visits.proofs.Counting.{formed-counted}
 use Rattle.propagate.specs.Propagate.{begin, propagateFrom}
 use Rattle.settle.specs.Settle.{between}
 use Rattle.settle.proofs.Room.{literals-few, steps-few}

@@ -2,7 +2,7 @@
 use native.Mathlib.Omega.{arith}
 use borrow.Author.Needs.{needs}
 use Rattle.tables.specs.Tables.{tables}
-use Rattle.settled.proofs.Looking.{formed-asked}
+use Rattle.visits.proofs.Looking.{formed-asked}
 use Rattle.stamp.proofs.Asking.{ask-length, ask-wrong, ask-unsettled, ask-fit}
 use Rattle.stamp.proofs.ask_ordered.Statement.{statement}
 use Rattle.stamp.proofs.ask_ordered.Tie as tie

@@ -7,7 +7,7 @@ use lib.ListN.{length}
 use borrow.Author.Needs.{needs}
 use Rattle.literal.specs.Literals.{slotOf}
 use Rattle.tables.specs.Clauses.{slotsFrom}
-use Rattle.stamping.specs.Stamping.{Holding, Ordered}
+use Rattle.stamp_walk.specs.Stamping.{Holding, Ordered}
 use Rattle.stamp.specs.Stamp.{stampsOf}
 use Rattle.stamp.proofs.Writing.{full-ordered, full-literals, blank-columned, blank-walk, records-are}
 use Rattle.stamp.proofs.Freshness.{entries-below}

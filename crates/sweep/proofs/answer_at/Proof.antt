@@ -1,6 +1,6 @@
 -- `sweep::answer_at` meets its contract. Assumes nothing.
 use Rattle.state.specs.declared.Pass.the-variants.{Sweep}
-use Rattle.clauses.proofs.Advancing.{stands-open, stands-done}
+use Rattle.visits.proofs.Advancing.{stands-open, stands-done}
 use mathlib.Core.Bool.{true, false}
 use borrow.Author.Needs.{needs}
 use Rattle.sweep.proofs.answer_at.Statement.{statement}

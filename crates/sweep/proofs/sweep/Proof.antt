@@ -4,7 +4,7 @@ use mathlib.Core.Path.{sym, _∙_}
 use Rattle.tables.specs.Tables.{Tables, tables}
 use Rattle.entry.specs.declared.PassName.the-variants as own
 use Rattle.entry.proofs.Entering.{opens-entered, resumes-entered}
-use Rattle.clauses.proofs.Entered.{entered-cursor}
+use Rattle.visits.proofs.Entered.{entered-cursor}
 use Rattle.sweep.proofs.Entering.{entered-ready, call-refused, call-opens, call-resumes}
 use borrow.Author.Needs.{needs}
 use Rattle.sweep.proofs.sweep.Statement.{statement}

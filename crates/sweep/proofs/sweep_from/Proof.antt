@@ -2,8 +2,8 @@
 use Rattle.state.specs.declared.Pass.the-variants.{Sweep}
 use Rattle.stamps.specs.Columns.{columns}
 use Rattle.tables.specs.Tables.{tables}
-use Rattle.clauses.proofs.Counting.{formed-counted, counts-are}
-use Rattle.clauses.proofs.Advancing.{advanced}
+use Rattle.visits.proofs.Counting.{formed-counted, counts-are}
+use Rattle.visits.proofs.Advancing.{advanced}
 use Rattle.sweep.specs.Sweep.{sweepClause}
 use lib.ListN.{length, replicate, length-replicate}
 use mathlib.Core.Bool.{true, false}
@@ -15,10 +15,10 @@ use Rattle.sweep.proofs.sweep_from.Statement.{statement}
 use Rattle.sweep.proofs.sweep_from.Tie as tie
 use Rattle.sweep.proofs.sweep_from.Reads as reads
 use Rattle.sweep.proofs.sweep_from.Lts as lts
-use Rattle.clauses.proofs.count_standing.Reads as count-standing-reads
-use Rattle.clauses.proofs.counts_of.Reads as counts-of-reads
+use Rattle.visits.proofs.count_standing.Reads as count-standing-reads
+use Rattle.visits.proofs.counts_of.Reads as counts-of-reads
 use Rattle.sweep.proofs.answer_at.Reads as answer-at-reads
-use Rattle.clauses.proofs.fewer.Reads as fewer-reads
+use Rattle.visits.proofs.fewer.Reads as fewer-reads
 use Rattle.sweep.proofs.sweep_visits.Reads as sweep-visits-reads
 
 -- the room for a clause's slots

@@ -1,6 +1,6 @@
 -- `sweep::visit_clause` meets its contract. Assumes nothing.
-use Rattle.clauses.proofs.Forming.{part-places, part-length, part-short}
-use Rattle.clauses.proofs.Visiting.{visit-dropped}
+use Rattle.visits.proofs.Forming.{part-places, part-length, part-short}
+use Rattle.visits.proofs.Visiting.{visit-dropped}
 use Rattle.sweep.specs.Sweep.{sweepClause}
 use Rattle.sweep.proofs.Visiting.{visit-is, ready-judged}
 use Rattle.tables.specs.Tables.{tables, startOf, lengthOf}

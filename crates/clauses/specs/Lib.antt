@@ -1,2 +1,0 @@
-pub mod Formed
-pub mod Holding

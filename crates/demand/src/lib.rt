@@ -1,2 +1,0 @@
-// Why any list of calls keeps the loaded formula's satisfying assignments: definitions and theorems alone, in specs/ and proofs/.
-pub const DEMAND: u8 = 0;

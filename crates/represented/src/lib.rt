@@ -1,2 +1,0 @@
-// The tables as what stands over slots, and the calls as lists of moves: definitions and laws alone, in specs/ and proofs/.
-pub const REPRESENTED: u8 = 0;

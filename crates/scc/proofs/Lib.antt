@@ -1,0 +1,10 @@
+pub mod Kosaraju
+pub mod Least
+pub mod Order
+pub mod First
+pub mod Whole
+pub mod Classes
+pub mod Cases
+pub mod Clash
+pub mod Edges
+pub mod Forward

@@ -1,0 +1,221 @@
+// Stamp's core: the walk of the implication graph from an order of its slots, the test for a cycle, and the stamp records.
+ghost use mathlib.Core.Path.{_≡_};
+ghost use mathlib.Core.Bool.{not, false};
+ghost use mathlib.Core.List.{List, _++_, map};
+ghost use Prim.Native.Nat.{ℕ, _+_, _*_, _<_, _≤_};
+ghost use lib.ListN.{length, getD, drop, replicate};
+ghost use Rattle.base.specs.Lists.{absent, interleave};
+ghost use Rattle.literal.specs.Literals.{slotOf, litAt};
+ghost use Rattle.walk.specs.Walk.{stampAll};
+ghost use Rattle.walk.specs.Ready.{adjOf, stamps, Graph};
+ghost use Rattle.scc.specs.Forward.{forward};
+ghost use Rattle.implications.specs.Edges.{outs};
+ghost use Rattle.scc.specs.Groups.{blank};
+ghost use Rattle.stamp_walk.specs.Stamping.{Literals, Finished, Walkable, Columned, Holding, Proper, Ordered, Scratch, Walked};
+
+// The slots of a list of literals.
+pub fn list_slots(order: &[i32], slots: &mut [u32])
+    requires { ⌜ Literals (now order) × (length (now slots) ≡ length (now order)) ⌝ }
+    ensures { λ _. ⌜ now (slots .exit) ≡ map slotOf (now (order .entry)) ⌝ }
+{
+    let mut i = 0;
+    while i < order.len() {
+        slots[i] = literal::slot_of(order[i]) as u32;
+        i += 1;
+    }
+}
+
+// Whether an edge goes to a slot that does not finish before its own: then two different slots reach each other.
+pub fn any_backward(from: &[u32], to: &[u32], fin: &[u32]) -> bool
+    requires { ⌜ Finished (now from) (now to) (now fin) ⌝ }
+    ensures { λ r. ⌜ ((t : ℕ) (d p s : List ℕ) → r ≡ not (forward (stamps t d (now (fin .entry)) p s) (now (from .entry)) (now (to .entry)))) ⌝ }
+{
+    let mut i = 0;
+    while i < from.len() {
+        let tail = from[i] as usize;
+        let head = to[i] as usize;
+        i += 1;
+        if fin[tail] <= fin[head] {
+            return true;
+        }
+    }
+    false
+}
+
+// The times of the records: the discovery and the finish of each slot. What stands behind them stays.
+pub fn copy_times(disc: &[u32], fin: &[u32], times: &mut [u32])
+    requires { ⌜ (length (now fin) ≡ length (now disc)) × (2 * length (now disc) ≤ length (now times)) ⌝ }
+    ensures { λ _. ⌜ now (times .exit) ≡ interleave (now (disc .entry)) (now (fin .entry)) ++ drop (2 * length (now (disc .entry))) (now (times .entry)) ⌝ }
+{
+    let mut s = 0;
+    while s < disc.len() {
+        let at = 2 * s;
+        times[at] = disc[s];
+        times[at + 1] = fin[s];
+        s += 1;
+    }
+}
+
+// The links of the records: the parent and the start of each slot, as literals. What stands behind them stays.
+pub fn copy_links(par: &[u32], top: &[u32], links: &mut [i32])
+    requires { ⌜ (length (now top) ≡ length (now par)) × (2 * length (now par) ≤ length (now links)) ⌝ }
+    requires { ⌜ ((s : ℕ) → s < length (now par) → (getD (now par) s 0 < 2048) × (getD (now top) s 0 < 2048)) ⌝ }
+    ensures { λ _. ⌜ now (links .exit) ≡ interleave (map litAt (now (par .entry))) (map litAt (now (top .entry))) ++ drop (2 * length (now (par .entry))) (now (links .entry)) ⌝ }
+{
+    let mut s = 0;
+    while s < par.len() {
+        let at = 2 * s;
+        links[at] = literal::lit_at(par[s] as usize);
+        links[at + 1] = literal::lit_at(top[s] as usize);
+        s += 1;
+    }
+}
+
+// Stamps every slot of `order`, whose roots a column marks: it starts at each root, then at each slot not yet entered. `roots` is scratch.
+pub fn stamp_order(
+    order: &[u32],
+    root: &[bool],
+    roots: &mut [u32],
+    offsets: &[u32],
+    targets: &[u32],
+    disc: &mut [u32],
+    fin: &mut [u32],
+    par: &mut [u32],
+    top: &mut [u32],
+) -> u32
+    requires { ⌜ Graph (now offsets) (now targets) (length (now disc)) ⌝ }
+    requires { ⌜ (length (now fin) ≡ length (now disc)) × ((length (now par) ≡ length (now disc)) × (length (now top) ≡ length (now disc))) ⌝ }
+    requires { ⌜ (length (now root) ≡ length (now disc)) × (length (now order) ≤ length (now roots)) ⌝ }
+    requires { ⌜ ((i : ℕ) → i < length (now order) → getD (now order) i 0 < length (now disc)) ⌝ }
+    ensures { λ t. ⌜
+        stamps t (now (disc .exit)) (now (fin .exit)) (now (par .exit)) (now (top .exit))
+        ≡ stampAll (adjOf (now (offsets .entry)) (now (targets .entry))) (λ q. getD (now (root .entry)) q false) (now (order .entry))
+        (stamps 0 (replicate (length (now (disc .entry))) 0) (now (fin .entry)) (now (par .entry)) (now (top .entry))) ⌝ }
+{
+    let k = implications::list_roots(order, root, roots);
+    walk::clear(disc);
+    let t = walk::start_each(&roots[..k], 0, offsets, targets, disc, fin, par, top);
+    walk::start_each(order, t, offsets, targets, disc, fin, par, top)
+}
+
+// Stamps every slot of `order` over the edges of two columns. All but the edges, the order and the four stamp columns is scratch.
+pub fn stamp_edges(
+    from: &[u32],
+    to: &[u32],
+    order: &[u32],
+    offsets: &mut [u32],
+    targets: &mut [u32],
+    root: &mut [bool],
+    roots: &mut [u32],
+    disc: &mut [u32],
+    fin: &mut [u32],
+    par: &mut [u32],
+    top: &mut [u32],
+)
+    requires { ⌜ Walkable (length (now disc)) (now from) (now to) (now order) (now offsets) (now targets) (now root) (now roots) ⌝ }
+    requires { ⌜ Columned (length (now disc)) (now disc) (now fin) (now par) (now top) ⌝ }
+    ensures { λ _. ⌜ Holding
+        (stampAll (outs (now (from .entry)) (now (to .entry))) (λ q. absent q (now (to .entry))) (now (order .entry))
+        (blank (length (now (disc .entry))) (now (fin .entry)) (now (par .entry)) (now (top .entry))))
+        (now (disc .exit)) (now (fin .exit)) (now (par .exit)) (now (top .exit)) ⌝ }
+{
+    let k = from.len();
+    implications::build(from, to, offsets, targets);
+    implications::mark_roots(to, root);
+    stamp_order(
+        order,
+        root,
+        roots,
+        offsets,
+        &targets[..k],
+        disc,
+        fin,
+        par,
+        top,
+    );
+}
+
+// Stamps every slot of `order` over the graph of the first n clauses; whether the graph is cyclic. All but the tables, the order and the four stamp columns is scratch.
+pub fn stamp_graph(
+    v: usize,
+    n: usize,
+    clauses: &[u32],
+    literals: &[i32],
+    order: &[u32],
+    from: &mut [u32],
+    to: &mut [u32],
+    offsets: &mut [u32],
+    targets: &mut [u32],
+    root: &mut [bool],
+    roots: &mut [u32],
+    disc: &mut [u32],
+    fin: &mut [u32],
+    par: &mut [u32],
+    top: &mut [u32],
+) -> bool
+    requires { ⌜ Proper v n (now clauses) (now literals) × Ordered (2 * v) (now order) ⌝ }
+    requires { ⌜ Scratch v n (now from) (now to) (now offsets) (now targets) (now root) (now roots) ⌝ }
+    requires { ⌜ Columned (2 * v) (now disc) (now fin) (now par) (now top) ⌝ }
+    ensures { λ r. ⌜ Walked v n (now (clauses .entry)) (now (literals .entry)) (now (order .entry)) (now (fin .entry)) (now (par .entry)) (now (top .entry)) r
+        (now (disc .exit)) (now (fin .exit)) (now (par .exit)) (now (top .exit)) ⌝ }
+{
+    let k = table_graph::list_pairs(n, clauses, literals, from, to);
+    stamp_edges(
+        &from[..k],
+        &to[..k],
+        order,
+        offsets,
+        targets,
+        root,
+        roots,
+        disc,
+        fin,
+        par,
+        top,
+    );
+    any_backward(&from[..k], &to[..k], fin)
+}
+
+// The same with scratch of its own.
+pub fn stamp_columns(
+    v: usize,
+    n: usize,
+    clauses: &[u32],
+    literals: &[i32],
+    order: &[u32],
+    disc: &mut [u32],
+    fin: &mut [u32],
+    par: &mut [u32],
+    top: &mut [u32],
+) -> bool
+    requires { ⌜ Proper v n (now clauses) (now literals) × Ordered (2 * v) (now order) ⌝ }
+    requires { ⌜ Columned (2 * v) (now disc) (now fin) (now par) (now top) ⌝ }
+    ensures { λ r. ⌜ Walked v n (now (clauses .entry)) (now (literals .entry)) (now (order .entry)) (now (fin .entry)) (now (par .entry)) (now (top .entry)) r
+        (now (disc .exit)) (now (fin .exit)) (now (par .exit)) (now (top .exit)) ⌝ }
+{
+    let slots = 2 * v;
+    let ends = slots + 1;
+    let mut from = [0u32; 8192];
+    let mut to = [0u32; 8192];
+    let mut offsets = [0u32; 2049];
+    let mut targets = [0u32; 8192];
+    let mut root = [false; 2048];
+    let mut roots = [0u32; 2048];
+    stamp_graph(
+        v,
+        n,
+        clauses,
+        literals,
+        order,
+        &mut from,
+        &mut to,
+        &mut offsets[..ends],
+        &mut targets,
+        &mut root[..slots],
+        &mut roots,
+        disc,
+        fin,
+        par,
+        top,
+    )
+}

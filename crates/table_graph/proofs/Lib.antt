@@ -1,0 +1,3 @@
+pub mod Pairing
+pub mod Listing
+pub mod Chain

@@ -1,0 +1,15 @@
+pub mod Parts
+pub mod Placing
+pub mod Stores
+pub mod Forming
+pub mod Known
+pub mod MadeTrue
+pub mod Ahead
+pub mod Counting
+pub mod Fitting
+pub mod Searching
+pub mod Entered
+pub mod Visiting
+pub mod Keeping
+pub mod Advancing
+pub mod Looking

@@ -1,0 +1,18 @@
+-- `visits::signed_by` meets its contract. Assumes nothing.
+use Rattle.literal.proofs.Signed.{neg-fits, neg-is, back, tested-neg, tested-pos}
+use Rattle.visits.proofs.signed_by.Statement.{statement}
+use Rattle.visits.proofs.signed_by.Tie as tie
+use Rattle.visits.proofs.signed_by.Reads as reads
+use Rattle.visits.proofs.signed_by.Lts as lts
+
+sub-result : tie.Need-sub-result
+sub-result c = neg-fits (c .before .pre)
+
+returns : tie.Need-returns
+returns c = rw (neg-is (c .before .pre), tested-neg (c .before .fits .l) (c .if1 .taken))
+
+returns-2 : tie.Need-returns-2
+returns-2 c = rw (back (c .before .pre), tested-pos (c .before .fits .l) (c .if1 .left))
+
+pub signed-by-spec : {M : Type 1} → statement M
+signed-by-spec = tie.close (tie.spec sub-result returns returns-2)

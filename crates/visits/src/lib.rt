@@ -1,0 +1,195 @@
+// Classes and values of literals, and the clauses in the tables.
+use state::Counts;
+ghost use mathlib.Core.Path.{_≡_};
+ghost use Prim.Native.Nat.{_*_, _-_, _≤_, min, ℕ, _+_, _<_};
+ghost use lib.ListN.{take};
+ghost use lib.Signed.{nonNeg};
+ghost use Rattle.literal.specs.Literals.{Small, signBy};
+ghost use Rattle.tables.specs.Values.{classLiteral, ownTruth, truth, isTrue, isFalse, setTrue};
+ghost use Rattle.tables.specs.Clauses.{standingCount, literalCount};
+ghost use Rattle.visits.specs.Formed.{Known, Counted, EachKnown};
+ghost use mathlib.Core.List.{List};
+ghost use lib.IntN.{ℤ};
+ghost use Rattle.base.specs.Lists.{any};
+ghost use Rattle.tables.specs.Lent.{lent, unlent};
+ghost use Rattle.tables.specs.Passes.{valued, unsettled, firstUnsettled};
+ghost use Rattle.visits.specs.Settled.{Asked};
+
+// A number that is kept for a literal's variable, with the literal's sign.
+pub fn signed_by(l: i32, x: i32) -> i32
+    requires { ⌜ Small x ⌝ }
+    ensures { λ r. ⌜ r ≡ signBy (nonNeg l) x ⌝ }
+{
+    if l < 0 { -x } else { x }
+}
+
+// The class literal of l.
+pub fn class_literal(variables: &[i32], l: i32) -> i32
+    requires { ⌜ Known (now variables) l ⌝ }
+    ensures { λ r. ⌜ r ≡ classLiteral (now (variables .entry)) l ⌝ }
+{
+    let w = literal::var_of(l);
+    signed_by(l, variables[2 * w - 2])
+}
+
+// The value of the variable of c, with c's sign.
+fn own_truth(variables: &[i32], c: i32) -> i32
+    requires { ⌜ Known (now variables) c ⌝ }
+    ensures { λ r. ⌜ r ≡ ownTruth (now (variables .entry)) c ⌝ }
+{
+    let w = literal::var_of(c);
+    signed_by(c, variables[2 * w - 1])
+}
+
+// 1 for a true literal, -1 for a false one, 0 for one that has no value: as the value of its class literal says.
+pub fn truth(variables: &[i32], l: i32) -> i32
+    requires { ⌜ Known (now variables) l ⌝ }
+    ensures { λ r. ⌜ r ≡ truth (now (variables .entry)) l ⌝ }
+{
+    let c = class_literal(variables, l);
+    own_truth(variables, c)
+}
+
+pub fn is_true(variables: &[i32], l: i32) -> bool
+    requires { ⌜ Known (now variables) l ⌝ }
+    ensures { λ r. ⌜ r ≡ isTrue (now (variables .entry)) l ⌝ }
+{
+    truth(variables, l) == 1
+}
+
+pub fn is_false(variables: &[i32], l: i32) -> bool
+    requires { ⌜ Known (now variables) l ⌝ }
+    ensures { λ r. ⌜ r ≡ isFalse (now (variables .entry)) l ⌝ }
+{
+    truth(variables, l) == -1
+}
+
+// Makes l true: the value is set at its class literal.
+pub fn set_true(variables: &mut [i32], l: i32)
+    requires { ⌜ Known (now variables) l ⌝ }
+    ensures { λ _. ⌜ now (variables .exit) ≡ setTrue (now (variables .entry)) l ⌝ }
+{
+    let c = class_literal(variables, l);
+    let w = literal::var_of(c);
+    variables[2 * w - 1] = signed_by(c, 1);
+}
+
+// ---- counts
+
+// How many clauses stand, and how many literals stand in them.
+pub struct Totals {
+    pub clauses: u32,
+    pub literals: u32,
+}
+
+// Counts the clauses and literals that stand among the first n.
+pub fn count_standing(clauses: &[u32], n: usize) -> Totals
+    requires { ⌜ Counted n (now clauses) ⌝ }
+    ensures { λ r. ⌜ (r .clauses ≡ standingCount (take (3 * n) (now (clauses .entry)))) × (r .literals ≡ literalCount (take (3 * n) (now (clauses .entry)))) ⌝ }
+{
+    let mut i = 0;
+    let mut standing: u32 = 0;
+    let mut literals: u32 = 0;
+    while i < n {
+        let size = clauses[3 * i + 1];
+        let flag = clauses[3 * i + 2];
+        i += 1;
+        if flag != 0 {
+            standing += 1;
+            literals += size;
+        }
+    }
+    Totals {
+        clauses: standing,
+        literals,
+    }
+}
+
+// a - b, or 0 where b is more.
+fn less(a: u32, b: u32) -> u32
+    ensures { λ r. ⌜ r ≡ a - b ⌝ }
+{
+    if a < b {
+        return 0;
+    }
+    a - b
+}
+
+// The smaller of two numbers: the visits that a call makes. That they are at most those left keeps them inside the table.
+pub fn fewer(a: u32, b: u32) -> u32
+    ensures { λ r. ⌜ (r ≡ min a b) × (r ≤ b) ⌝ }
+{
+    if a < b { a } else { b }
+}
+
+// What a call answers: the visits made, and what stood before minus what stands after.
+pub fn counts_of(visits: u32, before: Totals, after: Totals) -> Counts
+    ensures { λ r. ⌜ (r .visits ≡ visits) × (r .clauses ≡ before .clauses - after .clauses) × (r .literals ≡ before .literals - after .literals) ⌝ }
+{
+    Counts {
+        visits,
+        clauses: less(before.clauses, after.clauses),
+        literals: less(before.literals, after.literals),
+    }
+}
+
+// Refusal 6: the first standing clause of one literal, or with a valued variable.
+
+// Whether the variable of l has a value.
+fn is_valued(variables: &[i32], l: i32) -> bool
+    requires { ⌜ Known (now variables) l ⌝ }
+    ensures { λ r. ⌜ r ≡ valued (now (variables .entry)) l ⌝ }
+{
+    let w = literal::var_of(l);
+    let value = variables[2 * w - 1];
+    value != 0
+}
+
+// Whether a literal of the part has a valued variable.
+fn any_valued(part: &[i32], variables: &[i32]) -> bool
+    requires { ⌜ EachKnown (now variables) (now part) ⌝ }
+    ensures { λ r. ⌜ r ≡ any (valued (now (variables .entry))) (now (part .entry)) ⌝ }
+{
+    let mut i = 0;
+    while i < part.len() {
+        let l = part[i];
+        i += 1;
+        if is_valued(variables, l) {
+            return true;
+        }
+    }
+    false
+}
+
+// Whether clause i stands and has one literal, or a valued variable.
+fn is_unsettled(clauses: &[u32], literals: &[i32], variables: &[i32], i: usize) -> bool
+    requires { ⌜ Asked i (now clauses) (now literals) (now variables) ⌝ }
+    ensures { λ r. ⌜ ((times : List ℕ) (links : List ℤ) → r ≡ unsettled (lent clauses literals variables (unlent times) (unlent links)) i) ⌝ }
+{
+    let flag = clauses[3 * i + 2];
+    if flag != 1 {
+        return false;
+    }
+    let size = clauses[3 * i + 1];
+    if size == 1 {
+        return true;
+    }
+    let start = clauses[3 * i] as usize;
+    let end = start + size as usize;
+    any_valued(&literals[start..end], variables)
+}
+
+// The first such clause of n, counted from 0; n if there is none.
+pub fn first_unsettled(clauses: &[u32], literals: &[i32], variables: &[i32], n: usize) -> usize
+    requires { ⌜ ((i : ℕ) → i < n → Asked i (now clauses) (now literals) (now variables)) × (n ≤ 4096) ⌝ }
+    ensures { λ r. ⌜ ((times : List ℕ) (links : List ℤ) → r ≡ firstUnsettled (lent clauses literals variables (unlent times) (unlent links)) n) ⌝ }
+{
+    let mut i = 0;
+    while i < n {
+        if is_unsettled(clauses, literals, variables, i) {
+            return i;
+        }
+        i += 1;
+    }
+    n
+}
