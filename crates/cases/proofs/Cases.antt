@@ -8,7 +8,7 @@ use lib.IntN.{ℤ, pos, negsuc}
 use Rattle.base.specs.Decide.{and?, or?, if?, not?, so?, every?, eqᵇ?, eqℤ?}
 use Rattle.base.specs.Lists.{any, filter, absent, first, anyBelow, allBelow, sameList, numbers, turned, evens, odds, interleave}
 use Rattle.literal.specs.Literals.{twin}
-use Rattle.walk.specs.Walk.{arrive, leave, edge, edges, enters, starts, stampAll}
+use Rattle.walk.specs.Walk.{arrive, leave, edge, edges, enters, startWalk, stampAll}
 use Rattle.implications.specs.Edges.{outs}
 use Rattle.implications.specs.Clauses.{froms, tos}
 use Rattle.scc.specs.Groups.{reaches, connected, cyclic, leastMutual}
@@ -140,5 +140,5 @@ cases =
     ∷ []
 
 pub hold : All cases
-unfolding and? or? if? not? so? every? eqᵇ? eqℤ? any filter absent first anyBelow allBelow sameList numbers turned evens odds interleave twin arrive leave edge edges enters starts stampAll outs froms tos reaches connected cyclic leastMutual literal? holds? times? parent? start? nested? fresh? long? longOk slotsAt slotsFrom standingCount literalCount shortened droppedAt fateAt visits advance firstUnsettled parts? literals? variable? cursor? clauses? shape? shapeOk entryOf openingOf wordsAt header headerRest judge judgeText clausesOf clauseRecords literalPlaces variableRecords laid loadCall digits clauseText clausesText textOf writtenClauses writeText writeCall propagateClause propagateVisit propagateVisits propagateFrom propagateCall clashes representative regrouped mergedClasses mergeClause mergeOpen mergeSettled mergeCall holds insert byDiscovery passes scanAt scan hiddenTautology unhidden shorten sameStart holdsBoth lowest failedSlot firstBad stampsOf stampedTables stampAcyclic stampSettled stampOrdered stampCall failedAt failedFrom failedFresh failedCall sweepClause sweepCall settleFor settle orderOf follow round unchanged runFrom runCall simplifyText unhideText stepOn stepsOn ℕ-discrete decLe decLt
+unfolding and? or? if? not? so? every? eqᵇ? eqℤ? any filter absent first anyBelow allBelow sameList numbers turned evens odds interleave twin arrive leave edge edges enters startWalk stampAll outs froms tos reaches connected cyclic leastMutual literal? holds? times? parent? start? nested? fresh? long? longOk slotsAt slotsFrom standingCount literalCount shortened droppedAt fateAt visits advance firstUnsettled parts? literals? variable? cursor? clauses? shape? shapeOk entryOf openingOf wordsAt header headerRest judge judgeText clausesOf clauseRecords literalPlaces variableRecords laid loadCall digits clauseText clausesText textOf writtenClauses writeText writeCall propagateClause propagateVisit propagateVisits propagateFrom propagateCall clashes representative regrouped mergedClasses mergeClause mergeOpen mergeSettled mergeCall holds insert byDiscovery passes scanAt scan hiddenTautology unhidden shorten sameStart holdsBoth lowest failedSlot firstBad stampsOf stampedTables stampAcyclic stampSettled stampOrdered stampCall failedAt failedFrom failedFresh failedCall sweepClause sweepCall settleFor settle orderOf follow round unchanged runFrom runCall simplifyText unhideText stepOn stepsOn ℕ-discrete decLe decLt
 hold = (refl, (refl, (refl, (refl, (refl, (refl, (refl, (refl, (refl, (refl, (refl, (refl, (refl, (refl, (refl, tt)))))))))))))))

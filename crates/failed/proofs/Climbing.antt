@@ -15,14 +15,14 @@ use Rattle.literal.specs.Literals.{Literal, litAt, twin}
 use Rattle.literal.proofs.Laws.{lit-var}
 use Rattle.literal.proofs.Twins.{twin-below}
 use Rattle.walk.specs.Walk.{Stamps}
-use Rattle.walk.specs.Forest.{dis, fin, par, top, Holds}
+use Rattle.walk.specs.Forest.{discoveryAt, finishAt, parentAt, startAt, Holds}
 use Rattle.stamps.specs.Columns.{columns}
 use Rattle.hidden.specs.Hidden.{holds}
 use Rattle.hidden.specs.Failed.{sameStart, failedSlot}
 use Rattle.hidden.proofs.Intervals.{true-holds, inside}
 use Rattle.hidden.proofs.Failed.{Linked, climb, failed-slot, failed-climb}
-use Rattle.hidden.proofs.Columns.{fresh-linked}
-use Rattle.discovery_order.specs.Slots.{Child}
+use Rattle.hidden.proofs.FreshColumns.{fresh-linked}
+use Rattle.stamps.specs.Slots.{Child}
 use Rattle.failed.specs.Steps.{Rooted, Stamped, Shared}
 
 -- ---- fresh stamps
@@ -55,35 +55,35 @@ module _ {v : ℕ} {times : List ℕ} {links : List ℤ} (S : Stamped v times li
 
 -- ---- the test of two intervals, by the numbers that the code reads
 
-module _ (σ : Stamps) (a b : ℕ) {d e : ℕ} (p : d ≡ dis σ b) (q : e ≡ dis σ a) where
+module _ (σ : Stamps) (a b : ℕ) {d e : ℕ} (p : d ≡ discoveryAt σ b) (q : e ≡ discoveryAt σ a) where
   pub begins-later : d < e → false ≡ holds σ a b
   unfolding holds
-  begins-later h = ap (λ (t : Bool). t && leb (fin σ b) (fin σ a)) (sym (lt-leb (dis σ a) (dis σ b) (omega arith)))
+  begins-later h = ap (λ (t : Bool). t && leb (finishAt σ b) (finishAt σ a)) (sym (lt-leb (discoveryAt σ a) (discoveryAt σ b) (omega arith)))
 
-  pub begins-first : e ≤ d → {f g : ℕ} → f ≡ fin σ b → g ≡ fin σ a → leb f g ≡ holds σ a b
+  pub begins-first : e ≤ d → {f g : ℕ} → f ≡ finishAt σ b → g ≡ finishAt σ a → leb f g ≡ holds σ a b
   unfolding holds
-  begins-first h {f} {g} i j = ap (λ (t : ℕ). leb t g) i ∙ ap (leb (fin σ b)) j ∙ ap (λ (t : Bool). t && leb (fin σ b) (fin σ a)) (sym (le-leb (dis σ a) (dis σ b) (omega arith)))
+  begins-first h {f} {g} i j = ap (λ (t : ℕ). leb t g) i ∙ ap (leb (finishAt σ b)) j ∙ ap (λ (t : Bool). t && leb (finishAt σ b) (finishAt σ a)) (sym (le-leb (discoveryAt σ a) (discoveryAt σ b) (omega arith)))
 
 -- ---- the climb
 
-climb-on : (σ : Stamps) (m a b : ℕ) → holds σ a b ≡ false → climb σ (suc m) a b ≡ climb σ m (par σ a) b
+climb-on : (σ : Stamps) (m a b : ℕ) → holds σ a b ≡ false → climb σ (suc m) a b ≡ climb σ m (parentAt σ a) b
 unfolding climb
-climb-on σ m a b e = ap (λ (v : Bool). elim v as (λ x. ℕ) [ true ↦ a | false ↦ climb σ m (par σ a) b ]) e
+climb-on σ m a b e = ap (λ (v : Bool). elim v as (λ x. ℕ) [ true ↦ a | false ↦ climb σ m (parentAt σ a) b ]) e
 
 climb-ends : (σ : Stamps) (m a b : ℕ) → holds σ a b ≡ true → climb σ m a b ≡ a
 unfolding climb
 climb-ends σ zero a b e = refl
-climb-ends σ (suc m) a b e = ap (λ (v : Bool). elim v as (λ x. ℕ) [ true ↦ a | false ↦ climb σ m (par σ a) b ]) e
+climb-ends σ (suc m) a b e = ap (λ (v : Bool). elim v as (λ x. ℕ) [ true ↦ a | false ↦ climb σ m (parentAt σ a) b ]) e
 
 -- the climb from s stands at x, which the start of s holds, and what is left of it finds what the whole finds
 pub record Climbing (times : List ℕ) (links : List ℤ) (s t x : ℕ) : Type 0 where
   pub shared : Shared times links s
   pub other : t ≡ twin s
   pub below : x < 2 * shared .count
-  pub start : Holds (columns times links) (top (columns times links) s) x
+  pub start : Holds (columns times links) (startAt (columns times links) s) x
   pub steps : ℕ
-  pub enough : dis (columns times links) x ≤ steps
-  pub left : climb (columns times links) steps x (twin s) ≡ climb (columns times links) (dis (columns times links) s) s (twin s)
+  pub enough : discoveryAt (columns times links) x ≤ steps
+  pub left : climb (columns times links) steps x (twin s) ≡ climb (columns times links) (discoveryAt (columns times links) s) s (twin s)
 
 pub climbing-none : {times : List ℕ} {links : List ℤ} {s t : ℕ} → Shared times links s → t ≡ twin s → Climbing times links s t s
 climbing-none {times} {links} {s} {t} C e = record {
@@ -91,7 +91,7 @@ climbing-none {times} {links} {s} {t} C e = record {
   other = e;
   below = C .below;
   start = stamped-linked (C .stamped) .start s (C .below);
-  steps = dis (columns times links) s;
+  steps = discoveryAt (columns times links) s;
   enough = le-refl _;
   left = refl;
 }
@@ -119,13 +119,13 @@ module _ {times : List ℕ} {links : List ℤ} {s t x : ℕ} (C : Climbing times
   climbing-twin = subst (λ (k : ℕ). 2 * k + 1 < length times) (sym (C .other)) (stamped-timed (C .shared .stamped) (twin s) twin-within)
 
   -- the start of s holds its twin too
-  start-both : Holds σ (top σ s) (twin s)
+  start-both : Holds σ (startAt σ s) (twin s)
   unfolding sameStart
   start-both = subst (λ (k : ℕ). Holds σ k (twin s)) (sym (eqb-true _ _ (C .shared .same))) (linked .start (twin s) twin-within)
 
   pub record Onward : Type 0 where
-    pub again : Climbing times links s t (par σ x)
-    pub earlier : dis σ (par σ x) < dis σ x
+    pub again : Climbing times links s t (parentAt σ x)
+    pub earlier : discoveryAt σ (parentAt σ x) < discoveryAt σ x
 
   pub climbing-on : holds σ x t ≡ false → Onward
   climbing-on e =
@@ -141,13 +141,13 @@ module _ {times : List ℕ} {links : List ℤ} {s t x : ℕ} (C : Climbing times
       (linked .parent x (C .below))
     where
       z : ℕ
-      z = top σ s
+      z = startAt σ s
 
       lz : z < size
       lz = linked .start-below s (C .shared .below)
 
       p : ℕ
-      p = par σ x
+      p = parentAt σ x
 
       lp : p < size
       lp = linked .parent-below x (C .below)
@@ -159,7 +159,7 @@ module _ {times : List ℕ} {links : List ℤ} {s t x : ℕ} (C : Climbing times
       other : z ≡ x → ⊥
       other i = false≢true (sym short ∙ true-holds σ x (twin s) (subst (λ (k : ℕ). Holds σ k (twin s)) i start-both))
 
-      step : dis σ p < dis σ x → (n : ℕ) → dis σ x ≤ n → climb σ n x (twin s) ≡ climb σ (dis σ s) s (twin s) → (m : ℕ) × (dis σ p ≤ m) × (climb σ m p (twin s) ≡ climb σ (dis σ s) s (twin s))
+      step : discoveryAt σ p < discoveryAt σ x → (n : ℕ) → discoveryAt σ x ≤ n → climb σ n x (twin s) ≡ climb σ (discoveryAt σ s) s (twin s) → (m : ℕ) × (discoveryAt σ p ≤ m) × (climb σ m p (twin s) ≡ climb σ (discoveryAt σ s) s (twin s))
       step lower zero le eq = absurd (omega arith)
       step lower (suc m) le eq = (m, omega arith, sym (climb-on σ m x (twin s) short) ∙ eq)
 

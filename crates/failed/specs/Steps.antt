@@ -6,8 +6,8 @@ use mathlib.Core.List.{List, []}
 use lib.ListN.{length}
 use lib.IntN.{ℤ}
 use Rattle.literal.specs.Literals.{Literal}
-use Rattle.walk.specs.Forest.{top}
-use Rattle.stamps.specs.Fresh.{startOf, FreshStamps}
+use Rattle.walk.specs.Forest.{startAt}
+use Rattle.stamps.specs.Fresh.{startIn, FreshStamps}
 use Rattle.stamps.specs.Columns.{columns}
 use Rattle.hidden.specs.Failed.{sameStart}
 use Rattle.state.specs.declared.State.{State}
@@ -21,13 +21,13 @@ foundOf r variables = found variables (r .set) (r .opposite)
 
 -- the start is in the links alone
 abbrev pub root : List ℤ → ℕ → ℕ
-root links s = top (columns [] links) s
+root links s = startAt (columns [] links) s
 
 -- a slot whose start is a literal in the links
 pub record Rooted (links : List ℤ) (s : ℕ) : Type 0 where
   pub few : s < 2048
   pub room : 2 * s + 1 < length links
-  pub start : Literal 1024 (startOf links s)
+  pub start : Literal 1024 (startIn links s)
 
 -- fresh stamps of v variables
 pub record Stamped (v : ℕ) (times : List ℕ) (links : List ℤ) : Type 0 where

@@ -48,10 +48,10 @@ fn holds(times: &[u32], a: u32, b: u32) -> bool
     requires { ⌜ (2 * a + 1 < length (now times)) × (2 * b + 1 < length (now times)) ⌝ }
     ensures { λ r. ⌜ ((links : List ℤ) → r ≡ holds (columns (now (times .entry)) links) a b) ⌝ }
 {
-    if discovery_order::discovery(times, b) < discovery_order::discovery(times, a) {
+    if stamps::discovery(times, b) < stamps::discovery(times, a) {
         return false;
     }
-    discovery_order::finish(times, b) <= discovery_order::finish(times, a)
+    stamps::finish(times, b) <= stamps::finish(times, a)
 }
 
 // The slot that has failed, where the literal of slot s and its complement have the same start: the first from s along the parents that holds the complement too.
@@ -63,7 +63,7 @@ fn climb(times: &[u32], links: &[i32], s: u32) -> u32
     let t = literal::twin_of(s);
     let mut x = s;
     while !holds(times, x, t) {
-        x = discovery_order::parent(links, x);
+        x = stamps::parent(links, x);
     }
     x
 }

@@ -10,7 +10,7 @@ use Rattle.base.proofs.Lists.{filter-same, sub-mem, any-same}
 use Rattle.base.proofs.Searches.{anyBelow-same, first-same}
 use Rattle.literal.specs.Literals.{twin}
 use Rattle.walk.specs.Walk.{Stamps}
-use Rattle.walk.specs.Forest.{dis, fin, par, top}
+use Rattle.walk.specs.Forest.{discoveryAt, finishAt, parentAt, startAt}
 use Rattle.hidden.specs.Hidden.{holds, insert, byDiscovery, excepted, passes, scanAt, scan, hiddenTautology, unhidden, shorten}
 use Rattle.hidden.specs.Failed.{sameStart, holdsBoth, lowest, failedSlot}
 use Rattle.hidden.proofs.Intervals.{Within, Below}
@@ -19,10 +19,10 @@ use Rattle.hidden.proofs.Shorten.{unhidden-sub}
 
 -- the same records on the slots below size
 pub record Agree (size : ℕ) (σ ρ : Stamps) : Type 0 where
-  pub discoveries : (q : ℕ) → q < size → dis σ q ≡ dis ρ q
-  pub finishes : (q : ℕ) → q < size → fin σ q ≡ fin ρ q
-  pub parents : (q : ℕ) → q < size → par σ q ≡ par ρ q
-  pub starts : (q : ℕ) → q < size → top σ q ≡ top ρ q
+  pub discoveries : (q : ℕ) → q < size → discoveryAt σ q ≡ discoveryAt ρ q
+  pub finishes : (q : ℕ) → q < size → finishAt σ q ≡ finishAt ρ q
+  pub parents : (q : ℕ) → q < size → parentAt σ q ≡ parentAt ρ q
+  pub starts : (q : ℕ) → q < size → startAt σ q ≡ startAt ρ q
 
 -- ---- figures 5 and 6
 

@@ -17,7 +17,7 @@ use Rattle.base.proofs.Booleans.{and-left, and-right, bool-or, clash, and-both,
 use Rattle.base.proofs.Searches.{anyBelow-out, anyBelow-in, first-found}
 use Rattle.literal.specs.Literals.{twin}
 use Rattle.walk.specs.Walk.{Stamps}
-use Rattle.walk.specs.Forest.{dis, par, top, Holds}
+use Rattle.walk.specs.Forest.{discoveryAt, parentAt, startAt, Holds}
 use Rattle.hidden.specs.Hidden.{holds}
 use Rattle.hidden.specs.Failed.{sameStart, holdsBoth, lowest, failedSlot}
 use Rattle.hidden.proofs.Intervals.{Nested, holds-true, true-holds, inside, holds-both, nested-both}
@@ -25,11 +25,11 @@ use Rattle.hidden.proofs.Intervals.{Nested, holds-true, true-holds, ins
 -- the links of the slots below size, as the shape rule has them: "a parent has the narrowest other interval around its child (itself if there is none), a start the widest"
 pub record Linked (size : ℕ) (σ : Stamps) : Type 0 where
   pub nested : Nested size σ
-  pub parent-below : (q : ℕ) → q < size → par σ q < size
-  pub parent : (q : ℕ) → q < size → ((par σ q ≡ q) × ((u : ℕ) → u < size → Holds σ u q → u ≡ q))
-      ⊎ ((par σ q ≡ q → ⊥) × Holds σ (par σ q) q × ((u : ℕ) → u < size → (u ≡ q → ⊥) → Holds σ u q → Holds σ u (par σ q)))
-  pub start-below : (q : ℕ) → q < size → top σ q < size
-  pub start : (q : ℕ) → q < size → Holds σ (top σ q) q
+  pub parent-below : (q : ℕ) → q < size → parentAt σ q < size
+  pub parent : (q : ℕ) → q < size → ((parentAt σ q ≡ q) × ((u : ℕ) → u < size → Holds σ u q → u ≡ q))
+      ⊎ ((parentAt σ q ≡ q → ⊥) × Holds σ (parentAt σ q) q × ((u : ℕ) → u < size → (u ≡ q → ⊥) → Holds σ u q → Holds σ u (parentAt σ q)))
+  pub start-below : (q : ℕ) → q < size → startAt σ q < size
+  pub start : (q : ℕ) → q < size → Holds σ (startAt σ q) q
 
 -- x holds slot s and its twin, and holds no other slot below size that does
 pub record Failed (size : ℕ) (σ : Stamps) (s x : ℕ) : Type 0 where
@@ -41,7 +41,7 @@ pub record Failed (size : ℕ) (σ : Stamps) (s x : ℕ) : Type 0 where
 -- from a along the parents to the first that holds b; the number bounds the steps
 unfoldable pub climb : Stamps → ℕ → ℕ → ℕ → ℕ
 climb σ zero a b = a
-climb σ (suc n) a b = elim (holds σ a b) [ true ↦ a | false ↦ climb σ n (par σ a) b ]
+climb σ (suc n) a b = elim (holds σ a b) [ true ↦ a | false ↦ climb σ n (parentAt σ a) b ]
 
 -- ---- the test is the relation
 
@@ -105,7 +105,7 @@ record Met (size : ℕ) (σ : Stamps) (a b x : ℕ) : Type 0 where
 
 module _ (size : ℕ) (σ : Stamps) (L : Linked size σ) where
   -- where some slot z holds both, the climb ends at the innermost
-  climb-met : (n a b z : ℕ) → dis σ a ≤ n → a < size → z < size → Holds σ z a → Holds σ z b → Met size σ a b (climb σ n a b)
+  climb-met : (n a b z : ℕ) → discoveryAt σ a ≤ n → a < size → z < size → Holds σ z a → Holds σ z b → Met size σ a b (climb σ n a b)
   unfolding climb
   climb-met zero a b z le la lz za zb =
       -- discoveries fall along the parents, so a is discovered at 0 only if z is a
@@ -113,8 +113,8 @@ module _ (size : ℕ) (σ : Stamps) (L : Linked size σ) where
       record { below = la; over = (le-refl _, le-refl _); across = subst (λ (k : ℕ). Holds σ k b) e zb; first = λ y ly h i. h }
   climb-met (suc n) a b z le la lz za zb = go (λ p. climb-met n p b z) (holds σ a b) refl
     where
-      go : ((p : ℕ) → dis σ p ≤ n → p < size → z < size → Holds σ z p → Holds σ z b → Met size σ p b (climb σ n p b)) → (v : Bool) → holds σ a b ≡ v
-          → Met size σ a b (elim v [ true ↦ a | false ↦ climb σ n (par σ a) b ])
+      go : ((p : ℕ) → discoveryAt σ p ≤ n → p < size → z < size → Holds σ z p → Holds σ z b → Met size σ p b (climb σ n p b)) → (v : Bool) → holds σ a b ≡ v
+          → Met size σ a b (elim v [ true ↦ a | false ↦ climb σ n (parentAt σ a) b ])
       go rest true e = record { below = la; over = (le-refl _, le-refl _); across = holds-true σ a b e; first = λ y ly h i. h }
       go rest false e =
           -- a itself does not hold b
@@ -122,7 +122,7 @@ module _ (size : ℕ) (σ : Stamps) (L : Linked size σ) where
           ⊎-elim
           (λ outermost. absurd (other z zb (outermost .1 z lz za)))
           (λ k.
-          let p : ℕ = par σ a in
+          let p : ℕ = parentAt σ a in
           let lp = L .parent-below a la in
           let lower = inside size σ (L .nested) p a lp la (λ i. k .0 (sym i)) (k .1) in
           let m = rest p (omega (arith, lower .0, le)) lp lz (k .2 z lz (other z zb) za) zb in
@@ -135,11 +135,11 @@ module _ (size : ℕ) (σ : Stamps) (L : Linked size σ) where
           (L .parent a la)
 
   module _ (s : ℕ) (ls : s < size) (lt : twin s < size) (same : sameStart σ s ≡ true) where
-    climb-failed : Failed size σ s (climb σ (dis σ s) s (twin s))
+    climb-failed : Failed size σ s (climb σ (discoveryAt σ s) s (twin s))
     unfolding sameStart
     climb-failed =
-        let x : ℕ = climb σ (dis σ s) s (twin s) in
-        let m = climb-met (dis σ s) s (twin s) (top σ s) (le-refl _) ls (L .start-below s ls) (L .start s ls) (subst (λ (k : ℕ). Holds σ k (twin s)) (sym (eqb-true _ _ same)) (L .start (twin s) lt)) in
+        let x : ℕ = climb σ (discoveryAt σ s) s (twin s) in
+        let m = climb-met (discoveryAt σ s) s (twin s) (startAt σ s) (le-refl _) ls (L .start-below s ls) (L .start s ls) (subst (λ (k : ℕ). Holds σ k (twin s)) (sym (eqb-true _ _ same)) (L .start (twin s) lt)) in
         record {
           below = m .below;
           positive = m .over;
@@ -152,9 +152,9 @@ module _ (size : ℕ) (σ : Stamps) (L : Linked size σ) where
     unfolding failedSlot
     failed-slot =
         let f = climb-failed in
-        let r = first-found (lowest σ size s) size 0 (climb σ (dis σ s) s (twin s)) (omega arith) (omega (arith, f .below)) (failed-lowest size σ s (climb σ (dis σ s) s (twin s)) f) in
+        let r = first-found (lowest σ size s) size 0 (climb σ (discoveryAt σ s) s (twin s)) (omega arith) (omega (arith, f .below)) (failed-lowest size σ s (climb σ (discoveryAt σ s) s (twin s)) f) in
         lowest-failed size σ s (failedSlot σ size s) (omega (arith, r .1, f .below)) (r .0)
 
     -- and the climb finds it
-    pub failed-climb : failedSlot σ size s ≡ climb σ (dis σ s) s (twin s)
-    failed-climb = failed-once size σ (L .nested) s (failedSlot σ size s) (climb σ (dis σ s) s (twin s)) ls failed-slot climb-failed
+    pub failed-climb : failedSlot σ size s ≡ climb σ (discoveryAt σ s) s (twin s)
+    failed-climb = failed-once size σ (L .nested) s (failedSlot σ size s) (climb σ (discoveryAt σ s) s (twin s)) ls failed-slot climb-failed

@@ -11,12 +11,12 @@ use Rattle.base.specs.Decide.{same-or}
 use Rattle.base.proofs.Booleans.{and-left, and-right, and-both}
 use Rattle.literal.specs.Literals.{twin}
 use Rattle.walk.specs.Walk.{Stamps}
-use Rattle.walk.specs.Forest.{dis, fin, Holds, Parted}
+use Rattle.walk.specs.Forest.{discoveryAt, finishAt, Holds, Parted}
 use Rattle.hidden.specs.Hidden.{holds}
 
 -- the slots below size have intervals: each spans some time, and two are nested or apart
 pub record Nested (size : ℕ) (σ : Stamps) : Type 0 where
-  pub spans : (q : ℕ) → q < size → dis σ q < fin σ q
+  pub spans : (q : ℕ) → q < size → discoveryAt σ q < finishAt σ q
   pub parted : (q u : ℕ) → q < size → u < size → (q ≡ u → ⊥) → Parted σ q u
 
 -- the literals of a clause and their complements are among those slots
@@ -31,30 +31,30 @@ Below size xs = (x : ℕ) → List·Memᴰ x xs → x < size
 
 pub holds-true : (σ : Stamps) (a b : ℕ) → holds σ a b ≡ true → Holds σ a b
 unfolding holds
-holds-true σ a b h = (leb-true (dis σ a) (dis σ b) (and-left _ _ h), leb-true (fin σ b) (fin σ a) (and-right (leb (dis σ a) (dis σ b)) _ h))
+holds-true σ a b h = (leb-true (discoveryAt σ a) (discoveryAt σ b) (and-left _ _ h), leb-true (finishAt σ b) (finishAt σ a) (and-right (leb (discoveryAt σ a) (discoveryAt σ b)) _ h))
 
 pub true-holds : (σ : Stamps) (a b : ℕ) → Holds σ a b → holds σ a b ≡ true
 unfolding holds
-true-holds σ a b h = and-both _ _ (le-leb (dis σ a) (dis σ b) (h .0)) (le-leb (fin σ b) (fin σ a) (h .1))
+true-holds σ a b h = and-both _ _ (le-leb (discoveryAt σ a) (discoveryAt σ b) (h .0)) (le-leb (finishAt σ b) (finishAt σ a) (h .1))
 
 -- ---- two intervals
 
 module _ (size : ℕ) (σ : Stamps) (N : Nested size σ) where
   -- an interval within another begins later and ends earlier
-  pub inside : (a b : ℕ) → a < size → b < size → (b ≡ a → ⊥) → Holds σ a b → (dis σ a < dis σ b) × (fin σ b < fin σ a)
+  pub inside : (a b : ℕ) → a < size → b < size → (b ≡ a → ⊥) → Holds σ a b → (discoveryAt σ a < discoveryAt σ b) × (finishAt σ b < finishAt σ a)
   inside a b la lb d h = go (N .parted a b la lb (λ e. d (sym e)))
     where
-      go : Parted σ a b → (dis σ a < dis σ b) × (fin σ b < fin σ a)
+      go : Parted σ a b → (discoveryAt σ a < discoveryAt σ b) × (finishAt σ b < finishAt σ a)
       go (inl k) = absurd (omega (arith, N .spans b lb))
       go (inr (inl k)) = absurd (omega (arith, N .spans b lb))
       go (inr (inr (inl k))) = k
       go (inr (inr (inr k))) = absurd (omega arith)
 
   -- n begins no later than p and ends before p ends: it ends before p begins
-  pub before : (n p : ℕ) → n < size → p < size → dis σ n ≤ dis σ p → fin σ n < fin σ p → fin σ n < dis σ p
-  before n p ln lp le lt = go (N .parted n p ln lp (λ e. omega (arith, lt, ap (fin σ) e)))
+  pub before : (n p : ℕ) → n < size → p < size → discoveryAt σ n ≤ discoveryAt σ p → finishAt σ n < finishAt σ p → finishAt σ n < discoveryAt σ p
+  before n p ln lp le lt = go (N .parted n p ln lp (λ e. omega (arith, lt, ap (finishAt σ) e)))
     where
-      go : Parted σ n p → fin σ n < dis σ p
+      go : Parted σ n p → finishAt σ n < discoveryAt σ p
       go (inl h) = h
       go (inr (inl h)) = absurd (omega (arith, N .spans p lp))
       go (inr (inr (inl h))) = absurd (omega arith)
@@ -66,7 +66,7 @@ module _ (size : ℕ) (σ : Stamps) (N : Nested size σ) where
 
   -- of two intervals that hold a third, one holds the other
   pub nested-both : (a b c : ℕ) → a < size → b < size → c < size → Holds σ a c → Holds σ b c → Holds σ a b ⊎ Holds σ b a
-  nested-both a b c la lb lc h k = ⊎-elim (λ (e : a ≡ b). inl (omega (arith, ap (dis σ) e), omega (arith, ap (fin σ) e))) (λ d. go (N .parted a b la lb d)) (same-or a b)
+  nested-both a b c la lb lc h k = ⊎-elim (λ (e : a ≡ b). inl (omega (arith, ap (discoveryAt σ) e), omega (arith, ap (finishAt σ) e))) (λ d. go (N .parted a b la lb d)) (same-or a b)
     where
       go : Parted σ a b → Holds σ a b ⊎ Holds σ b a
       go (inl p) = absurd (omega (arith, p, h, k, N .spans c lc))

@@ -6,4 +6,4 @@ pub mod Shorten
 pub mod Figure5
 pub mod Failed
 pub mod Agree
-pub mod Columns
+pub mod FreshColumns

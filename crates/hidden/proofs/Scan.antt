@@ -17,7 +17,7 @@ use Rattle.base.proofs.Lists.{any-in, any-out}
 use Rattle.literal.specs.Literals.{twin}
 use Rattle.literal.proofs.Twins.{twin-twice}
 use Rattle.walk.specs.Walk.{Stamps}
-use Rattle.walk.specs.Forest.{dis, fin, par, Holds}
+use Rattle.walk.specs.Forest.{discoveryAt, finishAt, parentAt, Holds}
 use Rattle.hidden.specs.Hidden.{holds, byDiscovery, passes, scanAt, scan, hiddenTautology}
 use Rattle.hidden.proofs.Intervals.{Nested, Within, Below, holds-true, true-holds, before}
 use Rattle.hidden.proofs.Sorted.{Rising, sorted-in, sorted-out, sorted-rising}
@@ -28,20 +28,20 @@ record Found (σ : Stamps) (two : Bool) (ps ns : List ℕ) : Type 0 where
   neg : ℕ
   in-pos : List·Memᴰ pos ps
   in-neg : List·Memᴰ neg ns
-  begins : dis σ neg ≤ dis σ pos
+  begins : discoveryAt σ neg ≤ discoveryAt σ pos
   stops : passes σ two neg pos ≡ false
 
 scanAt-yes : (σ : Stamps) (two : Bool) (next : List ℕ → Bool) (p : ℕ) (ps ns : List ℕ) → ((ms : List ℕ) → next ms ≡ true → Found σ two ps ms) → scanAt σ two next p ns ≡ true → Found σ two (p ∷ ps) ns
 unfolding scanAt
 scanAt-yes σ two next p ps [] more h = clash h refl
-scanAt-yes σ two next p ps (n ∷ ns) more h = go (λ k. scanAt-yes σ two next p ps ns more k) (ltb (dis σ p) (dis σ n)) refl (passes σ two n p) refl h
+scanAt-yes σ two next p ps (n ∷ ns) more h = go (λ k. scanAt-yes σ two next p ps ns more k) (ltb (discoveryAt σ p) (discoveryAt σ n)) refl (passes σ two n p) refl h
   where
     go : (scanAt σ two next p ns ≡ true → Found σ two (p ∷ ps) ns)
-        → (b : Bool) → ltb (dis σ p) (dis σ n) ≡ b → (c : Bool) → passes σ two n p ≡ c
+        → (b : Bool) → ltb (discoveryAt σ p) (discoveryAt σ n) ≡ b → (c : Bool) → passes σ two n p ≡ c
         → _≡_ {A = Bool} (elim b [ true ↦ next (n ∷ ns) | false ↦ elim c [ true ↦ scanAt σ two next p ns | false ↦ true ] ]) true → Found σ two (p ∷ ps) (n ∷ ns)
     go rest true e c i k = let r = more (n ∷ ns) k in record { pos = r .pos; neg = r .neg; in-pos = List·Memᴰ·tail (r .in-pos); in-neg = r .in-neg; begins = r .begins; stops = r .stops }
     go rest false e true i k = let r = rest k in record { pos = r .pos; neg = r .neg; in-pos = r .in-pos; in-neg = List·Memᴰ·tail (r .in-neg); begins = r .begins; stops = r .stops }
-    go rest false e false i k = record { pos = p; neg = n; in-pos = List·Memᴰ·head refl; in-neg = List·Memᴰ·head refl; begins = ltb-false (dis σ p) (dis σ n) e; stops = i }
+    go rest false e false i k = record { pos = p; neg = n; in-pos = List·Memᴰ·head refl; in-neg = List·Memᴰ·head refl; begins = ltb-false (discoveryAt σ p) (discoveryAt σ n) e; stops = i }
 
 scan-yes : (σ : Stamps) (two : Bool) (ps ns : List ℕ) → scan σ two ps ns ≡ true → Found σ two ps ns
 unfolding scan
@@ -61,32 +61,32 @@ module _ (size : ℕ) (σ : Stamps) (N : Nested size σ) where
   unfolding scanAt passes
   scanAt-all next p ps [] more bp rp bn rn w = absurd (List·Memᴰ·not-nil (w .3))
   scanAt-all next p ps (n ∷ ns) more bp rp bn rn w =
-      go (λ k. scanAt-all next p ps ns more bp rp (λ x m. bn x (List·Memᴰ·tail m)) (rn .1) k) (ltb (dis σ p) (dis σ n)) refl (passes σ false n p) refl
+      go (λ k. scanAt-all next p ps ns more bp rp (λ x m. bn x (List·Memᴰ·tail m)) (rn .1) k) (ltb (discoveryAt σ p) (discoveryAt σ n)) refl (passes σ false n p) refl
     where
       -- p begins before every complement that is left: the pair is of a later p
-      later : dis σ p < dis σ n → Pair σ ps (n ∷ ns)
+      later : discoveryAt σ p < discoveryAt σ n → Pair σ ps (n ∷ ns)
       later lt =
-          let first : dis σ n ≤ dis σ (w .1) = ⊎-elim (λ (e : w .1 ≡ n). omega (arith, ap (dis σ) e)) (λ m. rn .0 (w .1) m) (List·Memᴰ·cases-cons (w .3)) in
+          let first : discoveryAt σ n ≤ discoveryAt σ (w .1) = ⊎-elim (λ (e : w .1 ≡ n). omega (arith, ap (discoveryAt σ) e)) (λ m. rn .0 (w .1) m) (List·Memᴰ·cases-cons (w .3)) in
           ⊎-elim
-          (λ (e : w .0 ≡ p). absurd (omega (arith, lt, first, w .4 .0, ap (dis σ) e)))
+          (λ (e : w .0 ≡ p). absurd (omega (arith, lt, first, w .4 .0, ap (discoveryAt σ) e)))
           (λ m. (w .0, w .1, m, w .3, w .4))
           (List·Memᴰ·cases-cons (w .2))
 
       -- n ends before every literal that is left begins: the pair is of a later n
-      further : dis σ n ≤ dis σ p → fin σ n < fin σ p → Pair σ (p ∷ ps) ns
+      further : discoveryAt σ n ≤ discoveryAt σ p → finishAt σ n < finishAt σ p → Pair σ (p ∷ ps) ns
       further le lt =
           let ends = before size σ N n p (bn n (List·Memᴰ·head refl)) (bp p (List·Memᴰ·head refl)) le lt in
-          let first : dis σ p ≤ dis σ (w .0) = ⊎-elim (λ (e : w .0 ≡ p). omega (arith, ap (dis σ) e)) (λ m. rp .0 (w .0) m) (List·Memᴰ·cases-cons (w .2)) in
+          let first : discoveryAt σ p ≤ discoveryAt σ (w .0) = ⊎-elim (λ (e : w .0 ≡ p). omega (arith, ap (discoveryAt σ) e)) (λ m. rp .0 (w .0) m) (List·Memᴰ·cases-cons (w .2)) in
           ⊎-elim
-          (λ (e : w .1 ≡ n). absurd (omega (arith, ends, first, w .4 .1, ap (fin σ) e, N .spans (w .0) (bp (w .0) (w .2)))))
+          (λ (e : w .1 ≡ n). absurd (omega (arith, ends, first, w .4 .1, ap (finishAt σ) e, N .spans (w .0) (bp (w .0) (w .2)))))
           (λ m. (w .0, w .1, w .2, m, w .4))
           (List·Memᴰ·cases-cons (w .3))
 
       go : (Pair σ (p ∷ ps) ns → scanAt σ false next p ns ≡ true)
-          → (b : Bool) → ltb (dis σ p) (dis σ n) ≡ b → (c : Bool) → passes σ false n p ≡ c
+          → (b : Bool) → ltb (discoveryAt σ p) (discoveryAt σ n) ≡ b → (c : Bool) → passes σ false n p ≡ c
           → _≡_ {A = Bool} (elim b [ true ↦ next (n ∷ ns) | false ↦ elim c [ true ↦ scanAt σ false next p ns | false ↦ true ] ]) true
-      go rest true e c i = more (n ∷ ns) bn rn (later (ltb-true (dis σ p) (dis σ n) e))
-      go rest false e true i = rest (further (ltb-false (dis σ p) (dis σ n) e) (ltb-true (fin σ n) (fin σ p) (sym (or-false (ltb (fin σ n) (fin σ p))) ∙ i)))
+      go rest true e c i = more (n ∷ ns) bn rn (later (ltb-true (discoveryAt σ p) (discoveryAt σ n) e))
+      go rest false e true i = rest (further (ltb-false (discoveryAt σ p) (discoveryAt σ n) e) (ltb-true (finishAt σ n) (finishAt σ p) (sym (or-false (ltb (finishAt σ n) (finishAt σ p))) ∙ i)))
       go rest false e false i = refl
 
   scan-all : (ps ns : List ℕ) → Below size ps → Rising σ ps → Below size ns → Rising σ ns → Pair σ ps ns → scan σ false ps ns ≡ true
@@ -107,9 +107,9 @@ unfolding hiddenTautology passes
 found-at σ C h =
     let r = scan-yes σ (eqb (length C) 2) (byDiscovery σ C) (byDiscovery σ (map twin C)) h in
     let n = Memᴰ·of-map twin C (sorted-out σ (map twin C) (r .in-neg)) in
-    let b : dis σ (twin (n .0)) ≤ dis σ (r .pos) = rw (n .2) (r .begins) in
+    let b : discoveryAt σ (twin (n .0)) ≤ discoveryAt σ (r .pos) = rw (n .2) (r .begins) in
     let s : passes σ (eqb (length C) 2) (twin (n .0)) (r .pos) ≡ false = rw (n .2) (r .stops) in
-    (n .0, r .pos, n .1, sorted-out σ C (r .in-pos), (b, ltb-false (fin σ (twin (n .0))) (fin σ (r .pos)) (or-neither _ _ s .0)), s)
+    (n .0, r .pos, n .1, sorted-out σ C (r .in-pos), (b, ltb-false (finishAt σ (twin (n .0))) (finishAt σ (r .pos)) (or-neither _ _ s .0)), s)
 
 pub hidden-of : (σ : Stamps) (C : List ℕ) → hiddenTautology σ C ≡ true → Hidden σ C
 hidden-of σ C h = let r = found-at σ C h in (r .0, r .1, r .2, r .3, r .4)
@@ -151,15 +151,15 @@ by-reads P {a} {b} {s} {t} r one two =
     r
 
 -- for two literals a yes comes from an edge of the clause whose tail holds its head and is not the head's parent
-pub tautology-pair : (σ : Stamps) (a b : ℕ) → hiddenTautology σ (a ∷ b ∷ []) ≡ true → (p : ℕ) × (q : ℕ) × Reads a b p q × Holds σ p q × (par σ q ≡ p → ⊥)
+pub tautology-pair : (σ : Stamps) (a b : ℕ) → hiddenTautology σ (a ∷ b ∷ []) ≡ true → (p : ℕ) × (q : ℕ) × Reads a b p q × Holds σ p q × (parentAt σ q ≡ p → ⊥)
 unfolding passes
 tautology-pair σ a b h =
     let r = found-at σ (a ∷ b ∷ []) h in
     let l = r .0 in
     let m = r .1 in
-    let ex = or-neither (eqb m (twin (twin l))) (eqb (par σ m) (twin l)) (or-neither (ltb (fin σ (twin l)) (fin σ m)) _ (r .5) .1) in
+    let ex = or-neither (eqb m (twin (twin l))) (eqb (parentAt σ m) (twin l)) (or-neither (ltb (finishAt σ (twin l)) (finishAt σ m)) _ (r .5) .1) in
     let other : m ≡ l → ⊥ = λ e. eqb-false m (twin (twin l)) (ex .0) (e ∙ sym (twin-twice l)) in
-    (twin l, m, which l m (r .2) (r .3) other, r .4, eqb-false (par σ m) (twin l) (ex .1))
+    (twin l, m, which l m (r .2) (r .3) other, r .4, eqb-false (parentAt σ m) (twin l) (ex .1))
   where
     two : {x : ℕ} → List·Memᴰ x (a ∷ b ∷ []) → (x ≡ a) ⊎ (x ≡ b)
     two k = ⊎-elim (λ e. inl e) (λ t. ⊎-elim (λ e. inr e) (λ n. absurd (List·Memᴰ·not-nil n)) (List·Memᴰ·cases-cons t)) (List·Memᴰ·cases-cons k)

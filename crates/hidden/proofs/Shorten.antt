@@ -19,7 +19,7 @@ use Rattle.base.proofs.Lists.{in-filter, filter-sub, filter-map, map-self, sub-
 use Rattle.literal.specs.Literals.{twin}
 use Rattle.literal.proofs.Twins.{twin-eq}
 use Rattle.walk.specs.Walk.{Stamps}
-use Rattle.walk.specs.Forest.{dis, fin, Holds}
+use Rattle.walk.specs.Forest.{discoveryAt, finishAt, Holds}
 use Rattle.hidden.specs.Hidden.{holds, unhidden, shorten}
 use Rattle.hidden.proofs.Intervals.{Nested, Within, holds-true, inside}
 
@@ -85,10 +85,10 @@ module _ (Leads : ℕ → ℕ → Type 0) (none : (a : ℕ) → Leads a a) (more
     shorten-leads l k =
         let D : List ℕ = unhidden (λ s. s) (holds σ) C in
         let in-C : (x : ℕ) → List·Memᴰ x D → List·Memᴰ x C = λ x i. sub-mem (unhidden-sub (λ s. s) (holds σ) C) i in
-        let p = stays (holds σ) (fin σ) C
+        let p = stays (holds σ) (finishAt σ) C
         (λ a b i j d h. inside size σ N a b (w a i .0) (w b j .0) d (holds-true σ a b h) .1)
         (λ a b i j h. one a b i j (holds-true σ a b h)) l k in
-        let q = stays (λ a b. holds σ (twin b) (twin a)) (λ a. dis σ (twin a)) D
+        let q = stays (λ a b. holds σ (twin b) (twin a)) (λ a. discoveryAt σ (twin a)) D
         (λ a b i j d h. inside size σ N (twin b) (twin a) (w b (in-C b j) .1) (w a (in-C a i) .1) (λ e. d (sym (twin-eq e))) (holds-true σ (twin b) (twin a) h) .0)
         (λ a b i j h. two a b (in-C a i) (in-C b j) (holds-true σ (twin b) (twin a) h))
         (p .0) (p .1) in

@@ -6,11 +6,11 @@ use lib.Dec.{eqb}
 use Rattle.base.specs.Lists.{first, anyBelow}
 use Rattle.literal.specs.Literals.{twin}
 use Rattle.walk.specs.Walk.{Stamps}
-use Rattle.walk.specs.Forest.{top}
+use Rattle.walk.specs.Forest.{startAt}
 use Rattle.hidden.specs.Hidden.{holds}
 
 unfoldable pub sameStart : Stamps → ℕ → Bool
-sameStart σ s = eqb (top σ s) (top σ (twin s))
+sameStart σ s = eqb (startAt σ s) (startAt σ (twin s))
 
 unfoldable pub holdsBoth : Stamps → ℕ → ℕ → Bool
 holdsBoth σ s x = holds σ x s && holds σ x (twin s)

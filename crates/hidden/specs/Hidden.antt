@@ -9,15 +9,15 @@ use lib.Dec.{leb, ltb, eqb}
 use Rattle.base.specs.Lists.{any, filter}
 use Rattle.literal.specs.Literals.{twin}
 use Rattle.walk.specs.Walk.{Stamps}
-use Rattle.walk.specs.Forest.{dis, fin, par}
+use Rattle.walk.specs.Forest.{discoveryAt, finishAt, parentAt}
 
 -- interval a holds interval b: it begins no later and ends no earlier
 unfoldable pub holds : Stamps → ℕ → ℕ → Bool
-holds σ a b = leb (dis σ a) (dis σ b) && leb (fin σ b) (fin σ a)
+holds σ a b = leb (discoveryAt σ a) (discoveryAt σ b) && leb (finishAt σ b) (finishAt σ a)
 
 unfoldable pub insert : Stamps → ℕ → List ℕ → List ℕ
 insert σ x [] = x ∷ []
-insert σ x (y ∷ ys) = elim (leb (dis σ x) (dis σ y)) [ true ↦ x ∷ y ∷ ys | false ↦ y ∷ insert σ x ys ]
+insert σ x (y ∷ ys) = elim (leb (discoveryAt σ x) (discoveryAt σ y)) [ true ↦ x ∷ y ∷ ys | false ↦ y ∷ insert σ x ys ]
 
 -- a list sorted by discovery
 unfoldable pub byDiscovery : Stamps → List ℕ → List ℕ
@@ -32,13 +32,13 @@ excepted neg pos parent = eqb pos (twin neg) || eqb parent neg
 
 -- line 7: neg ends before pos does; or the clause has two literals, and an exception holds
 unfoldable pub passes : Stamps → Bool → ℕ → ℕ → Bool
-passes σ two neg pos = ltb (fin σ neg) (fin σ pos) || (two && excepted neg pos (par σ pos))
+passes σ two neg pos = ltb (finishAt σ neg) (finishAt σ pos) || (two && excepted neg pos (parentAt σ pos))
 
 -- lines 4 to 10 at one pos: on to the next pos, on to the next neg, or yes
 unfoldable pub scanAt : Stamps → Bool → (List ℕ → Bool) → ℕ → List ℕ → Bool
 scanAt σ two next pos [] = false
 scanAt σ two next pos (neg ∷ negs) =
-    elim (ltb (dis σ pos) (dis σ neg)) [
+    elim (ltb (discoveryAt σ pos) (discoveryAt σ neg)) [
       | true ↦ next (neg ∷ negs)
       | false ↦ elim (passes σ two neg pos) [ true ↦ scanAt σ two next pos negs | false ↦ true ]
     ]
@@ -71,15 +71,15 @@ without l C = filter (λ m. not (eqb m l)) C
 unfoldable pub loop : (ℕ → ℕ → Bool) → (ℕ → ℕ) → Stamps → ℕ → List ℕ → List ℕ → List ℕ
 loop goes literal σ finished [] C = C
 loop goes literal σ finished (x ∷ xs) C =
-    elim (goes finished (fin σ x)) [
+    elim (goes finished (finishAt σ x)) [
       | true ↦ loop goes literal σ finished xs (without (literal x) C)
-      | false ↦ loop goes literal σ (fin σ x) xs C
+      | false ↦ loop goes literal σ (finishAt σ x) xs C
     ]
 
 -- lines 1 and 5: the first element gives `finished`, and the loop starts at the second
 unfoldable pub start : (ℕ → ℕ → Bool) → (ℕ → ℕ) → Stamps → List ℕ → List ℕ → List ℕ
 start goes literal σ [] C = C
-start goes literal σ (x ∷ xs) C = loop goes literal σ (fin σ x) xs C
+start goes literal σ (x ∷ xs) C = loop goes literal σ (finishAt σ x) xs C
 
 -- over the literals by falling discovery: l goes if fin l > finished
 unfoldable pub linesPos : Stamps → List ℕ → List ℕ

@@ -5,7 +5,7 @@ use mathlib.Core.List.{List, [], _∷_}
 use lib.IntN.{ℤ, pos, negsuc}
 use Rattle.base.specs.Lists.{first, anyBelow}
 use Rattle.literal.specs.Literals.{twin}
-use Rattle.walk.specs.Walk.{arrive, leave, edge, edges, enters, starts}
+use Rattle.walk.specs.Walk.{arrive, leave, edge, edges, enters, startWalk}
 use Rattle.implications.specs.Edges.{outs}
 use Rattle.implications.specs.Clauses.{froms, tos, implications}
 use Rattle.scc.specs.Groups.{reaches, connected, leastMutual}
@@ -19,13 +19,13 @@ given : Tables
 given = tables (0 ∷ 2 ∷ 1 ∷ 2 ∷ 2 ∷ 1 ∷ []) (pos 2 ∷ pos 3 ∷ negsuc 1 ∷ negsuc 2 ∷ []) (pos 1 ∷ pos 1 ∷ pos 2 ∷ pos 0 ∷ pos 3 ∷ pos 0 ∷ pos 3 ∷ pos 0 ∷ pos 7 ∷ []) [] []
 
 classes : mergedClasses 4 2 given .variables ≡ pos 1 ∷ pos 1 ∷ pos 2 ∷ pos 0 ∷ negsuc 1 ∷ pos 0 ∷ negsuc 1 ∷ pos 0 ∷ pos 7 ∷ []
-unfolding given first twin arrive leave edge edges enters starts outs froms tos reaches connected leastMutual slotsAt slotsFrom representative regrouped mergedClasses
+unfolding given first twin arrive leave edge edges enters startWalk outs froms tos reaches connected leastMutual slotsAt slotsFrom representative regrouped mergedClasses
 classes = refl
 
 -- 1 and -1 share a group exactly with all four clauses of P8
 clash : (clashes (implications ((0 ∷ 2 ∷ []) ∷ (0 ∷ 3 ∷ []) ∷ (1 ∷ 2 ∷ []) ∷ (1 ∷ 3 ∷ []) ∷ [])) 2 ≡ true)
     × (clashes (implications ((0 ∷ 2 ∷ []) ∷ (0 ∷ 3 ∷ []) ∷ (1 ∷ 2 ∷ []) ∷ [])) 2 ≡ false)
-unfolding anyBelow twin arrive leave edge edges enters starts outs froms tos reaches connected clashes
+unfolding anyBelow twin arrive leave edge edges enters startWalk outs froms tos reaches connected clashes
 clash = (refl, refl)
 
 -- classes 1, -1, 3

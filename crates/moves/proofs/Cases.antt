@@ -8,7 +8,7 @@ use mathlib.Core.List.{List, [], _∷_, List·Memᴰ·head}
 use Rattle.base.specs.Lists.{any, filter, absent, first, anyBelow}
 use Rattle.literal.specs.Literals.{twin}
 use Rattle.literal.specs.Assignments.{Assignment}
-use Rattle.walk.specs.Walk.{arrive, leave, edge, edges, enters, starts, stampAll}
+use Rattle.walk.specs.Walk.{arrive, leave, edge, edges, enters, startWalk, stampAll}
 use Rattle.implications.specs.Edges.{outs}
 use Rattle.implications.specs.Clauses.{froms, tos}
 use Rattle.scc.specs.Groups.{reaches, connected, cyclic}
@@ -33,7 +33,7 @@ unfolding f6 after6
 clauses6 = (refl, refl, refl)
 
 p6 : Moves 2 (load f6) spent after6 spent
-unfolding f6 after6 any filter absent first anyBelow twin arrive leave edge edges enters starts stampAll outs froms tos reaches connected cyclic holds sameStart holdsBoth lowest failedSlot stampsOf literalsIn graph once? clause? shaped? lists?
+unfolding f6 after6 any filter absent first anyBelow twin arrive leave edge edges enters startWalk stampAll outs froms tos reaches connected cyclic holds sameStart holdsBoth lowest failedSlot stampsOf literalsIn graph once? clause? shaped? lists?
 p6 =
     let order : List ℕ = 0 ∷ 1 ∷ 2 ∷ 3 ∷ [] in
     go (go (go (go stay

@@ -16,13 +16,13 @@ use Rattle.base.proofs.Lists.{map-self}
 use Rattle.literal.specs.Literals.{slotOf, litAt}
 use Rattle.literal.proofs.Laws.{slot-lit}
 use Rattle.walk.specs.Walk.{Stamps}
-use Rattle.walk.specs.Forest.{fin, par}
+use Rattle.walk.specs.Forest.{finishAt, parentAt}
 use Rattle.stamps.specs.Columns.{columns}
 use Rattle.hidden.specs.Hidden.{hiddenTautology, shorten}
 use Rattle.hidden.proofs.Intervals.{Within}
 use Rattle.hidden.proofs.Shorten.{shorten-slots}
 use Rattle.hidden.proofs.Agree.{Agree, tautology-agree, shorten-agree}
-use Rattle.hidden.proofs.Columns.{column-dis, column-fin, column-par, column-top}
+use Rattle.stamps.proofs.Columns.{column-discovery, column-finishes, column-parents, column-starts}
 use Rattle.tables.specs.Tables.{Tables}
 use Rattle.tables.specs.Fates.{Fate, kept, left, unit, conflict}
 use Rattle.tables.specs.Fates as fates
@@ -55,19 +55,19 @@ module _ {A : Type 0} (rest : List A) (d : A) where
 slot-back : (l : List ℕ) (q : ℕ) → slotOf (getD (map litAt l) q (litAt 0)) ≡ getD l q 0
 slot-back l q = ap slotOf (List·getD-map litAt l q 0) ∙ slot-lit (getD l q 0)
 
-pub stamped-agree : (v : ℕ) (σ : Stamps) (t : Tables) → length (σ .disc) ≡ 2 * v → length (σ .fin) ≡ 2 * v → length (σ .par) ≡ 2 * v → length (σ .start) ≡ 2 * v
+pub stamped-agree : (v : ℕ) (σ : Stamps) (t : Tables) → length (σ .discoveries) ≡ 2 * v → length (σ .finishes) ≡ 2 * v → length (σ .parents) ≡ 2 * v → length (σ .starts) ≡ 2 * v
     → Agree (2 * v) (columns (stampedTables v σ t .times) (stampedTables v σ t .links)) σ
 unfolding stampedTables
 stamped-agree v σ t hd hf hp hs =
     let times : List ℕ = stampedTables v σ t .times in
     let links : List ℤ = stampedTables v σ t .links in
-    let lp : length (map litAt (σ .par)) ≡ 2 * v = length-map (σ .par) litAt ∙ hp in
-    let ls : length (map litAt (σ .start)) ≡ 2 * v = length-map (σ .start) litAt ∙ hs in
+    let lp : length (map litAt (σ .parents)) ≡ 2 * v = length-map (σ .parents) litAt ∙ hp in
+    let ls : length (map litAt (σ .starts)) ≡ 2 * v = length-map (σ .starts) litAt ∙ hs in
     record {
-      discoveries = λ q lt. column-dis times links q ∙ interleave-even (drop (4 * v) (t .times)) 0 (σ .disc) (σ .fin) q (hf ∙ sym hd) (omega (arith, lt, hd));
-      finishes = λ q lt. column-fin times links q ∙ interleave-odd (drop (4 * v) (t .times)) 0 (σ .disc) (σ .fin) q (hf ∙ sym hd) (omega (arith, lt, hd));
-      parents = λ q lt. column-par times links q ∙ ap slotOf (interleave-even (drop (4 * v) (t .links)) (pos 0) (map litAt (σ .par)) (map litAt (σ .start)) q (ls ∙ sym lp) (omega (arith, lt, lp)) ∙ default (σ .par) q (omega (arith, lt, hp))) ∙ slot-back (σ .par) q;
-      starts = λ q lt. column-top times links q ∙ ap slotOf (interleave-odd (drop (4 * v) (t .links)) (pos 0) (map litAt (σ .par)) (map litAt (σ .start)) q (ls ∙ sym lp) (omega (arith, lt, lp)) ∙ default (σ .start) q (omega (arith, lt, hs))) ∙ slot-back (σ .start) q;
+      discoveries = λ q lt. column-discovery times links q ∙ interleave-even (drop (4 * v) (t .times)) 0 (σ .discoveries) (σ .finishes) q (hf ∙ sym hd) (omega (arith, lt, hd));
+      finishes = λ q lt. column-finishes times links q ∙ interleave-odd (drop (4 * v) (t .times)) 0 (σ .discoveries) (σ .finishes) q (hf ∙ sym hd) (omega (arith, lt, hd));
+      parents = λ q lt. column-parents times links q ∙ ap slotOf (interleave-even (drop (4 * v) (t .links)) (pos 0) (map litAt (σ .parents)) (map litAt (σ .starts)) q (ls ∙ sym lp) (omega (arith, lt, lp)) ∙ default (σ .parents) q (omega (arith, lt, hp))) ∙ slot-back (σ .parents) q;
+      starts = λ q lt. column-starts times links q ∙ ap slotOf (interleave-odd (drop (4 * v) (t .links)) (pos 0) (map litAt (σ .parents)) (map litAt (σ .starts)) q (ls ∙ sym lp) (omega (arith, lt, lp)) ∙ default (σ .starts) q (omega (arith, lt, hs))) ∙ slot-back (σ .starts) q;
     }
   where
     -- within the list the default does not matter

@@ -6,7 +6,7 @@ use mathlib.Core.List.{List, [], _∷_, List·Memᴰ·head, List·Memᴰ·tail}
 use lib.IntN.{pos, negsuc}
 use Rattle.base.specs.Lists.{any, filter, absent, evens, odds, interleave}
 use Rattle.literal.specs.Literals.{twin}
-use Rattle.walk.specs.Walk.{arrive, leave, edge, edges, enters, starts, stampAll}
+use Rattle.walk.specs.Walk.{arrive, leave, edge, edges, enters, startWalk, stampAll}
 use Rattle.implications.specs.Edges.{outs}
 use Rattle.implications.specs.Clauses.{froms, tos}
 use Rattle.stamps.specs.Columns.{columns}
@@ -27,11 +27,11 @@ abbrev p2 : Tables
 p2 = stamped 4 ((1 ∷ 2 ∷ []) ∷ (3 ∷ 4 ∷ []) ∷ (0 ∷ 4 ∷ 6 ∷ []) ∷ []) 8 (0 ∷ 1 ∷ 2 ∷ 3 ∷ 4 ∷ 5 ∷ 6 ∷ 7 ∷ [])
 
 intervals : (discovered p2 (pos 1) ≡ 1) × (finished p2 (pos 1) ≡ 6) × (discovered p2 (pos 2) ≡ 2) × (finished p2 (pos 2) ≡ 5) × (parent p2 (pos 2) ≡ pos 1)
-unfolding filter absent interleave twin arrive leave edge edges enters starts stampAll outs froms tos stampsOf stampedTables
+unfolding filter absent interleave twin arrive leave edge edges enters startWalk stampAll outs froms tos stampsOf stampedTables
 intervals = (refl, refl, refl, refl, refl)
 
 one-holds-two : Holds p2 (pos 1) (pos 2) × Ancestor p2 (pos 1) (pos 2)
-unfolding filter absent interleave twin arrive leave edge edges enters starts stampAll outs froms tos stampsOf stampedTables
+unfolding filter absent interleave twin arrive leave edge edges enters startWalk stampAll outs froms tos stampsOf stampedTables
 one-holds-two = ((omega arith, omega arith), up self)
 
 -- P3: (−1 2)(−2 3)(−1 3)
@@ -39,11 +39,11 @@ abbrev p3 : Tables
 p3 = stamped 3 ((1 ∷ 2 ∷ []) ∷ (3 ∷ 4 ∷ []) ∷ (1 ∷ 4 ∷ []) ∷ []) 6 (0 ∷ 1 ∷ 2 ∷ 3 ∷ 4 ∷ 5 ∷ [])
 
 third-dropped : sweepClause (columns (p3 .times) (p3 .links)) (negsuc 0 ∷ pos 3 ∷ []) ≡ dropped
-unfolding filter absent evens odds interleave twin arrive leave edge edges enters starts stampAll outs froms tos stampsOf stampedTables insert byDiscovery passes scanAt scan hiddenTautology sweepClause
+unfolding filter absent evens odds interleave twin arrive leave edge edges enters startWalk stampAll outs froms tos stampsOf stampedTables insert byDiscovery passes scanAt scan hiddenTautology sweepClause
 third-dropped = refl
 
 third-hidden : HiddenPair p3 (negsuc 0 ∷ pos 3 ∷ [])
-unfolding filter absent interleave twin arrive leave edge edges enters starts stampAll outs froms tos stampsOf stampedTables
+unfolding filter absent interleave twin arrive leave edge edges enters startWalk stampAll outs froms tos stampsOf stampedTables
 third-hidden = record {
   l = negsuc 0;
   m = pos 3;
@@ -60,5 +60,5 @@ abbrev by : Tables
 by = stamped 4 ((0 ∷ 6 ∷ []) ∷ (7 ∷ 0 ∷ []) ∷ (0 ∷ 4 ∷ []) ∷ (5 ∷ 2 ∷ []) ∷ (0 ∷ 2 ∷ []) ∷ []) 8 (0 ∷ 1 ∷ 2 ∷ 3 ∷ 4 ∷ 5 ∷ 6 ∷ 7 ∷ [])
 
 passed-by : Holds by (negsuc 0) (pos 2) × (parent by (pos 2) ≡ pos 3) × Holds by (negsuc 0) (pos 1) × (sweepClause (columns (by .times) (by .links)) (pos 1 ∷ pos 2 ∷ []) ≡ left (pos 1 ∷ pos 2 ∷ []))
-unfolding any filter absent evens odds interleave twin arrive leave edge edges enters starts stampAll outs froms tos stampsOf stampedTables holds insert byDiscovery passes scanAt scan hiddenTautology unhidden shorten sweepClause
+unfolding any filter absent evens odds interleave twin arrive leave edge edges enters startWalk stampAll outs froms tos stampsOf stampedTables holds insert byDiscovery passes scanAt scan hiddenTautology unhidden shorten sweepClause
 passed-by = ((omega arith, omega arith), refl, (omega arith, omega arith), refl)

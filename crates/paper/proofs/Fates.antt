@@ -17,7 +17,8 @@ use Rattle.stamps.specs.Fresh.{FreshStamps}
 use Rattle.stamps.specs.Columns.{columns}
 use Rattle.hidden.specs.Hidden.{holds, hiddenTautology, unhidden, shorten, figure5}
 use Rattle.hidden.proofs.Intervals.{Nested, Within, holds-true, true-holds}
-use Rattle.hidden.proofs.Columns.{column-dis, column-fin, column-par, fresh-nested}
+use Rattle.stamps.proofs.Columns.{column-discovery, column-finishes, column-parents}
+use Rattle.hidden.proofs.FreshColumns.{fresh-nested}
 use Rattle.hidden.proofs.Scan.{hidden-of, tautology-means}
 use Rattle.hidden.proofs.Shorten.{unhidden-sub, shorten-slots}
 use Rattle.hidden.proofs.Figure5.{figure5-means}
@@ -36,21 +37,21 @@ module _ (t : Tables) (v : ℕ) (F : FreshStamps v (t .times) (t .links)) where
   N : Nested (2 * v) σ
   N = fresh-nested (t .times) (t .links) v F
 
-  disc-is : (p : ℤ) → forest.dis σ (slotOf p) ≡ discovered t p
-  disc-is p = column-dis (t .times) (t .links) (slotOf p)
+  discoveries-is : (p : ℤ) → forest.discoveryAt σ (slotOf p) ≡ discovered t p
+  discoveries-is p = column-discovery (t .times) (t .links) (slotOf p)
 
   -- ---- the columns are the records
 
   to-columns : (p q : ℤ) → Holds t p q → forest.Holds σ (slotOf p) (slotOf q)
   to-columns p q h = (
-    omega (arith, h .0, disc-is p, disc-is q),
-    omega (arith, h .1, column-fin (t .times) (t .links) (slotOf p), column-fin (t .times) (t .links) (slotOf q)),
+    omega (arith, h .0, discoveries-is p, discoveries-is q),
+    omega (arith, h .1, column-finishes (t .times) (t .links) (slotOf p), column-finishes (t .times) (t .links) (slotOf q)),
   )
 
   to-records : (p q : ℤ) → forest.Holds σ (slotOf p) (slotOf q) → Holds t p q
   to-records p q h = (
-    omega (arith, h .0, disc-is p, disc-is q),
-    omega (arith, h .1, column-fin (t .times) (t .links) (slotOf p), column-fin (t .times) (t .links) (slotOf q)),
+    omega (arith, h .0, discoveries-is p, discoveries-is q),
+    omega (arith, h .1, column-finishes (t .times) (t .links) (slotOf p), column-finishes (t .times) (t .links) (slotOf q)),
   )
 
   from-twin : (l m : ℤ) → Literal v l → forest.Holds σ (twin (slotOf l)) (slotOf m) → Holds t (negℤ l) m
@@ -125,15 +126,15 @@ module _ (t : Tables) (v : ℕ) (F : FreshStamps v (t .times) (t .links)) where
       m-in = j;
       held = from-twin l m L (J .held);
       other = d;
-      no-parent = λ e. J .no-parent (column-par (t .times) (t .links) (slotOf m) ∙ ap slotOf e ∙ slot-twin l (L .above));
-      reached = λ h lt. J .reached (to-twin l l L h) (omega (arith, lt, disc-is l, disc-is m));
+      no-parent = λ e. J .no-parent (column-parents (t .times) (t .links) (slotOf m) ∙ ap slotOf e ∙ slot-twin l (L .above));
+      reached = λ h lt. J .reached (to-twin l l L h) (omega (arith, lt, discoveries-is l, discoveries-is m));
     }
 
     pair-jump : (l m : ℤ) → Literal v l → Literal v (parent t m) → Holds t (negℤ l) m → (parent t m ≡ negℤ l → ⊥) → (Holds t (negℤ l) l → discovered t l < discovered t m → ⊥) → Jump σ (slotOf l) (slotOf m)
     pair-jump l m L P h p r = record {
       held = to-twin l m L h;
-      no-parent = λ e. p (slot-same (parent t m) (negℤ l) (P .above) (omega (arith, L .above, abs-neg l)) (sym (column-par (t .times) (t .links) (slotOf m)) ∙ e ∙ sym (slot-twin l (L .above))));
-      reached = λ k lt. r (from-twin l l L k) (omega (arith, lt, disc-is l, disc-is m));
+      no-parent = λ e. p (slot-same (parent t m) (negℤ l) (P .above) (omega (arith, L .above, abs-neg l)) (sym (column-parents (t .times) (t .links) (slotOf m)) ∙ e ∙ sym (slot-twin l (L .above))));
+      reached = λ k lt. r (from-twin l l L k) (omega (arith, lt, discoveries-is l, discoveries-is m));
     }
 
     two : {l : ℤ} → List·Memᴰ l C → (l ≡ x) ⊎ (l ≡ y)

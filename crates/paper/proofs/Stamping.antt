@@ -9,15 +9,15 @@ use lib.IntN.{ℤ}
 use Rattle.literal.specs.Literals.{Literal, slotOf, litAt}
 use Rattle.literal.proofs.Laws.{slot-below, slot-same, lit-slot}
 use Rattle.walk.specs.Walk.{Stamps}
-use Rattle.walk.specs.Forest.{dis, fin, par, top, Above, self, up, here, on, Top, Under}
+use Rattle.walk.specs.Forest.{discoveryAt, finishAt, parentAt, startAt, Above, self, up, here, on, Top, Under}
 use Rattle.walk.specs.Forest as forest
-use Rattle.walk.proofs.Theorems.{Stamped, above-holds, holds-above, start-top, back-cycle, reach-down}
+use Rattle.walk.proofs.Theorems.{Stamped, above-holds, holds-above, start-starts, back-cycle, reach-down}
 use Rattle.implications.proofs.Implications.{no-self-edge}
 use Rattle.scc.specs.Groups.{cyclic}
 use Rattle.scc.proofs.Forward.{cyclic-none}
 use Rattle.stamps.specs.Fresh.{FreshStamps}
 use Rattle.hidden.proofs.Agree.{Agree}
-use Rattle.hidden.proofs.Columns.{column-dis, column-fin, column-par, column-top}
+use Rattle.stamps.proofs.Columns.{column-discovery, column-finishes, column-parents, column-starts}
 use Rattle.stamps.specs.Columns.{columns}
 use Rattle.state.specs.declared.State.{State}
 use Rattle.tables.specs.Tables.{Tables}
@@ -26,7 +26,7 @@ use Rattle.stamp_walk.specs.Stamping.{Proper}
 use Rattle.stamp.specs.Stamp.{stampedTables}
 use Rattle.stamp.proofs.Asking.{Known, known-proper}
 use Rattle.stamp.proofs.Writing.{full-lists}
-use Rattle.stamp.proofs.Freshness.{stamps-stamped, disc-size, fin-size, par-size, top-size}
+use Rattle.stamp.proofs.Freshness.{stamps-stamped, discoveries-size, finishes-size, parents-size, starts-size}
 use Rattle.stamp.proofs.Shaped.{written-fresh}
 use Rattle.moves.proofs.Records.{stamped-agree}
 use Rattle.paper.specs.Records.{discovered, finished, parent, start, Holds, Ancestor}
@@ -61,25 +61,25 @@ module _ {order : List ℤ} {t : Tables} {st : State} (K : Known order t st) (un
   slot : {p : ℤ} → Literal (st .v) p → slotOf p < 2 * st .v
   slot {p} L = slot-below p (st .v) (L .above) (L .within)
 
-  on-walk : {p : ℤ} → Literal (st .v) p → 0 < dis σ (slotOf p)
+  on-walk : {p : ℤ} → Literal (st .v) p → 0 < discoveryAt σ (slotOf p)
   on-walk {p} L = S .all (slotOf p) (slot L)
 
   -- ---- the records
 
   agree : Agree (2 * st .v) (columns (t′ .times) (t′ .links)) σ
-  agree = stamped-agree (st .v) σ t (disc-size P (K .full)) (fin-size P (K .full)) (par-size P (K .full)) (top-size P (K .full))
+  agree = stamped-agree (st .v) σ t (discoveries-size P (K .full)) (finishes-size P (K .full)) (parents-size P (K .full)) (starts-size P (K .full))
 
-  disc-is : (p : ℤ) → Literal (st .v) p → discovered t′ p ≡ dis σ (slotOf p)
-  disc-is p L = sym (column-dis (t′ .times) (t′ .links) (slotOf p)) ∙ agree .discoveries (slotOf p) (slot L)
+  discoveries-is : (p : ℤ) → Literal (st .v) p → discovered t′ p ≡ discoveryAt σ (slotOf p)
+  discoveries-is p L = sym (column-discovery (t′ .times) (t′ .links) (slotOf p)) ∙ agree .discoveries (slotOf p) (slot L)
 
-  fin-is : (p : ℤ) → Literal (st .v) p → finished t′ p ≡ fin σ (slotOf p)
-  fin-is p L = sym (column-fin (t′ .times) (t′ .links) (slotOf p)) ∙ agree .finishes (slotOf p) (slot L)
+  finishes-is : (p : ℤ) → Literal (st .v) p → finished t′ p ≡ finishAt σ (slotOf p)
+  finishes-is p L = sym (column-finishes (t′ .times) (t′ .links) (slotOf p)) ∙ agree .finishes (slotOf p) (slot L)
 
-  parent-slot : (p : ℤ) → Literal (st .v) p → slotOf (parent t′ p) ≡ par σ (slotOf p)
-  parent-slot p L = sym (column-par (t′ .times) (t′ .links) (slotOf p)) ∙ agree .parents (slotOf p) (slot L)
+  parent-slot : (p : ℤ) → Literal (st .v) p → slotOf (parent t′ p) ≡ parentAt σ (slotOf p)
+  parent-slot p L = sym (column-parents (t′ .times) (t′ .links) (slotOf p)) ∙ agree .parents (slotOf p) (slot L)
 
-  start-slot : (p : ℤ) → Literal (st .v) p → slotOf (start t′ p) ≡ top σ (slotOf p)
-  start-slot p L = sym (column-top (t′ .times) (t′ .links) (slotOf p)) ∙ agree .starts (slotOf p) (slot L)
+  start-slot : (p : ℤ) → Literal (st .v) p → slotOf (start t′ p) ≡ startAt σ (slotOf p)
+  start-slot p L = sym (column-starts (t′ .times) (t′ .links) (slotOf p)) ∙ agree .starts (slotOf p) (slot L)
 
   parent-literal : (p : ℤ) → Literal (st .v) p → Literal (st .v) (parent t′ p)
   parent-literal p L = F .parent-literal (slotOf p) (slot L)
@@ -89,8 +89,8 @@ module _ {order : List ℤ} {t : Tables} {st : State} (K : Known order t st) (un
 
   record-of : (p : ℤ) → Literal (st .v) p → RecordOf σ t′ p
   record-of p L = record {
-    discovery = disc-is p L;
-    finish = fin-is p L;
+    discovery = discoveries-is p L;
+    finish = finishes-is p L;
     parent-is = sym (lit-slot (parent t′ p) (parent-literal p L .above)) ∙ ap litAt (parent-slot p L);
     start-is = sym (lit-slot (start t′ p) (start-literal p L .above)) ∙ ap litAt (start-slot p L);
   }
@@ -98,14 +98,14 @@ module _ {order : List ℤ} {t : Tables} {st : State} (K : Known order t st) (un
   -- ---- ancestors
 
   to-walk : (p q : ℤ) → Literal (st .v) p → Literal (st .v) q → Holds t′ p q → forest.Holds σ (slotOf p) (slotOf q)
-  to-walk p q Lp Lq h = (omega (arith, h .0, disc-is p Lp, disc-is q Lq), omega (arith, h .1, fin-is p Lp, fin-is q Lq))
+  to-walk p q Lp Lq h = (omega (arith, h .0, discoveries-is p Lp, discoveries-is q Lq), omega (arith, h .1, finishes-is p Lp, finishes-is q Lq))
 
   of-walk : (p q : ℤ) → Literal (st .v) p → Literal (st .v) q → forest.Holds σ (slotOf p) (slotOf q) → Holds t′ p q
-  of-walk p q Lp Lq h = (omega (arith, h .0, disc-is p Lp, disc-is q Lq), omega (arith, h .1, fin-is p Lp, fin-is q Lq))
+  of-walk p q Lp Lq h = (omega (arith, h .0, discoveries-is p Lp, discoveries-is q Lq), omega (arith, h .1, finishes-is p Lp, finishes-is q Lq))
 
   above-ancestor : {a b : ℕ} → Above σ a b → (p q : ℤ) → Literal (st .v) p → Literal (st .v) q → slotOf p ≡ a → slotOf q ≡ b → Ancestor t′ p q
   above-ancestor self p q Lp Lq e f = subst (Ancestor t′ p) (slot-same p q (Lp .above) (Lq .above) (e ∙ sym f)) records.self
-  above-ancestor (up {b = b} h) p q Lp Lq e f = records.up (above-ancestor h p (parent t′ q) Lp (parent-literal q Lq) e (parent-slot q Lq ∙ ap (par σ) f))
+  above-ancestor (up {b = b} h) p q Lp Lq e f = records.up (above-ancestor h p (parent t′ q) Lp (parent-literal q Lq) e (parent-slot q Lq ∙ ap (parentAt σ) f))
 
   ancestor-above : {p q : ℤ} → Ancestor t′ p q → Literal (st .v) q → Above σ (slotOf p) (slotOf q)
   ancestor-above records.self L = self
@@ -131,10 +131,10 @@ module _ {order : List ℤ} {t : Tables} {st : State} (K : Known order t st) (un
   start-own : (q : ℤ) → Literal (st .v) q → Ancestor t′ (start t′ q) q × (parent t′ (start t′ q) ≡ start t′ q)
   start-own q L =
       let Ls = start-literal q L in
-      let s = start-top adj σ (S .forest) (slotOf q) (on-walk L) in
+      let s = start-starts adj σ (S .forest) (slotOf q) (on-walk L) in
       let e = start-slot q L in (
         holds-ancestor (start t′ q) q Ls L (of-walk (start t′ q) q Ls L (subst (λ (x : ℕ). forest.Holds σ x (slotOf q)) (sym e) (s .1))),
-        slot-same (parent t′ (start t′ q)) (start t′ q) (parent-literal (start t′ q) Ls .above) (Ls .above) (parent-slot (start t′ q) Ls ∙ ap (par σ) e ∙ s .2 .parent ∙ sym e),
+        slot-same (parent t′ (start t′ q)) (start t′ q) (parent-literal (start t′ q) Ls .above) (Ls .above) (parent-slot (start t′ q) Ls ∙ ap (parentAt σ) e ∙ s .2 .parent ∙ sym e),
       )
 
   -- ---- edges
@@ -146,7 +146,7 @@ module _ {order : List ℤ} {t : Tables} {st : State} (K : Known order t st) (un
       let none = cyclic-none (clausesOf t st) (st .v) below uncyclic in
       ⊎-elim
       (λ (e : slotOf p ≡ slotOf q). absurd (no-self-edge (clausesOf t st) (P .once) (slotOf q) (subst (λ (x : ℕ). List·Memᴰ (slotOf q) (adj x)) e m)))
-      (λ (lt : fin σ (slotOf q) < fin σ (slotOf p)). omega (arith, lt, fin-is p (L .0), fin-is q (L .1)))
+      (λ (lt : finishAt σ (slotOf q) < finishAt σ (slotOf p)). omega (arith, lt, finishes-is p (L .0), finishes-is q (L .1)))
       (reach-down adj σ (S .forest) (λ a b e i d h. let c = back-cycle adj σ (S .forest) a b e i h in none a b d (c .0) (c .1)) (on-walk (L .0)) (on here m))
 
   pub stamped-as : StampedAs order t st t′

@@ -14,7 +14,7 @@ use Rattle.walk.specs.Walk.{Stamps}
 use Rattle.stamps.specs.Fresh.{FreshStamps}
 use Rattle.stamps.specs.Columns.{columns}
 use Rattle.hidden.specs.Hidden.{hiddenTautology, shorten}
-use Rattle.hidden.proofs.Columns.{fresh-nested}
+use Rattle.hidden.proofs.FreshColumns.{fresh-nested}
 use Rattle.tables.specs.Tables.{Tables, lengthOf, standing}
 use Rattle.tables.specs.Clauses.{literalsOf}
 use Rattle.tables.specs.Fates.{Fate, store, shortened, droppedAt, visit, visits}

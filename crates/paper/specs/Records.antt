@@ -3,20 +3,20 @@
 use Prim.Native.Nat.{ℕ, _≤_}
 use lib.IntN.{ℤ}
 use Rattle.literal.specs.Literals.{slotOf}
-use Rattle.stamps.specs.Fresh.{discovery, finish, parentOf, startOf}
+use Rattle.stamps.specs.Fresh.{discoveryIn, finishIn, parentIn, startIn}
 use Rattle.tables.specs.Tables.{Tables}
 
 abbrev pub discovered : Tables → ℤ → ℕ
-discovered t p = discovery (t .times) (slotOf p)
+discovered t p = discoveryIn (t .times) (slotOf p)
 
 abbrev pub finished : Tables → ℤ → ℕ
-finished t p = finish (t .times) (slotOf p)
+finished t p = finishIn (t .times) (slotOf p)
 
 abbrev pub parent : Tables → ℤ → ℤ
-parent t p = parentOf (t .links) (slotOf p)
+parent t p = parentIn (t .links) (slotOf p)
 
 abbrev pub start : Tables → ℤ → ℤ
-start t p = startOf (t .links) (slotOf p)
+start t p = startIn (t .links) (slotOf p)
 
 -- "Interval p holds interval q when it begins no later and ends no earlier."
 abbrev pub Holds : Tables → ℤ → ℤ → Type 0

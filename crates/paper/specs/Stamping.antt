@@ -8,7 +8,7 @@ use lib.IntN.{ℤ}
 use Rattle.base.specs.Lists.{absent}
 use Rattle.literal.specs.Literals.{Literal, slotOf, litAt}
 use Rattle.walk.specs.Walk.{Stamps}
-use Rattle.walk.specs.Forest.{dis, fin, par, top}
+use Rattle.walk.specs.Forest.{discoveryAt, finishAt, parentAt, startAt}
 use Rattle.implications.specs.Clauses.{tos, implications}
 use Rattle.state.specs.declared.State.{State}
 use Rattle.tables.specs.Tables.{Tables}
@@ -37,10 +37,10 @@ walkOf order t st = stampsOf (clausesOf t st) (2 * st .v) (map slotOf order)
 
 -- the record of p holds the walk's times and links
 pub record RecordOf (σ : Stamps) (t′ : Tables) (p : ℤ) : Type 0 where
-  pub discovery : discovered t′ p ≡ dis σ (slotOf p)
-  pub finish : finished t′ p ≡ fin σ (slotOf p)
-  pub parent-is : parent t′ p ≡ litAt (par σ (slotOf p))
-  pub start-is : start t′ p ≡ litAt (top σ (slotOf p))
+  pub discovery : discovered t′ p ≡ discoveryAt σ (slotOf p)
+  pub finish : finished t′ p ≡ finishAt σ (slotOf p)
+  pub parent-is : parent t′ p ≡ litAt (parentAt σ (slotOf p))
+  pub start-is : start t′ p ≡ litAt (startAt σ (slotOf p))
 
 -- t and st before the call, t′ the tables after it
 pub record StampedAs (order : List ℤ) (t : Tables) (st : State) (t′ : Tables) : Type 0 where

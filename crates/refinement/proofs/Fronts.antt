@@ -13,10 +13,10 @@ use Rattle.literal.specs.Literals.{Literal, slotOf, litAt, eqZ, signBy}
 use Rattle.literal.proofs.Laws.{slot-below}
 use Rattle.walk.specs.Walk.{Stamps}
 use Rattle.stamps.specs.Columns.{columns}
-use Rattle.stamps.specs.Fresh.{discovery, finish, parentOf, Holds, NestedOrApart, Parent, Start, FreshStamps}
+use Rattle.stamps.specs.Fresh.{discoveryIn, finishIn, parentIn, Holds, NestedOrApart, Parent, Start, FreshStamps}
 use Rattle.stamps.specs.Fresh as stamps
 use Rattle.hidden.proofs.Agree.{Agree}
-use Rattle.hidden.proofs.Columns.{column-dis, column-fin, column-par, column-top}
+use Rattle.stamps.proofs.Columns.{column-discovery, column-finishes, column-parents, column-starts}
 use Rattle.state.specs.declared.State.{State}
 use Rattle.tables.specs.Tables.{Tables, startOf, lengthOf, classOf, valueOf}
 use Rattle.tables.specs.Tables as T
@@ -41,23 +41,23 @@ pub record Fronts (t u : Tables) : Type 0 where
 -- ---- fresh stamps
 
 module _ (v : ℕ) (few : v ≤ 1024) (times times′ : List ℕ) (links links′ : List ℤ) (T : (k : ℕ) → k < 4096 → getD times′ k 0 ≡ getD times k 0) (K : (k : ℕ) → k < 4096 → getD links′ k (pos 0) ≡ getD links k (pos 0)) where
-  dis-same : (s : ℕ) → s < 2 * v → discovery times′ s ≡ discovery times s
-  dis-same s h = T (2 * s) (omega arith)
+  discovery-same : (s : ℕ) → s < 2 * v → discoveryIn times′ s ≡ discoveryIn times s
+  discovery-same s h = T (2 * s) (omega arith)
 
-  fin-same : (s : ℕ) → s < 2 * v → finish times′ s ≡ finish times s
-  fin-same s h = T (2 * s + 1) (omega arith)
+  finishes-same : (s : ℕ) → s < 2 * v → finishIn times′ s ≡ finishIn times s
+  finishes-same s h = T (2 * s + 1) (omega arith)
 
   holds-to : (p q : ℕ) → p < 2 * v → q < 2 * v → Holds times p q → Holds times′ p q
-  holds-to p q hp hq h = (omega (arith, h .0, dis-same p hp, dis-same q hq), omega (arith, h .1, fin-same p hp, fin-same q hq))
+  holds-to p q hp hq h = (omega (arith, h .0, discovery-same p hp, discovery-same q hq), omega (arith, h .1, finishes-same p hp, finishes-same q hq))
 
   holds-back : (p q : ℕ) → p < 2 * v → q < 2 * v → Holds times′ p q → Holds times p q
-  holds-back p q hp hq h = (omega (arith, h .0, dis-same p hp, dis-same q hq), omega (arith, h .1, fin-same p hp, fin-same q hq))
+  holds-back p q hp hq h = (omega (arith, h .0, discovery-same p hp, discovery-same q hq), omega (arith, h .1, finishes-same p hp, finishes-same q hq))
 
   nested-to : (p q : ℕ) → p < 2 * v → q < 2 * v → NestedOrApart times p q → NestedOrApart times′ p q
   nested-to p q hp hq (inl (inl h)) = inl (inl (holds-to p q hp hq h))
   nested-to p q hp hq (inl (inr h)) = inl (inr (holds-to q p hq hp h))
-  nested-to p q hp hq (inr (inl h)) = inr (inl (omega (arith, h, fin-same p hp, dis-same q hq)))
-  nested-to p q hp hq (inr (inr h)) = inr (inr (omega (arith, h, fin-same q hq, dis-same p hp)))
+  nested-to p q hp hq (inr (inl h)) = inr (inl (omega (arith, h, finishes-same p hp, discovery-same q hq)))
+  nested-to p q hp hq (inr (inr h)) = inr (inr (omega (arith, h, finishes-same q hq, discovery-same p hp)))
 
   parent-to : (q p : ℕ) → q < 2 * v → p < 2 * v → Parent (2 * v) times q p → Parent (2 * v) times′ q p
   parent-to q p hq hp (inl o) = inl (o .0, λ u hu h. o .1 u hu (holds-back u q hu hq h))
@@ -72,22 +72,22 @@ module _ (v : ℕ) (few : v ≤ 1024) (times times′ : List ℕ) (links links�
       ranged = λ k h. subst (λ (x : ℕ). (0 < x) × (x ≤ 4 * v)) (sym (T k (omega arith))) (F .every-time .ranged k h);
       once = λ j hj k hk e. F .every-time .once j hj k hk (sym (T j (omega arith)) ∙ e ∙ T k (omega arith));
     };
-    forward = λ s h. omega (arith, F .forward s h, dis-same s h, fin-same s h);
+    forward = λ s h. omega (arith, F .forward s h, discovery-same s h, finishes-same s h);
     nested = λ p hp q hq. nested-to p q hp hq (F .nested p hp q hq);
     parent-literal = λ q h. subst (Literal v) (sym (K (2 * q) (omega arith))) (F .parent-literal q h);
     parent = λ q h. let L = F .parent-literal q h in
-        subst (λ (z : ℤ). Parent (2 * v) times′ q (slotOf z)) (sym (K (2 * q) (omega arith))) (parent-to q (slotOf (parentOf links q)) h (slot-below (parentOf links q) v (L .above) (L .within)) (F .parent q h));
+        subst (λ (z : ℤ). Parent (2 * v) times′ q (slotOf z)) (sym (K (2 * q) (omega arith))) (parent-to q (slotOf (parentIn links q)) h (slot-below (parentIn links q) v (L .above) (L .within)) (F .parent q h));
     start-literal = λ q h. subst (Literal v) (sym (K (2 * q + 1) (omega arith))) (F .start-literal q h);
     start = λ q h. let L = F .start-literal q h in
-        subst (λ (z : ℤ). Start (2 * v) times′ q (slotOf z)) (sym (K (2 * q + 1) (omega arith))) (start-to q (slotOf (stamps.startOf links q)) h (slot-below (stamps.startOf links q) v (L .above) (L .within)) (F .start q h));
+        subst (λ (z : ℤ). Start (2 * v) times′ q (slotOf z)) (sym (K (2 * q + 1) (omega arith))) (start-to q (slotOf (stamps.startIn links q)) h (slot-below (stamps.startIn links q) v (L .above) (L .within)) (F .start q h));
   }
 
   agree-same : {σ : Stamps} → Agree (2 * v) (columns times links) σ → Agree (2 * v) (columns times′ links′) σ
   agree-same A = record {
-    discoveries = λ q h. column-dis times′ links′ q ∙ dis-same q h ∙ sym (column-dis times links q) ∙ A .discoveries q h;
-    finishes = λ q h. column-fin times′ links′ q ∙ fin-same q h ∙ sym (column-fin times links q) ∙ A .finishes q h;
-    parents = λ q h. column-par times′ links′ q ∙ ap slotOf (K (2 * q) (omega arith)) ∙ sym (column-par times links q) ∙ A .parents q h;
-    starts = λ q h. column-top times′ links′ q ∙ ap slotOf (K (2 * q + 1) (omega arith)) ∙ sym (column-top times links q) ∙ A .starts q h;
+    discoveries = λ q h. column-discovery times′ links′ q ∙ discovery-same q h ∙ sym (column-discovery times links q) ∙ A .discoveries q h;
+    finishes = λ q h. column-finishes times′ links′ q ∙ finishes-same q h ∙ sym (column-finishes times links q) ∙ A .finishes q h;
+    parents = λ q h. column-parents times′ links′ q ∙ ap slotOf (K (2 * q) (omega arith)) ∙ sym (column-parents times links q) ∙ A .parents q h;
+    starts = λ q h. column-starts times′ links′ q ∙ ap slotOf (K (2 * q + 1) (omega arith)) ∙ sym (column-starts times links q) ∙ A .starts q h;
   }
 
 -- ---- the shape rule

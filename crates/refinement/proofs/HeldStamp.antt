@@ -22,7 +22,7 @@ use Rattle.stamp.specs.declared.Ruling.{Ruling}
 use Rattle.stamp.specs.declared.Ruling.the-variants.{No, Fit}
 use Rattle.stamp.proofs.Asking.{Known, fit-known, known-proper, call-refused, call-fit, acyclic-no, acyclic-yes}
 use Rattle.stamp.proofs.Writing.{full-ordered}
-use Rattle.stamp.proofs.Freshness.{disc-size, fin-size, par-size, top-size}
+use Rattle.stamp.proofs.Freshness.{discoveries-size, finishes-size, parents-size, starts-size}
 use Rattle.stamp.proofs.Shaped.{fresh-shaped}
 use Rattle.sound.specs.Formula.{Clause, formulaStamps}
 use Rattle.moves.specs.Core.{load}
@@ -62,7 +62,7 @@ module _ {f : List Clause} {order : List ℤ} {t : Tables} {st : State} (H : Hel
     within = H .within;
     shape = fresh-shaped K;
     tied = record { number = plain .number; clauses = plain .clauses; classes = plain .classes; facts = plain .facts; beyond = plain .beyond; marks = plain .marks };
-    stamps = from σ 0 (stamped-agree (st .v) σ t (disc-size (known-proper K) (K .full)) (fin-size (known-proper K) (K .full)) (par-size (known-proper K) (K .full)) (top-size (known-proper K) (K .full))) refl;
+    stamps = from σ 0 (stamped-agree (st .v) σ t (discoveries-size (known-proper K) (K .full)) (finishes-size (known-proper K) (K .full)) (parents-size (known-proper K) (K .full)) (starts-size (known-proper K) (K .full))) refl;
   }
 
 pub stamp-held : {f : List Clause} (order : List ℤ) (t : Tables) (st : State) → Held f t st → Held f (stampCall order t st .tables) (stampCall order t st .state)

@@ -11,7 +11,7 @@ use Rattle.stamps.specs.Columns.{columns}
 use Rattle.stamps.specs.Fresh.{FreshStamps}
 use Rattle.hidden.proofs.Intervals.{Nested}
 use Rattle.hidden.proofs.Agree.{Agree}
-use Rattle.hidden.proofs.Columns.{fresh-nested}
+use Rattle.hidden.proofs.FreshColumns.{fresh-nested}
 use Rattle.state.specs.States.{opened, closed}
 use Rattle.state.specs.declared.State.{State}
 use Rattle.state.specs.declared.Pass.{Pass}

@@ -6,7 +6,7 @@ use mathlib.Core.Bool.{true, false, false≢true}
 use lib.ListN.{length}
 use Rattle.walk.specs.Walk.{Stamps}
 use Rattle.stamps.specs.Columns.{columns}
-use Rattle.hidden.proofs.Columns.{fresh-nested}
+use Rattle.hidden.proofs.FreshColumns.{fresh-nested}
 use Rattle.state.specs.States.{closed}
 use Rattle.state.specs.declared.State.{State}
 use Rattle.state.specs.declared.Pass.the-variants.{Idle, Sweep}

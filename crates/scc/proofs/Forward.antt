@@ -16,7 +16,7 @@ use Rattle.base.proofs.Searches.{anyBelow-in, anyBelow-out}
 use Rattle.literal.specs.Literals.{twin}
 use Rattle.literal.proofs.Twins.{twin-twice, twin-below}
 use Rattle.walk.specs.Walk.{Stamps}
-use Rattle.walk.specs.Forest.{dis, fin, Holds, Parted, Reach, here, on}
+use Rattle.walk.specs.Forest.{discoveryAt, finishAt, Holds, Parted, Reach, here, on}
 use Rattle.walk.proofs.Theorems.{Stamped, back-cycle, acyclic}
 use Rattle.implications.specs.Clauses.{froms, tos, implications, Once}
 use Rattle.implications.proofs.Csr.{outs-mem}
@@ -28,29 +28,29 @@ use Rattle.scc.proofs.Edges.{Edge, first, later, outs-edge, edge-outs}
 
 -- ---- the test, edge by edge
 
-forward-edge : (σ : Stamps) {s t : ℕ} {fs ts : List ℕ} → Edge s t fs ts → forward σ fs ts ≡ true → fin σ t < fin σ s
+forward-edge : (σ : Stamps) {s t : ℕ} {fs ts : List ℕ} → Edge s t fs ts → forward σ fs ts ≡ true → finishAt σ t < finishAt σ s
 unfolding forward
-forward-edge σ {s} {t} (first {f = f} {x = x} {fs = fs} {ts = ts} p q) h = go (ltb (fin σ x) (fin σ f)) refl h
+forward-edge σ {s} {t} (first {f = f} {x = x} {fs = fs} {ts = ts} p q) h = go (ltb (finishAt σ x) (finishAt σ f)) refl h
   where
-    go : (b : Bool) → ltb (fin σ x) (fin σ f) ≡ b → _≡_ {A = Bool} (elim b [ true ↦ forward σ fs ts | false ↦ false ]) true → fin σ t < fin σ s
-    go true e k = omega (arith, ltb-true (fin σ x) (fin σ f) e, ap (fin σ) p, ap (fin σ) q)
+    go : (b : Bool) → ltb (finishAt σ x) (finishAt σ f) ≡ b → _≡_ {A = Bool} (elim b [ true ↦ forward σ fs ts | false ↦ false ]) true → finishAt σ t < finishAt σ s
+    go true e k = omega (arith, ltb-true (finishAt σ x) (finishAt σ f) e, ap (finishAt σ) p, ap (finishAt σ) q)
     go false e k = clash k refl
-forward-edge σ {s} {t} (later {f = f} {x = x} {fs = fs} {ts = ts} r) h = go (λ k. forward-edge σ r k) (ltb (fin σ x) (fin σ f)) h
+forward-edge σ {s} {t} (later {f = f} {x = x} {fs = fs} {ts = ts} r) h = go (λ k. forward-edge σ r k) (ltb (finishAt σ x) (finishAt σ f)) h
   where
-    go : (forward σ fs ts ≡ true → fin σ t < fin σ s) → (b : Bool) → _≡_ {A = Bool} (elim b [ true ↦ forward σ fs ts | false ↦ false ]) true → fin σ t < fin σ s
+    go : (forward σ fs ts ≡ true → finishAt σ t < finishAt σ s) → (b : Bool) → _≡_ {A = Bool} (elim b [ true ↦ forward σ fs ts | false ↦ false ]) true → finishAt σ t < finishAt σ s
     go rest true k = rest k
     go rest false k = clash k refl
 
-forward-not : (σ : Stamps) (fs ts : List ℕ) → forward σ fs ts ≡ false → (s : ℕ) × (t : ℕ) × Edge s t fs ts × (fin σ s ≤ fin σ t)
+forward-not : (σ : Stamps) (fs ts : List ℕ) → forward σ fs ts ≡ false → (s : ℕ) × (t : ℕ) × Edge s t fs ts × (finishAt σ s ≤ finishAt σ t)
 unfolding forward
 forward-not σ [] ts h = clash refl h
 forward-not σ (f ∷ fs) [] h = clash refl h
-forward-not σ (f ∷ fs) (x ∷ ts) h = go (λ k. forward-not σ fs ts k) (ltb (fin σ x) (fin σ f)) refl h
+forward-not σ (f ∷ fs) (x ∷ ts) h = go (λ k. forward-not σ fs ts k) (ltb (finishAt σ x) (finishAt σ f)) refl h
   where
-    go : (forward σ fs ts ≡ false → (s : ℕ) × (t : ℕ) × Edge s t fs ts × (fin σ s ≤ fin σ t)) → (b : Bool) → ltb (fin σ x) (fin σ f) ≡ b
-        → _≡_ {A = Bool} (elim b [ true ↦ forward σ fs ts | false ↦ false ]) false → (s : ℕ) × (t : ℕ) × Edge s t (f ∷ fs) (x ∷ ts) × (fin σ s ≤ fin σ t)
+    go : (forward σ fs ts ≡ false → (s : ℕ) × (t : ℕ) × Edge s t fs ts × (finishAt σ s ≤ finishAt σ t)) → (b : Bool) → ltb (finishAt σ x) (finishAt σ f) ≡ b
+        → _≡_ {A = Bool} (elim b [ true ↦ forward σ fs ts | false ↦ false ]) false → (s : ℕ) × (t : ℕ) × Edge s t (f ∷ fs) (x ∷ ts) × (finishAt σ s ≤ finishAt σ t)
     go rest true e k = let r = rest k in (r .0, r .1, later (r .2), r .3)
-    go rest false e k = (f, x, first refl refl, ltb-false (fin σ x) (fin σ f) e)
+    go rest false e k = (f, x, first refl refl, ltb-false (finishAt σ x) (finishAt σ f) e)
 
 module _ (cs : List (List ℕ)) (v : ℕ) (below : (c : List ℕ) → List·Memᴰ c cs → (q : ℕ) → List·Memᴰ q c → q < 2 * v) where
   to-below : (s t : ℕ) → List·Memᴰ t (implications cs s) → t < 2 * v
@@ -114,7 +114,7 @@ module _ (cs : List (List ℕ)) (v : ℕ) (below : (c : List ℕ) → List·Mem�
         a b (⊎-elim (λ e. absurd (d e)) (λ h. S .all a (h .0)) (reach-within there)) d there back
 
     -- an edge to a literal that does not finish earlier goes to one that holds its tail
-    back-holds : (a b : ℕ) → 0 < dis σ a → List·Memᴰ b (implications cs a) → (a ≡ b → ⊥) → fin σ a ≤ fin σ b → Holds σ b a
+    back-holds : (a b : ℕ) → 0 < discoveryAt σ a → List·Memᴰ b (implications cs a) → (a ≡ b → ⊥) → finishAt σ a ≤ finishAt σ b → Holds σ b a
     back-holds a b ea m d le = go (S .forest .parted a b ea (S .forest .closed a b ea m) d)
       where
         go : Parted σ a b → Holds σ b a

@@ -6,7 +6,7 @@ use mathlib.Core.Bool.{Bool, true, false}
 use mathlib.Core.List.{List, [], _∷_}
 use lib.Dec.{ltb}
 use Rattle.walk.specs.Walk.{Stamps}
-use Rattle.walk.specs.Forest.{fin, Reach}
+use Rattle.walk.specs.Forest.{finishAt, Reach}
 
 -- two different literals that reach each other
 abbrev pub Cycle : (ℕ → List ℕ) → Type 0
@@ -19,4 +19,4 @@ Acyclic adj = (a b : ℕ) → (a ≡ b → ⊥) → Reach adj a b → Reach adj 
 unfoldable pub forward : Stamps → List ℕ → List ℕ → Bool
 forward σ [] ts = true
 forward σ (f ∷ fs) [] = true
-forward σ (f ∷ fs) (t ∷ ts) = elim (ltb (fin σ t) (fin σ f)) [ true ↦ forward σ fs ts | false ↦ false ]
+forward σ (f ∷ fs) (t ∷ ts) = elim (ltb (finishAt σ t) (finishAt σ f)) [ true ↦ forward σ fs ts | false ↦ false ]

@@ -7,7 +7,7 @@ use mathlib.Core.List.{List, [], _∷_, List·Memᴰ}
 use lib.ListN.{length, getD, replicate}
 use lib.Dec.{ltb, eqb}
 use Rattle.base.specs.Lists.{first, anyBelow}
-use Rattle.walk.specs.Walk.{Stamps, edges, starts}
+use Rattle.walk.specs.Walk.{Stamps, edges, startWalk}
 use Rattle.walk.specs.Ready.{stamps, adjOf, Graph}
 use Rattle.implications.specs.Skew.{Skew}
 use Rattle.literal.specs.Literals.{twin}
@@ -19,7 +19,7 @@ blank size f p s = stamps 0 (replicate size 0) f p s
 
 -- the walk of a list, from blank columns: it starts at each slot of the list that is not yet entered
 unfoldable pub walk : (ℕ → List ℕ) → ℕ → List ℕ → List ℕ → List ℕ → List ℕ → Stamps
-walk adj size order f p s = edges (starts size adj) order (blank size f p s)
+walk adj size order f p s = edges (startWalk size adj) order (blank size f p s)
 
 -- a list of all slots below size, and no others
 pub record Lists (size : ℕ) (order : List ℕ) : Type 0 where
@@ -33,7 +33,7 @@ pub data Falls (key : ℕ → ℕ) : List ℕ → Type 0 where
 
 -- is there a path from a to b? Whether a walk from a alone enters b
 unfoldable pub reaches : (ℕ → List ℕ) → ℕ → ℕ → ℕ → Bool
-reaches adj size a b = ltb 0 (getD (starts size adj a (blank size (replicate size 0) (replicate size 0) (replicate size 0)) .disc) b 0)
+reaches adj size a b = ltb 0 (getD (startWalk size adj a (blank size (replicate size 0) (replicate size 0) (replicate size 0)) .discoveries) b 0)
 
 -- do a and b reach each other? (strongly connected)
 unfoldable pub connected : (ℕ → List ℕ) → ℕ → ℕ → ℕ → Bool
@@ -67,11 +67,11 @@ pub record FirstSame (col : List ℕ) (s r : ℕ) : Type 0 where
   pub least : (b : ℕ) → b < r → getD col b 0 ≡ getD col s 0 → ⊥
 
 -- finishes of a walk: an even number of slots, each with a time of its own up to 4,096
-pub record Finishes (fin : List ℕ) : Type 0 where
-  pub pairs : (v : ℕ) × (length fin ≡ 2 * v)
-  pub few : length fin ≤ 2048
-  pub times : (s : ℕ) → s < length fin → getD fin s 0 ≤ 4096
-  pub apart : (s u : ℕ) → s < length fin → u < length fin → getD fin s 0 ≡ getD fin u 0 → s ≡ u
+pub record Finishes (finishes : List ℕ) : Type 0 where
+  pub pairs : (v : ℕ) × (length finishes ≡ 2 * v)
+  pub few : length finishes ≤ 2048
+  pub times : (s : ℕ) → s < length finishes → getD finishes s 0 ≤ 4096
+  pub apart : (s u : ℕ) → s < length finishes → u < length finishes → getD finishes s 0 ≡ getD finishes u 0 → s ≡ u
 
 -- what `groups` asks: a graph of pairs of slots that taking twins reverses, and a place for each slot in every column
 pub record Ready (offsets targets d f p s order rep : List ℕ) : Type 0 where

@@ -5,7 +5,7 @@ use mathlib.Core.List.{[], _∷_}
 use lib.IntN.{pos, negsuc}
 use Rattle.base.specs.Lists.{any, filter, first, anyBelow}
 use Rattle.literal.specs.Literals.{twin}
-use Rattle.walk.specs.Walk.{arrive, leave, edge, edges, enters, starts}
+use Rattle.walk.specs.Walk.{arrive, leave, edge, edges, enters, startWalk}
 use Rattle.implications.specs.Edges.{outs}
 use Rattle.implications.specs.Clauses.{froms, tos}
 use Rattle.scc.specs.Groups.{reaches, connected, cyclic, leastMutual}
@@ -38,7 +38,7 @@ settled =
     (state 4 5 Idle false false)
 
 settles : settle given ≡ settled
-unfolding given settled any filter first anyBelow twin arrive leave edge edges enters starts outs froms tos reaches connected cyclic leastMutual slotsAt slotsFrom standingCount literalCount shortened droppedAt fateAt visits advance propagateClause propagateVisit propagateVisits propagateFrom clashes representative regrouped mergedClasses mergeClause mergeOpen settleFor settle
+unfolding given settled any filter first anyBelow twin arrive leave edge edges enters startWalk outs froms tos reaches connected cyclic leastMutual slotsAt slotsFrom standingCount literalCount shortened droppedAt fateAt visits advance propagateClause propagateVisit propagateVisits propagateFrom clashes representative regrouped mergedClasses mergeClause mergeOpen settleFor settle
 settles = refl
 
 -- four variables are their own class before, one after
@@ -54,5 +54,5 @@ clashing =
     (state 2 4 Idle false false)
 
 marks : settle clashing ≡ standingIn (clashing .tables) (state 2 4 Idle false true)
-unfolding clashing any filter first anyBelow twin arrive leave edge edges enters starts outs froms tos reaches connected cyclic leastMutual slotsAt slotsFrom standingCount literalCount shortened droppedAt fateAt visits advance propagateClause propagateVisit propagateVisits propagateFrom clashes representative regrouped mergedClasses mergeClause mergeOpen settleFor settle
+unfolding clashing any filter first anyBelow twin arrive leave edge edges enters startWalk outs froms tos reaches connected cyclic leastMutual slotsAt slotsFrom standingCount literalCount shortened droppedAt fateAt visits advance propagateClause propagateVisit propagateVisits propagateFrom clashes representative regrouped mergedClasses mergeClause mergeOpen settleFor settle
 marks = refl

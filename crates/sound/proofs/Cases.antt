@@ -8,7 +8,7 @@ use lib.Dec.{eqb}
 use Rattle.base.specs.Lists.{any, filter, absent}
 use Rattle.literal.specs.Literals.{twin}
 use Rattle.literal.specs.Assignments.{Assignment}
-use Rattle.walk.specs.Walk.{arrive, leave, edge, edges, enters, starts, stampAll}
+use Rattle.walk.specs.Walk.{arrive, leave, edge, edges, enters, startWalk, stampAll}
 use Rattle.implications.specs.Edges.{outs}
 use Rattle.implications.specs.Clauses.{froms, tos}
 use Rattle.hidden.specs.Hidden.{holds, insert, byDiscovery, passes, scanAt, scan, hiddenTautology, unhidden, shorten}
@@ -37,7 +37,7 @@ unfoldable pub f2 : List Clause
 f2 = standing (1 ∷ 2 ∷ []) ∷ standing (3 ∷ 4 ∷ []) ∷ standing (0 ∷ 4 ∷ 6 ∷ []) ∷ []
 
 p2-stamps : formulaStamps 4 o4 f2 ≡ columns2
-unfolding o4 f2 columns2 stampsOf stampAll starts enters edges edge arrive leave filter absent twin froms tos outs literalsIn
+unfolding o4 f2 columns2 stampsOf stampAll startWalk enters edges edge arrive leave filter absent twin froms tos outs literalsIn
 p2-stamps = refl
 
 p2 : sweepFirst 3 columns2 f2 ≡ standing (1 ∷ 2 ∷ []) ∷ standing (3 ∷ 4 ∷ []) ∷ standing (4 ∷ 6 ∷ []) ∷ []
@@ -45,24 +45,24 @@ unfolding f2 columns2 filter twin holds insert byDiscovery passes scanAt scan hi
 p2 = refl
 
 p3 : swept 3 o3 (standing (1 ∷ 2 ∷ []) ∷ standing (3 ∷ 4 ∷ []) ∷ standing (1 ∷ 4 ∷ []) ∷ []) ≡ standing (1 ∷ 2 ∷ []) ∷ standing (3 ∷ 4 ∷ []) ∷ dropped ∷ []
-unfolding o3 swept stampsOf stampAll starts enters edges edge arrive leave filter absent twin froms tos outs literalsIn holds insert byDiscovery passes scanAt scan hiddenTautology any unhidden shorten judge onStanding visitFirst
+unfolding o3 swept stampsOf stampAll startWalk enters edges edge arrive leave filter absent twin froms tos outs literalsIn holds insert byDiscovery passes scanAt scan hiddenTautology any unhidden shorten judge onStanding visitFirst
 p3 = refl
 
 p4 : swept 3 o3 (standing (1 ∷ 4 ∷ []) ∷ standing (1 ∷ 2 ∷ []) ∷ standing (3 ∷ 4 ∷ []) ∷ []) ≡ standing (1 ∷ 4 ∷ []) ∷ standing (1 ∷ 2 ∷ []) ∷ standing (3 ∷ 4 ∷ []) ∷ []
-unfolding o3 swept stampsOf stampAll starts enters edges edge arrive leave filter absent twin froms tos outs literalsIn holds insert byDiscovery passes scanAt scan hiddenTautology any unhidden shorten judge onStanding visitFirst
+unfolding o3 swept stampsOf stampAll startWalk enters edges edge arrive leave filter absent twin froms tos outs literalsIn holds insert byDiscovery passes scanAt scan hiddenTautology any unhidden shorten judge onStanding visitFirst
 p4 = refl
 
 p5 : swept 4 o4 (standing (1 ∷ 2 ∷ []) ∷ standing (3 ∷ 4 ∷ []) ∷ standing (1 ∷ 4 ∷ 6 ∷ []) ∷ []) ≡ standing (1 ∷ 2 ∷ []) ∷ standing (3 ∷ 4 ∷ []) ∷ dropped ∷ []
-unfolding o4 swept stampsOf stampAll starts enters edges edge arrive leave filter absent twin froms tos outs literalsIn holds insert byDiscovery passes scanAt scan hiddenTautology any unhidden shorten judge onStanding visitFirst
+unfolding o4 swept stampsOf stampAll startWalk enters edges edge arrive leave filter absent twin froms tos outs literalsIn holds insert byDiscovery passes scanAt scan hiddenTautology any unhidden shorten judge onStanding visitFirst
 p5 = refl
 
 p6-stamps : formulaStamps 2 o2 (standing (1 ∷ 2 ∷ []) ∷ standing (1 ∷ 3 ∷ []) ∷ []) ≡ columns6
-unfolding o2 columns6 stampsOf stampAll starts enters edges edge arrive leave filter absent twin froms tos outs literalsIn
+unfolding o2 columns6 stampsOf stampAll startWalk enters edges edge arrive leave filter absent twin froms tos outs literalsIn
 p6-stamps = refl
 
 -- (-1 2)(-2 3)(-4 3)(1 3 5) with 4 first: 1 goes from the last clause by the second filter
 contrapositive : formulaStamps 5 (6 ∷ 7 ∷ 0 ∷ 1 ∷ 2 ∷ 3 ∷ 4 ∷ 5 ∷ 8 ∷ 9 ∷ []) (standing (1 ∷ 2 ∷ []) ∷ standing (3 ∷ 4 ∷ []) ∷ standing (7 ∷ 4 ∷ []) ∷ standing (0 ∷ 4 ∷ 8 ∷ []) ∷ []) ≡ columns4
-unfolding columns4 stampsOf stampAll starts enters edges edge arrive leave filter absent twin froms tos outs literalsIn
+unfolding columns4 stampsOf stampAll startWalk enters edges edge arrive leave filter absent twin froms tos outs literalsIn
 contrapositive = refl
 
 -- a clause of one literal is left, though its complement holds it
@@ -80,7 +80,7 @@ o9 : List ℕ
 o9 = 3 ∷ 0 ∷ 1 ∷ 2 ∷ 4 ∷ 5 ∷ 6 ∷ 7 ∷ []
 
 p9 : (forward (formulaStamps 4 o9 f9) (froms (map literalsIn f9)) (tos (map literalsIn f9)) ≡ false) × (getD (sweepFirst2 5 (formulaStamps 4 o9 f9) f9) 2 (standing []) ≡ dropped)
-unfolding f9 o9 stampsOf stampAll starts enters edges edge arrive leave filter absent twin froms tos outs literalsIn forward holds insert byDiscovery passes scanAt scan hiddenTautology any unhidden shorten judge onStanding visitFirst jumps tautology2
+unfolding f9 o9 stampsOf stampAll startWalk enters edges edge arrive leave filter absent twin froms tos outs literalsIn forward holds insert byDiscovery passes scanAt scan hiddenTautology any unhidden shorten judge onStanding visitFirst jumps tautology2
 p9 = (refl, refl)
 
 -- 3 true and all else false

@@ -7,7 +7,7 @@ use mathlib.Core.List.{List, map}
 use Rattle.base.specs.Lists.{any, filter, absent, anyBelow}
 use Rattle.literal.specs.Literals.{twin}
 use Rattle.literal.specs.Assignments.{Assignment}
-use Rattle.walk.specs.Walk.{arrive, leave, edge, edges, enters, starts, stampAll}
+use Rattle.walk.specs.Walk.{arrive, leave, edge, edges, enters, startWalk, stampAll}
 use Rattle.implications.specs.Edges.{outs}
 use Rattle.implications.specs.Clauses.{froms, tos}
 use Rattle.scc.specs.Groups.{Lists, cyclic}
@@ -32,7 +32,7 @@ unfolding o4 lists? any anyBelow
 p2-order = lists-of 8 o4 refl
 
 p2-uncyclic : cyclic (graph f2) 8 ≡ false
-unfolding o4 f2 stampsOf stampAll starts enters edges edge arrive leave filter absent twin froms tos outs literalsIn graph forward
+unfolding o4 f2 stampsOf stampAll startWalk enters edges edge arrive leave filter absent twin froms tos outs literalsIn graph forward
 p2-uncyclic =
     let cs : List (List ℕ) = map literalsIn f2 in
     cyclic-forward cs 4 (shaped-below 4 f2 p2-shaped) (shaped-once 4 f2 p2-shaped) (formulaStamps 4 o4 f2) (stamps-stamped cs 4 (shaped-below 4 f2 p2-shaped) o4 p2-order) ∙ refl

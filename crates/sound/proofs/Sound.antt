@@ -130,7 +130,7 @@ reach-true f τ M r k = reach-implies (graph f) (True τ) (λ x y n. let p = edg
 pub record Ready (vars : ℕ) (f : List Clause) (σ : Stamps) : Type 0 where
   pub shaped : Shaped vars f
   pub stamped : Stamped (graph f) (2 * vars) σ
-  pub sized : length (σ .disc) ≡ 2 * vars
+  pub sized : length (σ .discoveries) ≡ 2 * vars
   pub acyclic : Acyclic (graph f)
 
 -- the edges of a shaped formula's graph lie among its literals

@@ -7,8 +7,8 @@ use mathlib.Core.List.{List}
 use lib.ListN.{length}
 use Rattle.base.specs.Decide.{same-or}
 use Rattle.walk.specs.Walk.{Stamps}
-use Rattle.walk.specs.Forest.{dis, Holds, Top, Under}
-use Rattle.walk.proofs.Theorems.{Stamped, start-top, links-below}
+use Rattle.walk.specs.Forest.{discoveryAt, Holds, Top, Under}
+use Rattle.walk.proofs.Theorems.{Stamped, start-starts, links-below}
 use Rattle.hidden.proofs.Intervals.{Nested}
 use Rattle.hidden.proofs.Failed.{Linked}
 
@@ -20,7 +20,7 @@ module _ (adj : ℕ → List ℕ) (size : ℕ) (σ : Stamps) (S : Stamped adj si
         parted = λ q u lq lu d. S .forest .parted q u (S .all q lq) (S .all u lu) d;
       }
 
-  pub stamped-linked : length (σ .disc) ≡ size → Linked size σ
+  pub stamped-linked : length (σ .discoveries) ≡ size → Linked size σ
   stamped-linked len =
       record {
         nested = stamped-nested;
@@ -31,11 +31,11 @@ module _ (adj : ℕ → List ℕ) (size : ℕ) (σ : Stamps) (S : Stamped adj si
             (λ (u : (p : ℕ) × Under adj σ q p).
             let b = u .1 in
             inr (subst (λ (k : ℕ). (k ≡ q → ⊥) × Holds σ k q × ((x : ℕ) → x < size → (x ≡ q → ⊥) → Holds σ x q → Holds σ x k)) (sym (b .parent)) (
-              λ e. omega (arith, b .begins, ap (dis σ) e),
+              λ e. omega (arith, b .begins, ap (discoveryAt σ) e),
               (omega (arith, b .begins), omega (arith, b .ends)),
               λ x lx d h. b .narrowest x (S .all x lx) d h,
             )))
             (S .forest .tree q (S .all q lt));
         start-below = λ q lt. links-below adj size σ S len q lt .1;
-        start = λ q lt. start-top adj σ (S .forest) q (S .all q lt) .1;
+        start = λ q lt. start-starts adj σ (S .forest) q (S .all q lt) .1;
       }

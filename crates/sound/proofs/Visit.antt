@@ -10,7 +10,7 @@ use Rattle.base.proofs.Booleans.{and-left, and-right, or-either, differ}
 use Rattle.literal.specs.Literals.{twin}
 use Rattle.literal.proofs.Twins.{twin-twice, twin-eq}
 use Rattle.walk.specs.Walk.{Stamps}
-use Rattle.walk.specs.Forest.{dis, par, Holds, Reach, here, on, Top, Under}
+use Rattle.walk.specs.Forest.{discoveryAt, parentAt, Holds, Reach, here, on, Top, Under}
 use Rattle.walk.proofs.Theorems.{Stamped, holds-reach, reach-mirror}
 use Rattle.implications.specs.Clauses.{Once}
 use Rattle.scc.proofs.Kosaraju.{reach-trans}
@@ -40,7 +40,7 @@ module _ (f : List Clause) (size : ℕ) (σ : Stamps) (S : Stamped (graph f) siz
       (λ a b i j h. subst₂ (Reach (graph f)) (twin-twice a) (twin-twice b) (mirror (held (twin b) (twin a) (w b j .1) (w a i .1) h)))
 
   -- an interval that holds another, not its own and not its child's, is a path by way of a third literal: the child's parent
-  holds-detour : (p q : ℕ) → p < size → q < size → (q ≡ p → ⊥) → (par σ q ≡ p → ⊥) → Holds σ p q → Detour (graph f) p q
+  holds-detour : (p q : ℕ) → p < size → q < size → (q ≡ p → ⊥) → (parentAt σ q ≡ p → ⊥) → Holds σ p q → Detour (graph f) p q
   holds-detour p q lp lq d o h =
       ⊎-elim
       (λ (t : Top σ q). absurd (t .widest p (S .all p lp) (λ e. d (sym e)) h))
@@ -49,7 +49,7 @@ module _ (f : List Clause) (size : ℕ) (σ : Stamps) (S : Stamped (graph f) siz
       let b = u .1 in (
         m,
         λ e. o (b .parent ∙ e),
-        λ e. omega (arith, b .begins, ap (dis σ) e),
+        λ e. omega (arith, b .begins, ap (discoveryAt σ) e),
         holds-reach (graph f) σ (S .forest) (S .all p lp) (b .entered) (b .narrowest p (S .all p lp) (λ e. d (sym e)) h),
         on here (b .edge),
       ))
@@ -67,7 +67,7 @@ module _ (f : List Clause) (size : ℕ) (σ : Stamps) (S : Stamped (graph f) siz
       turn {s} {t} k = subst (λ (x : ℕ). Detour (graph f) (twin t) x) (twin-twice s) (detour-mirror k)
 
   -- the rule for pairs (also that of change request 2): one edge's tail holds its head and is not the head's parent
-  pair-kept : (a b p q : ℕ) → Within size (a ∷ b ∷ []) → Once (a ∷ b ∷ []) → Reads a b p q → Holds σ p q → (par σ q ≡ p → ⊥) → Kept (graph f) (standing (a ∷ b ∷ [])) dropped
+  pair-kept : (a b p q : ℕ) → Within size (a ∷ b ∷ []) → Once (a ∷ b ∷ []) → Reads a b p q → Holds σ p q → (parentAt σ q ≡ p → ⊥) → Kept (graph f) (standing (a ∷ b ∷ [])) dropped
   pair-kept a b p q w once r h o =
       let wa = w a (List·Memᴰ·head refl) in
       let wb = w b (List·Memᴰ·tail (List·Memᴰ·head refl)) in
@@ -110,7 +110,7 @@ module _ (f : List Clause) (size : ℕ) (σ : Stamps) (S : Stamped (graph f) siz
       judge-kept (tautology2 σ) C w
       (λ a b e h.
       let jump : (p q : ℕ) → Reads a b p q → jumps σ p q ≡ true → Kept (graph f) (standing (a ∷ b ∷ [])) dropped =
-      λ p q r j. pair-kept a b p q (subst (Within size) e w) (subst Once e once) r (holds-true σ p q (and-left (holds σ p q) _ j)) (differ (par σ q) p (and-right (holds σ p q) _ j)) in
+      λ p q r j. pair-kept a b p q (subst (Within size) e w) (subst Once e once) r (holds-true σ p q (and-left (holds σ p q) _ j)) (differ (parentAt σ q) p (and-right (holds σ p q) _ j)) in
       ⊎-elim (λ j. jump (twin a) b (inl (refl, refl)) j) (λ j. jump (twin b) a (inr (refl, refl)) j)
       (or-either (jumps σ (twin a) b) (jumps σ (twin b) a) (subst (λ (x : List ℕ). tautology2 σ x ≡ true) e h)))
       (λ a b c ls e h. subst (Hidden σ) (sym e) (hidden-of σ (a ∷ b ∷ c ∷ ls) (subst (λ (x : List ℕ). tautology2 σ x ≡ true) e h)))

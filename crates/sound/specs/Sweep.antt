@@ -6,7 +6,7 @@ use mathlib.Core.List.{List, [], _∷_}
 use lib.Dec.{eqb}
 use Rattle.literal.specs.Literals.{twin}
 use Rattle.walk.specs.Walk.{Stamps}
-use Rattle.walk.specs.Forest.{par}
+use Rattle.walk.specs.Forest.{parentAt}
 use Rattle.hidden.specs.Hidden.{holds, hiddenTautology, shorten}
 use Rattle.sound.specs.Formula.{Clause, dropped, standing}
 
@@ -47,7 +47,7 @@ sweepFirst k σ f = visitFirst (visit σ) k f
 
 -- p holds q and is not its parent
 unfoldable pub jumps : Stamps → ℕ → ℕ → Bool
-jumps σ p q = holds σ p q && not (eqb (par σ q) p)
+jumps σ p q = holds σ p q && not (eqb (parentAt σ q) p)
 
 unfoldable pub tautology2 : Stamps → List ℕ → Bool
 tautology2 σ [] = false

@@ -16,10 +16,10 @@ use Rattle.base.specs.Decide.{same-or}
 use Rattle.base.specs.Lists.{absent, filter, interleave}
 use Rattle.base.proofs.Lists.{getD-any, mem-filter}
 use Rattle.literal.specs.Literals.{slotOf, litAt}
-use Rattle.stamps.specs.Fresh.{discovery, finish, parentOf, startOf, Times, FreshStamps}
+use Rattle.stamps.specs.Fresh.{discoveryIn, finishIn, parentIn, startIn, Times, FreshStamps}
 use Rattle.stamps.proofs.Local.{Around, Under, Entered, Left, fresh-from}
-use Rattle.walk.specs.Walk.{Stamps, edges, starts, stampAll}
-use Rattle.walk.specs.Forest.{dis, fin, par, top, Holds, Parted, Forest, Top}
+use Rattle.walk.specs.Walk.{Stamps, edges, startWalk, stampAll}
+use Rattle.walk.specs.Forest.{discoveryAt, finishAt, parentAt, startAt, Holds, Parted, Forest, Top}
 use Rattle.walk.proofs.Run.{Less, less-trans, edges-less, enters-less}
 use Rattle.walk.proofs.Theorems.{Stamped, stamp-theorem, times-apart, entered-below, links-below}
 use Rattle.implications.specs.Clauses.{tos, implications}
@@ -37,17 +37,17 @@ use Rattle.walk.specs.Forest as forest
 
 -- the tables hold the walk's columns: the times side by side, the links as literals
 pub record Laid (v : ℕ) (σ : Stamps) (times : List ℕ) (links : List ℤ) : Type 0 where
-  pub discoveries : (s : ℕ) → s < 2 * v → discovery times s ≡ dis σ s
-  pub finishes : (s : ℕ) → s < 2 * v → finish times s ≡ fin σ s
-  pub parents : (s : ℕ) → s < 2 * v → parentOf links s ≡ litAt (par σ s)
-  pub starts : (s : ℕ) → s < 2 * v → startOf links s ≡ litAt (top σ s)
+  pub discoveries : (s : ℕ) → s < 2 * v → discoveryIn times s ≡ discoveryAt σ s
+  pub finishes : (s : ℕ) → s < 2 * v → finishIn times s ≡ finishAt σ s
+  pub parents : (s : ℕ) → s < 2 * v → parentIn links s ≡ litAt (parentAt σ s)
+  pub starts : (s : ℕ) → s < 2 * v → startIn links s ≡ litAt (startAt σ s)
 
-module _ (v : ℕ) (adj : ℕ → List ℕ) (σ : Stamps) (times : List ℕ) (links : List ℤ) (S : Stamped adj (2 * v) σ) (size : length (σ .disc) ≡ 2 * v) (L : Laid v σ times links) where
+module _ (v : ℕ) (adj : ℕ → List ℕ) (σ : Stamps) (times : List ℕ) (links : List ℤ) (S : Stamped adj (2 * v) σ) (size : length (σ .discoveries) ≡ 2 * v) (L : Laid v σ times links) where
   abbrev D : ℕ → ℕ
-  D s = dis σ s
+  D s = discoveryAt σ s
 
   abbrev E : ℕ → ℕ
-  E s = fin σ s
+  E s = finishAt σ s
 
   F : Forest adj σ
   F = S .forest
@@ -57,7 +57,7 @@ module _ (v : ℕ) (adj : ℕ → List ℕ) (σ : Stamps) (times : List ℕ) (li
 
   -- what is open when s is entered holds s
   around-holds : (u s : ℕ) → u < 2 * v → s < 2 * v → Around times u s → Holds σ u s
-  around-holds u s lu ls a = go (F .parted u s (on u lu) (on s ls) (λ e. omega (arith, a .0, ap (discovery times) e)))
+  around-holds u s lu ls a = go (F .parted u s (on u lu) (on s ls) (λ e. omega (arith, a .0, ap (discoveryIn times) e)))
     where
       begins : D u < D s
       begins = omega (arith, a .0, L .discoveries u lu, L .discoveries s ls)
@@ -76,7 +76,7 @@ module _ (v : ℕ) (adj : ℕ → List ℕ) (σ : Stamps) (times : List ℕ) (li
     forward = omega (arith, F .spans s (on s ls), L .discoveries s ls, L .finishes s ls);
     inside = λ u lu a b.
         let h = around-holds s u ls lu (a, b) in
-        let d = times-apart adj σ F u s (on u lu) (on s ls) (λ e. omega (arith, a, ap (discovery times) e)) .1 in
+        let d = times-apart adj σ F u s (on u lu) (on s ls) (λ e. omega (arith, a, ap (discoveryIn times) e)) .1 in
         omega (arith, h .1, d, L .finishes u lu, L .finishes s ls);
   }
 
@@ -85,7 +85,7 @@ module _ (v : ℕ) (adj : ℕ → List ℕ) (σ : Stamps) (times : List ℕ) (li
       (λ (t : Top σ s). inl (record {
         parent = L .parents s ls ∙ ap litAt (t .parent);
         start = L .starts s ls ∙ ap litAt (t .start);
-        alone = λ u lu a. t .widest u (on u lu) (λ e. omega (arith, a .0, ap (discovery times) e)) (around-holds u s lu ls a);
+        alone = λ u lu a. t .widest u (on u lu) (λ e. omega (arith, a .0, ap (discoveryIn times) e)) (around-holds u s lu ls a);
       }))
       (λ (w : (p : ℕ) × forest.Under adj σ s p).
       let p = w .0 in
@@ -99,7 +99,7 @@ module _ (v : ℕ) (adj : ℕ → List ℕ) (σ : Stamps) (times : List ℕ) (li
           start = L .starts s ls ∙ ap litAt (U .start) ∙ sym (L .starts p lp);
           around = (omega (arith, U .begins, L .discoveries p lp, L .discoveries s ls), omega (arith, U .ends, F .spans s (on s ls), L .discoveries s ls, L .finishes p lp));
           last = λ u lu a.
-              let h = U .narrowest u (on u lu) (λ e. omega (arith, a .0, ap (discovery times) e)) (around-holds u s lu ls a) in
+              let h = U .narrowest u (on u lu) (λ e. omega (arith, a .0, ap (discoveryIn times) e)) (around-holds u s lu ls a) in
               omega (arith, h .0, L .discoveries u lu, L .discoveries p lp);
         },
       ))
@@ -180,20 +180,20 @@ literal-at l s lt = getD-any (map litAt l) s (pos 0) (litAt 0) (omega (arith, lt
 module _ (cs : List (List ℕ)) (v : ℕ) (below : (c : List ℕ) → List·Memᴰ c cs → (q : ℕ) → List·Memᴰ q c → q < 2 * v) (order : List ℕ) (o : Lists (2 * v) order) where
   -- the walk leaves the columns' lengths as they were
   pub stamps-less : Less (blank (2 * v) (replicate (2 * v) 0) (replicate (2 * v) 0) (replicate (2 * v) 0)) (stampsOf cs (2 * v) order)
-  unfolding stampsOf stampAll starts
+  unfolding stampsOf stampAll startWalk
   stamps-less =
       let n : ℕ = 2 * v in
       let z : List ℕ = replicate n 0 in
       let adj : ℕ → List ℕ = implications cs in
       let root : ℕ → Bool = λ q. absent q (tos cs) in
-      let visit : ℕ → Stamps → Stamps = starts (length {A = ℕ} (replicate n 0)) adj in
+      let visit : ℕ → Stamps → Stamps = startWalk (length {A = ℕ} (replicate n 0)) adj in
       let in-graph : (s q : ℕ) → s < n → List·Memᴰ q (adj s) → q < n = λ s q lt m. edge-below cs v below s q m .1 in
       let less = edges-less adj n in-graph visit (λ q σ. enters-less adj n in-graph (length {A = ℕ} (replicate n 0)) q q q σ) in
       let one = less (filter root order) (λ q m. o .below q (mem-filter root order m)) (blank n z z z) (length-replicate n 0) in
       let two = less order (o .below) (edges visit (filter root order) (blank n z z z)) (one .discs ∙ length-replicate n 0) in
       less-trans (blank n z z z) (edges visit (filter root order) (blank n z z z)) (stampsOf cs n order) one two
 
-  pub stamps-sized : length (stampsOf cs (2 * v) order .disc) ≡ 2 * v
+  pub stamps-sized : length (stampsOf cs (2 * v) order .discoveries) ≡ 2 * v
   stamps-sized = stamps-less .discs ∙ length-replicate (2 * v) 0
 
   pub stamps-stamped : Stamped (implications cs) (2 * v) (stampsOf cs (2 * v) order)
@@ -219,17 +219,17 @@ module _ {v n : ℕ} {cs : List ℕ} {ls : List ℤ} {order : List ℤ} (P : Pro
   less : Less (blank (2 * v) (replicate (2 * v) 0) (replicate (2 * v) 0) (replicate (2 * v) 0)) σ
   less = stamps-less clauses v (slots-in (P .listed)) slots (full-lists F)
 
-  pub disc-size : length (σ .disc) ≡ 2 * v
-  disc-size = less .discs ∙ length-replicate (2 * v) 0
+  pub discoveries-size : length (σ .discoveries) ≡ 2 * v
+  discoveries-size = less .discs ∙ length-replicate (2 * v) 0
 
-  pub fin-size : length (σ .fin) ≡ 2 * v
-  fin-size = less .fins ∙ length-replicate (2 * v) 0
+  pub finishes-size : length (σ .finishes) ≡ 2 * v
+  finishes-size = less .fins ∙ length-replicate (2 * v) 0
 
-  pub par-size : length (σ .par) ≡ 2 * v
-  par-size = less .pars ∙ length-replicate (2 * v) 0
+  pub parents-size : length (σ .parents) ≡ 2 * v
+  parents-size = less .pars ∙ length-replicate (2 * v) 0
 
-  pub top-size : length (σ .start) ≡ 2 * v
-  top-size = less .starts ∙ length-replicate (2 * v) 0
+  pub starts-size : length (σ .starts) ≡ 2 * v
+  starts-size = less .starts ∙ length-replicate (2 * v) 0
 
   stamped : Stamped (implications clauses) (2 * v) σ
   stamped = stamps-stamped clauses v (slots-in (P .listed)) slots (full-lists F)
@@ -237,7 +237,7 @@ module _ {v n : ℕ} {cs : List ℕ} {ls : List ℤ} {order : List ℤ} (P : Pro
   -- every link that the walk leaves is a slot
   pub entries-below : {d′ f′ p′ s′ : List ℕ} → Holding σ d′ f′ p′ s′ → (q : ℕ) → q < 2 * v → (getD p′ q 0 < 2048) × (getD s′ q 0 < 2048)
   entries-below H q lt =
-      let k = links-below (implications clauses) (2 * v) σ stamped disc-size q lt in (
+      let k = links-below (implications clauses) (2 * v) σ stamped discoveries-size q lt in (
         omega (arith, k .0, P .listed .few, ap (λ (l : List ℕ). getD l q 0) (H .pars)),
         omega (arith, k .1, P .listed .few, ap (λ (l : List ℕ). getD l q 0) (H .tops)),
       )
@@ -249,33 +249,33 @@ module _ {v n : ℕ} {cs : List ℕ} {ls : List ℤ} {order : List ℤ} (P : Pro
     laid : Laid v σ (t′ .times) (t′ .links)
     unfolding stampedTables
     laid =
-        let mp = length-map (σ .par) litAt in
-        let ms = length-map (σ .start) litAt in
+        let mp = length-map (σ .parents) litAt in
+        let ms = length-map (σ .starts) litAt in
         record {
-          discoveries = λ s lt. front-first (σ .disc) (σ .fin) (drop (4 * v) (t .times)) s 0 (omega (arith, disc-size)) (fin-size ∙ sym disc-size);
-          finishes = λ s lt. front-second (σ .disc) (σ .fin) (drop (4 * v) (t .times)) s 0 (omega (arith, disc-size)) (fin-size ∙ sym disc-size);
+          discoveries = λ s lt. front-first (σ .discoveries) (σ .finishes) (drop (4 * v) (t .times)) s 0 (omega (arith, discoveries-size)) (finishes-size ∙ sym discoveries-size);
+          finishes = λ s lt. front-second (σ .discoveries) (σ .finishes) (drop (4 * v) (t .times)) s 0 (omega (arith, discoveries-size)) (finishes-size ∙ sym discoveries-size);
           parents = λ s lt.
-              front-first (map litAt (σ .par)) (map litAt (σ .start)) (drop (4 * v) (t .links)) s (pos 0) (omega (arith, par-size, mp)) (omega (arith, par-size, top-size, mp, ms))
-              ∙ literal-at (σ .par) s (omega (arith, par-size));
+              front-first (map litAt (σ .parents)) (map litAt (σ .starts)) (drop (4 * v) (t .links)) s (pos 0) (omega (arith, parents-size, mp)) (omega (arith, parents-size, starts-size, mp, ms))
+              ∙ literal-at (σ .parents) s (omega (arith, parents-size));
           starts = λ s lt.
-              front-second (map litAt (σ .par)) (map litAt (σ .start)) (drop (4 * v) (t .links)) s (pos 0) (omega (arith, par-size, mp)) (omega (arith, par-size, top-size, mp, ms))
-              ∙ literal-at (σ .start) s (omega (arith, top-size));
+              front-second (map litAt (σ .parents)) (map litAt (σ .starts)) (drop (4 * v) (t .links)) s (pos 0) (omega (arith, parents-size, mp)) (omega (arith, parents-size, starts-size, mp, ms))
+              ∙ literal-at (σ .starts) s (omega (arith, starts-size));
         }
 
     pub records-fresh : FreshStamps v (t′ .times) (t′ .links)
-    records-fresh = stamped-fresh v (implications clauses) σ (t′ .times) (t′ .links) stamped disc-size laid
+    records-fresh = stamped-fresh v (implications clauses) σ (t′ .times) (t′ .links) stamped discoveries-size laid
 
     -- no table changes its length
     pub times-long : 4 * v ≤ length (t .times) → length (t′ .times) ≡ length (t .times)
     unfolding stampedTables
     times-long le =
-        length-append (interleave (σ .disc) (σ .fin)) (drop (4 * v) (t .times))
-        ∙ omega (arith, many-records (σ .disc) (σ .fin) (fin-size ∙ sym disc-size), disc-size, length-drop (4 * v) (t .times))
+        length-append (interleave (σ .discoveries) (σ .finishes)) (drop (4 * v) (t .times))
+        ∙ omega (arith, many-records (σ .discoveries) (σ .finishes) (finishes-size ∙ sym discoveries-size), discoveries-size, length-drop (4 * v) (t .times))
 
     pub links-long : 4 * v ≤ length (t .links) → length (t′ .links) ≡ length (t .links)
     unfolding stampedTables
     links-long le =
-        let mp = length-map (σ .par) litAt in
-        let ms = length-map (σ .start) litAt in
-        length-append (interleave (map litAt (σ .par)) (map litAt (σ .start))) (drop (4 * v) (t .links))
-        ∙ omega (arith, many-records (map litAt (σ .par)) (map litAt (σ .start)) (omega (arith, par-size, top-size, mp, ms)), par-size, mp, length-drop (4 * v) (t .links))
+        let mp = length-map (σ .parents) litAt in
+        let ms = length-map (σ .starts) litAt in
+        length-append (interleave (map litAt (σ .parents)) (map litAt (σ .starts))) (drop (4 * v) (t .links))
+        ∙ omega (arith, many-records (map litAt (σ .parents)) (map litAt (σ .starts)) (omega (arith, parents-size, starts-size, mp, ms)), parents-size, mp, length-drop (4 * v) (t .links))

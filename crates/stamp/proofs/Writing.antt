@@ -69,13 +69,13 @@ module _ {v n : ℕ} {cs : List ℕ} {ls : List ℤ} {order : List ℤ} (P : Pro
         → tables cs ls variables times′ links′ ≡ stampedTables v σ (tables cs ls variables times links)
     unfolding stampedTables
     records-are plen variables times times′ links links′ et el =
-        let a : times′ ≡ interleave (σ .disc) (σ .fin) ++ drop (4 * v) times =
-        et ∙ ap (λ (l : List ℕ). interleave l f′ ++ drop (2 * length d′) times) (H .discs) ∙ ap (λ (l : List ℕ). interleave (σ .disc) l ++ drop (2 * length d′) times) (H .fins)
-        ∙ ap (λ (k : ℕ). interleave (σ .disc) (σ .fin) ++ drop k times) (let e : 2 * length d′ ≡ 4 * v = omega (arith, len) in e) in
-        let b : links′ ≡ interleave (map litAt (σ .par)) (map litAt (σ .start)) ++ drop (4 * v) links =
-        el ∙ ap (λ (l : List ℕ). interleave (map litAt l) (map litAt s′) ++ drop (2 * length p′) links) (H .pars) ∙ ap (λ (l : List ℕ). interleave (map litAt (σ .par)) (map litAt l) ++ drop (2 * length p′) links) (H .tops)
-        ∙ ap (λ (k : ℕ). interleave (map litAt (σ .par)) (map litAt (σ .start)) ++ drop k links) (let e : 2 * length p′ ≡ 4 * v = omega (arith, plen) in e) in
-        ap (λ (x : List ℕ). tables cs ls variables x links′) a ∙ ap (tables cs ls variables (interleave (σ .disc) (σ .fin) ++ drop (4 * v) times)) b
+        let a : times′ ≡ interleave (σ .discoveries) (σ .finishes) ++ drop (4 * v) times =
+        et ∙ ap (λ (l : List ℕ). interleave l f′ ++ drop (2 * length d′) times) (H .discs) ∙ ap (λ (l : List ℕ). interleave (σ .discoveries) l ++ drop (2 * length d′) times) (H .fins)
+        ∙ ap (λ (k : ℕ). interleave (σ .discoveries) (σ .finishes) ++ drop k times) (let e : 2 * length d′ ≡ 4 * v = omega (arith, len) in e) in
+        let b : links′ ≡ interleave (map litAt (σ .parents)) (map litAt (σ .starts)) ++ drop (4 * v) links =
+        el ∙ ap (λ (l : List ℕ). interleave (map litAt l) (map litAt s′) ++ drop (2 * length p′) links) (H .pars) ∙ ap (λ (l : List ℕ). interleave (map litAt (σ .parents)) (map litAt l) ++ drop (2 * length p′) links) (H .tops)
+        ∙ ap (λ (k : ℕ). interleave (map litAt (σ .parents)) (map litAt (σ .starts)) ++ drop k links) (let e : 2 * length p′ ≡ 4 * v = omega (arith, plen) in e) in
+        ap (λ (x : List ℕ). tables cs ls variables x links′) a ∙ ap (tables cs ls variables (interleave (σ .discoveries) (σ .finishes) ++ drop (4 * v) times)) b
 
 -- ---- the columns that `stamp_acyclic` owns
 

@@ -44,8 +44,8 @@ stampsOf cs size order = stampAll (implications cs) (λ q. absent q (tos cs)) or
 -- one record per literal; the records past them stay
 unfoldable pub stampedTables : ℕ → Stamps → Tables → Tables
 stampedTables v σ t =
-    tables (t .clauses) (t .literals) (t .variables) (interleave (σ .disc) (σ .fin) ++ drop (4 * v) (t .times))
-    (interleave (map litAt (σ .par)) (map litAt (σ .start)) ++ drop (4 * v) (t .links))
+    tables (t .clauses) (t .literals) (t .variables) (interleave (σ .discoveries) (σ .finishes) ++ drop (4 * v) (t .times))
+    (interleave (map litAt (σ .parents)) (map litAt (σ .starts)) ++ drop (4 * v) (t .links))
 
 -- ---- the call
 

@@ -104,26 +104,36 @@ fn write_stamps(
     literals: &[i32],
     order: &[i32],
     slots: &mut [u32],
-    disc: &mut [u32],
-    fin: &mut [u32],
-    par: &mut [u32],
-    top: &mut [u32],
+    discoveries: &mut [u32],
+    finishes: &mut [u32],
+    parents: &mut [u32],
+    starts: &mut [u32],
     times: &mut [u32],
     links: &mut [i32],
 ) -> bool
     requires { ⌜ Proper v n (now clauses) (now literals) × Full v (now order) ⌝ }
-    requires { ⌜ Blank v (now slots) (now disc) (now fin) (now par) (now top) × Records v (now times) (now links) ⌝ }
+    requires { ⌜ Blank v (now slots) (now discoveries) (now finishes) (now parents) (now starts) × Records v (now times) (now links) ⌝ }
     ensures { λ r. ⌜ (r ≡ cyclic (implications (slotsFrom (now (clauses .entry)) (now (literals .entry)) n 0)) (2 * v))
         × ((variables : List ℤ) → returned clauses literals (unlent variables) times links
         ≡ writtenTables r v (stampsOf (slotsFrom (now (clauses .entry)) (now (literals .entry)) n 0) (2 * v) (map slotOf (now (order .entry))))
         (lent clauses literals (unlent variables) times links)) ⌝ }
 {
     stamp_walk::list_slots(order, slots);
-    if stamp_walk::stamp_columns(v, n, clauses, literals, slots, disc, fin, par, top) {
+    if stamp_walk::stamp_columns(
+        v,
+        n,
+        clauses,
+        literals,
+        slots,
+        discoveries,
+        finishes,
+        parents,
+        starts,
+    ) {
         return true;
     }
-    stamp_walk::copy_times(disc, fin, times);
-    stamp_walk::copy_links(par, top, links);
+    stamp_walk::copy_times(discoveries, finishes, times);
+    stamp_walk::copy_links(parents, starts, links);
     false
 }
 
@@ -161,10 +171,10 @@ pub fn stamp_acyclic(
     let n = st.n as usize;
     let size = 2 * v;
     let mut slots = [0u32; 2048];
-    let mut disc = [0u32; 2048];
-    let mut fin = [0u32; 2048];
-    let mut par = [0u32; 2048];
-    let mut top = [0u32; 2048];
+    let mut discoveries = [0u32; 2048];
+    let mut finishes = [0u32; 2048];
+    let mut parents = [0u32; 2048];
+    let mut starts = [0u32; 2048];
     let cyclic = write_stamps(
         v,
         n,
@@ -172,10 +182,10 @@ pub fn stamp_acyclic(
         literals,
         order,
         &mut slots[..size],
-        &mut disc[..size],
-        &mut fin[..size],
-        &mut par[..size],
-        &mut top[..size],
+        &mut discoveries[..size],
+        &mut finishes[..size],
+        &mut parents[..size],
+        &mut starts[..size],
         times,
         links,
     );

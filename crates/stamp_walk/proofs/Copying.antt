@@ -16,7 +16,7 @@ use Rattle.literal.specs.Literals.{litAt}
 use Rattle.literal.proofs.Laws.{lit-var}
 use Rattle.literal.proofs.Signed.{back}
 use Rattle.walk.specs.Walk.{Stamps}
-use Rattle.walk.specs.Forest.{fin}
+use Rattle.walk.specs.Forest.{finishAt}
 use Rattle.scc.specs.Forward.{forward}
 
 -- ---- a list, element by element
@@ -110,20 +110,20 @@ lit-stored s z lt e = ap (λ (y : ℤ). toZ w32 (ofZ w32 y)) e ∙ back (record 
 
 -- ---- the test of each edge
 
-pub forward-on : (σ : Stamps) (fs ts : List ℕ) (i : ℕ) → i < length fs → length ts ≡ length fs → fin σ (getD ts i 0) < fin σ (getD fs i 0)
+pub forward-on : (σ : Stamps) (fs ts : List ℕ) (i : ℕ) → i < length fs → length ts ≡ length fs → finishAt σ (getD ts i 0) < finishAt σ (getD fs i 0)
     → forward σ (drop i fs) (drop i ts) ≡ forward σ (drop (i + 1) fs) (drop (i + 1) ts)
 unfolding forward
 forward-on σ fs ts i lt len ok =
     ap (λ (l : List ℕ). forward σ l (drop i ts)) (step fs i 0 lt)
     ∙ ap (λ (l : List ℕ). forward σ (getD fs i 0 ∷ drop (i + 1) fs) l) (step ts i 0 (omega arith))
-    ∙ rw (lt-ltb (fin σ (getD ts i 0)) (fin σ (getD fs i 0)) ok, forward)
+    ∙ rw (lt-ltb (finishAt σ (getD ts i 0)) (finishAt σ (getD fs i 0)) ok, forward)
 
-pub forward-stops : (σ : Stamps) (fs ts : List ℕ) (i : ℕ) → i < length fs → length ts ≡ length fs → fin σ (getD fs i 0) ≤ fin σ (getD ts i 0) → forward σ (drop i fs) (drop i ts) ≡ false
+pub forward-stops : (σ : Stamps) (fs ts : List ℕ) (i : ℕ) → i < length fs → length ts ≡ length fs → finishAt σ (getD fs i 0) ≤ finishAt σ (getD ts i 0) → forward σ (drop i fs) (drop i ts) ≡ false
 unfolding forward
 forward-stops σ fs ts i lt len bad =
     ap (λ (l : List ℕ). forward σ l (drop i ts)) (step fs i 0 lt)
     ∙ ap (λ (l : List ℕ). forward σ (getD fs i 0 ∷ drop (i + 1) fs) l) (step ts i 0 (omega arith))
-    ∙ rw (le-ltb (fin σ (getD ts i 0)) (fin σ (getD fs i 0)) bad, forward)
+    ∙ rw (le-ltb (finishAt σ (getD ts i 0)) (finishAt σ (getD fs i 0)) bad, forward)
 
 pub forward-end : (σ : Stamps) (fs ts : List ℕ) (i : ℕ) → i ≤ length fs → length fs ≤ i → forward σ (drop i fs) (drop i ts) ≡ true
 unfolding forward

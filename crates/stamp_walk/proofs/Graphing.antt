@@ -80,8 +80,8 @@ module _ {v n : ℕ} {cs : List ℕ} {ls : List ℤ} (P : Proper v n cs ls) {ord
     picks = omega (arith, A .many, S .picks);
   }
 
-  pub finished : {F T O G : List ℕ} {R : List Bool} {X : List ℕ} → Scratch v n F T O G R X → (fin : List ℕ) → length fin ≡ 2 * v → Finished (froms clauses) (tos clauses) fin
-  finished S fin e =
+  pub finished : {F T O G : List ℕ} {R : List Bool} {X : List ℕ} → Scratch v n F T O G R X → (finishes : List ℕ) → length finishes ≡ 2 * v → Finished (froms clauses) (tos clauses) finishes
+  finished S finishes e =
       let pairs = fit-edges (room S) .pairs in
       record { pairs = pairs; tails = λ i lt. omega (arith, e, tail-below i lt); heads = λ i lt. omega (arith, e, head-below i (omega arith)) }
 
@@ -89,7 +89,7 @@ module _ {v n : ℕ} {cs : List ℕ} {ls : List ℤ} (P : Proper v n cs ls) {ord
   abbrev walked : List ℕ → List ℕ → List ℕ → Stamps
   walked f p s = stampAll (implications clauses) (λ q. absent q (tos clauses)) order (blank (2 * v) f p s)
 
-  pub walk-stamped : (f p s : List ℕ) → length f ≡ 2 * v → length p ≡ 2 * v → length s ≡ 2 * v → length (walked f p s .disc) ≡ 2 * v → Stamped (implications clauses) (2 * v) (walked f p s)
+  pub walk-stamped : (f p s : List ℕ) → length f ≡ 2 * v → length p ≡ 2 * v → length s ≡ 2 * v → length (walked f p s .discoveries) ≡ 2 * v → Stamped (implications clauses) (2 * v) (walked f p s)
   walk-stamped f p s hf hp hs hd =
       stamp-theorem (implications clauses) (2 * v) (λ a b lt m. edge-below clauses v within a b m .1) (λ q. absent q (tos clauses)) order f p s (walked f p s) (A .below) (A .all) hf hp hs hd refl
 
@@ -98,8 +98,8 @@ module _ {v n : ℕ} {cs : List ℕ} {ls : List ℤ} (P : Proper v n cs ls) {ord
   cyclic-is {d₀} {f} {p} {s} {d′} {f′} C H len r test =
       let σ : Stamps = walked f p s in
       let S = walk-stamped f p s (C .fins) (C .pars) (C .tops) (ap length (sym (H .discs)) ∙ len) in
-      test (σ .time) (σ .disc) (σ .par) (σ .start)
-      ∙ ap (λ (x : List ℕ). not (forward (stamps (σ .time) (σ .disc) x (σ .par) (σ .start)) (froms clauses) (tos clauses))) (H .fins)
+      test (σ .time) (σ .discoveries) (σ .parents) (σ .starts)
+      ∙ ap (λ (x : List ℕ). not (forward (stamps (σ .time) (σ .discoveries) x (σ .parents) (σ .starts)) (froms clauses) (tos clauses))) (H .fins)
       ∙ sym (cyclic-forward clauses v within (P .once) σ S)
 
 -- ---- the scratch that `stamp_columns` owns

@@ -7,7 +7,7 @@ use mathlib.Core.List.{List, [], _∷_, List·Memᴰ, List·Memᴰ·head, List·
 use lib.ListN.{length, getD, take, replicate}
 use Rattle.base.specs.Lists.{filter, absent}
 use Rattle.base.proofs.Lists.{mem-filter, filter-same}
-use Rattle.walk.specs.Walk.{Stamps, arrive, leave, edge, edges, enters, starts, fresh, stampAll}
+use Rattle.walk.specs.Walk.{Stamps, arrive, leave, edge, edges, enters, startWalk, fresh, stampAll}
 use Rattle.walk.specs.Ready.{adjOf, stamps, Graph}
 use Rattle.walk.proofs.Drive.{fresh-le}
 use Rattle.walk.proofs.Run.{mem-below, graph-inside}
@@ -16,29 +16,29 @@ use Rattle.implications.proofs.Csr.{built-adj, built-graph}
 use Rattle.scc.specs.Groups.{blank}
 use Rattle.stamp_walk.specs.Stamping.{Holding, Walkable}
 
-pub stamped : (adj : ℕ → List ℕ) (root : ℕ → Bool) (order front D d f p s : List ℕ) (σ₁ σ₂ : Stamps) → D ≡ replicate (length d) 0 → length D ≡ length d → length (σ₁ .disc) ≡ length d → front ≡ filter root order
-    → ((n : ℕ) → fresh D ≤ n → σ₁ ≡ edges (starts n adj) front (stamps 0 D f p s))
-    → ((n : ℕ) → fresh (σ₁ .disc) ≤ n → σ₂ ≡ edges (starts n adj) order σ₁)
+pub stamped : (adj : ℕ → List ℕ) (root : ℕ → Bool) (order front D d f p s : List ℕ) (σ₁ σ₂ : Stamps) → D ≡ replicate (length d) 0 → length D ≡ length d → length (σ₁ .discoveries) ≡ length d → front ≡ filter root order
+    → ((n : ℕ) → fresh D ≤ n → σ₁ ≡ edges (startWalk n adj) front (stamps 0 D f p s))
+    → ((n : ℕ) → fresh (σ₁ .discoveries) ≤ n → σ₂ ≡ edges (startWalk n adj) order σ₁)
     → σ₂ ≡ stampAll adj root order (stamps 0 (replicate (length d) 0) f p s)
 unfolding stampAll
 stamped adj root order front D d f p s σ₁ σ₂ e len len₁ is one two =
     let n : ℕ = length D in
-    let visit : ℕ → Stamps → Stamps = starts n adj in
-    two n (omega (arith, fresh-le (σ₁ .disc), len, len₁))
+    let visit : ℕ → Stamps → Stamps = startWalk n adj in
+    two n (omega (arith, fresh-le (σ₁ .discoveries), len, len₁))
     ∙ ap (edges visit order) (one n (fresh-le D) ∙ ap (λ (l : List ℕ). edges visit l (stamps 0 D f p s)) is)
-    ∙ ap (λ (l : List ℕ). edges (starts (length l) adj) order (edges (starts (length l) adj) (filter root order) (stamps 0 l f p s))) e
+    ∙ ap (λ (l : List ℕ). edges (startWalk (length l) adj) order (edges (startWalk (length l) adj) (filter root order) (stamps 0 l f p s))) e
 
 -- ---- by two tests
 
 stamp-as : (adj : ℕ → List ℕ) (a b : ℕ → Bool) (order : List ℕ) (σ : Stamps) → ((q : ℕ) → List·Memᴰ q order → a q ≡ b q) → stampAll adj a order σ ≡ stampAll adj b order σ
 unfolding stampAll
-stamp-as adj a b order σ same = ap (λ (l : List ℕ). edges (starts (length (σ .disc)) adj) order (edges (starts (length (σ .disc)) adj) l σ)) (filter-same a b order same)
+stamp-as adj a b order σ same = ap (λ (l : List ℕ). edges (startWalk (length (σ .discoveries)) adj) order (edges (startWalk (length (σ .discoveries)) adj) l σ)) (filter-same a b order same)
 
 -- ---- over two graphs
 
 edge-as : (f g : ℕ → Stamps → Stamps) (q : ℕ) (σ : Stamps) → f q σ ≡ g q σ → edge f q σ ≡ edge g q σ
 unfolding edge
-edge-as f g q σ e = go (getD (σ .disc) q 0)
+edge-as f g q σ e = go (getD (σ .discoveries) q 0)
   where
     go : (n : ℕ) → _≡_ {A = Stamps} (elim n [ zero ↦ f q σ | suc k ↦ σ ]) (elim n [ zero ↦ g q σ | suc k ↦ σ ])
     go zero = e
@@ -59,11 +59,11 @@ module _ (adj adj′ : ℕ → List ℕ) (size : ℕ) (inside : (s q : ℕ) → 
       ∙ ap (λ (l : List ℕ). edges (λ q. enters n adj′ r s q) l (arrive r p s σ)) (same s lt))
 
   stamp-over : (root : ℕ → Bool) (order : List ℕ) (σ : Stamps) → ((q : ℕ) → List·Memᴰ q order → q < size) → stampAll adj root order σ ≡ stampAll adj′ root order σ
-  unfolding stampAll starts
+  unfolding stampAll startWalk
   stamp-over root order σ below =
-      let n : ℕ = length (σ .disc) in
-      edges-as (starts n adj) (starts n adj′) order (λ q m τ. enters-as n q q q (below q m) τ) (edges (starts n adj) (filter root order) σ)
-      ∙ ap (edges (starts n adj′) order) (edges-as (starts n adj) (starts n adj′) (filter root order) (λ q m τ. enters-as n q q q (below q (mem-filter root order m)) τ) σ)
+      let n : ℕ = length (σ .discoveries) in
+      edges-as (startWalk n adj) (startWalk n adj′) order (λ q m τ. enters-as n q q q (below q m) τ) (edges (startWalk n adj) (filter root order) σ)
+      ∙ ap (edges (startWalk n adj′) order) (edges-as (startWalk n adj) (startWalk n adj′) (filter root order) (λ q m τ. enters-as n q q q (below q (mem-filter root order m)) τ) σ)
 
 -- ---- the compressed graph, and its marked roots, give the stamps of the edges
 
@@ -82,5 +82,5 @@ module _ {fs ts order O T : List ℕ} {root : List Bool} {roots : List ℕ} {siz
       (λ q. absent q ts) order (blank size f p s) (λ q m. mem-below order size (W .below) m)
 
 -- the four columns of equal stamps
-pub columns-of : (σ τ : Stamps) → σ ≡ τ → Holding τ (σ .disc) (σ .fin) (σ .par) (σ .start)
-columns-of σ τ e = record { discs = ap (λ (x : Stamps). x .disc) e; fins = ap (λ (x : Stamps). x .fin) e; pars = ap (λ (x : Stamps). x .par) e; tops = ap (λ (x : Stamps). x .start) e }
+pub columns-of : (σ τ : Stamps) → σ ≡ τ → Holding τ (σ .discoveries) (σ .finishes) (σ .parents) (σ .starts)
+columns-of σ τ e = record { discs = ap (λ (x : Stamps). x .discoveries) e; fins = ap (λ (x : Stamps). x .finishes) e; pars = ap (λ (x : Stamps). x .parents) e; tops = ap (λ (x : Stamps). x .starts) e }

@@ -16,10 +16,10 @@ use Rattle.table_graph.specs.Pairs.{Listed}
 
 -- four columns hold these stamps
 pub record Holding (σ : Stamps) (d f p s : List ℕ) : Type 0 where
-  pub discs : d ≡ σ .disc
-  pub fins : f ≡ σ .fin
-  pub pars : p ≡ σ .par
-  pub tops : s ≡ σ .start
+  pub discs : d ≡ σ .discoveries
+  pub fins : f ≡ σ .finishes
+  pub pars : p ≡ σ .parents
+  pub tops : s ≡ σ .starts
 
 -- four columns with a place for each slot
 pub record Columned (size : ℕ) (d f p s : List ℕ) : Type 0 where
@@ -39,10 +39,10 @@ pub record Walkable (size : ℕ) (froms tos order offsets targets : List ℕ) (r
   pub picks : length order ≤ length roots
 
 -- both ends of each edge have a finish
-pub record Finished (froms tos fin : List ℕ) : Type 0 where
+pub record Finished (froms tos finishes : List ℕ) : Type 0 where
   pub pairs : length tos ≡ length froms
-  pub tails : (i : ℕ) → i < length froms → getD froms i 0 < length fin
-  pub heads : (i : ℕ) → i < length froms → getD tos i 0 < length fin
+  pub tails : (i : ℕ) → i < length froms → getD froms i 0 < length finishes
+  pub heads : (i : ℕ) → i < length froms → getD tos i 0 < length finishes
 
 -- n clauses over v variables, in none of which a variable stands twice
 pub record Proper (v n : ℕ) (clauses : List ℕ) (literals : List ℤ) : Type 0 where

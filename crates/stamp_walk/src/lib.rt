@@ -26,16 +26,16 @@ pub fn list_slots(order: &[i32], slots: &mut [u32])
 }
 
 // Whether an edge goes to a slot that does not finish before its own: then two different slots reach each other.
-pub fn any_backward(from: &[u32], to: &[u32], fin: &[u32]) -> bool
-    requires { ⌜ Finished (now from) (now to) (now fin) ⌝ }
-    ensures { λ r. ⌜ ((t : ℕ) (d p s : List ℕ) → r ≡ not (forward (stamps t d (now (fin .entry)) p s) (now (from .entry)) (now (to .entry)))) ⌝ }
+pub fn any_backward(from: &[u32], to: &[u32], finishes: &[u32]) -> bool
+    requires { ⌜ Finished (now from) (now to) (now finishes) ⌝ }
+    ensures { λ r. ⌜ ((t : ℕ) (d p s : List ℕ) → r ≡ not (forward (stamps t d (now (finishes .entry)) p s) (now (from .entry)) (now (to .entry)))) ⌝ }
 {
     let mut i = 0;
     while i < from.len() {
         let tail = from[i] as usize;
         let head = to[i] as usize;
         i += 1;
-        if fin[tail] <= fin[head] {
+        if finishes[tail] <= finishes[head] {
             return true;
         }
     }
@@ -43,30 +43,30 @@ pub fn any_backward(from: &[u32], to: &[u32], fin: &[u32]) -> bool
 }
 
 // The times of the records: the discovery and the finish of each slot. What stands behind them stays.
-pub fn copy_times(disc: &[u32], fin: &[u32], times: &mut [u32])
-    requires { ⌜ (length (now fin) ≡ length (now disc)) × (2 * length (now disc) ≤ length (now times)) ⌝ }
-    ensures { λ _. ⌜ now (times .exit) ≡ interleave (now (disc .entry)) (now (fin .entry)) ++ drop (2 * length (now (disc .entry))) (now (times .entry)) ⌝ }
+pub fn copy_times(discoveries: &[u32], finishes: &[u32], times: &mut [u32])
+    requires { ⌜ (length (now finishes) ≡ length (now discoveries)) × (2 * length (now discoveries) ≤ length (now times)) ⌝ }
+    ensures { λ _. ⌜ now (times .exit) ≡ interleave (now (discoveries .entry)) (now (finishes .entry)) ++ drop (2 * length (now (discoveries .entry))) (now (times .entry)) ⌝ }
 {
     let mut s = 0;
-    while s < disc.len() {
+    while s < discoveries.len() {
         let at = 2 * s;
-        times[at] = disc[s];
-        times[at + 1] = fin[s];
+        times[at] = discoveries[s];
+        times[at + 1] = finishes[s];
         s += 1;
     }
 }
 
 // The links of the records: the parent and the start of each slot, as literals. What stands behind them stays.
-pub fn copy_links(par: &[u32], top: &[u32], links: &mut [i32])
-    requires { ⌜ (length (now top) ≡ length (now par)) × (2 * length (now par) ≤ length (now links)) ⌝ }
-    requires { ⌜ ((s : ℕ) → s < length (now par) → (getD (now par) s 0 < 2048) × (getD (now top) s 0 < 2048)) ⌝ }
-    ensures { λ _. ⌜ now (links .exit) ≡ interleave (map litAt (now (par .entry))) (map litAt (now (top .entry))) ++ drop (2 * length (now (par .entry))) (now (links .entry)) ⌝ }
+pub fn copy_links(parents: &[u32], starts: &[u32], links: &mut [i32])
+    requires { ⌜ (length (now starts) ≡ length (now parents)) × (2 * length (now parents) ≤ length (now links)) ⌝ }
+    requires { ⌜ ((s : ℕ) → s < length (now parents) → (getD (now parents) s 0 < 2048) × (getD (now starts) s 0 < 2048)) ⌝ }
+    ensures { λ _. ⌜ now (links .exit) ≡ interleave (map litAt (now (parents .entry))) (map litAt (now (starts .entry))) ++ drop (2 * length (now (parents .entry))) (now (links .entry)) ⌝ }
 {
     let mut s = 0;
-    while s < par.len() {
+    while s < parents.len() {
         let at = 2 * s;
-        links[at] = literal::lit_at(par[s] as usize);
-        links[at + 1] = literal::lit_at(top[s] as usize);
+        links[at] = literal::lit_at(parents[s] as usize);
+        links[at + 1] = literal::lit_at(starts[s] as usize);
         s += 1;
     }
 }
@@ -78,24 +78,42 @@ pub fn stamp_order(
     roots: &mut [u32],
     offsets: &[u32],
     targets: &[u32],
-    disc: &mut [u32],
-    fin: &mut [u32],
-    par: &mut [u32],
-    top: &mut [u32],
+    discoveries: &mut [u32],
+    finishes: &mut [u32],
+    parents: &mut [u32],
+    starts: &mut [u32],
 ) -> u32
-    requires { ⌜ Graph (now offsets) (now targets) (length (now disc)) ⌝ }
-    requires { ⌜ (length (now fin) ≡ length (now disc)) × ((length (now par) ≡ length (now disc)) × (length (now top) ≡ length (now disc))) ⌝ }
-    requires { ⌜ (length (now root) ≡ length (now disc)) × (length (now order) ≤ length (now roots)) ⌝ }
-    requires { ⌜ ((i : ℕ) → i < length (now order) → getD (now order) i 0 < length (now disc)) ⌝ }
+    requires { ⌜ Graph (now offsets) (now targets) (length (now discoveries)) ⌝ }
+    requires { ⌜ (length (now finishes) ≡ length (now discoveries)) × ((length (now parents) ≡ length (now discoveries)) × (length (now starts) ≡ length (now discoveries))) ⌝ }
+    requires { ⌜ (length (now root) ≡ length (now discoveries)) × (length (now order) ≤ length (now roots)) ⌝ }
+    requires { ⌜ ((i : ℕ) → i < length (now order) → getD (now order) i 0 < length (now discoveries)) ⌝ }
     ensures { λ t. ⌜
-        stamps t (now (disc .exit)) (now (fin .exit)) (now (par .exit)) (now (top .exit))
+        stamps t (now (discoveries .exit)) (now (finishes .exit)) (now (parents .exit)) (now (starts .exit))
         ≡ stampAll (adjOf (now (offsets .entry)) (now (targets .entry))) (λ q. getD (now (root .entry)) q false) (now (order .entry))
-        (stamps 0 (replicate (length (now (disc .entry))) 0) (now (fin .entry)) (now (par .entry)) (now (top .entry))) ⌝ }
+        (stamps 0 (replicate (length (now (discoveries .entry))) 0) (now (finishes .entry)) (now (parents .entry)) (now (starts .entry))) ⌝ }
 {
     let k = implications::list_roots(order, root, roots);
-    walk::clear(disc);
-    let t = walk::start_each(&roots[..k], 0, offsets, targets, disc, fin, par, top);
-    walk::start_each(order, t, offsets, targets, disc, fin, par, top)
+    walk::clear(discoveries);
+    let t = walk::start_each(
+        &roots[..k],
+        0,
+        offsets,
+        targets,
+        discoveries,
+        finishes,
+        parents,
+        starts,
+    );
+    walk::start_each(
+        order,
+        t,
+        offsets,
+        targets,
+        discoveries,
+        finishes,
+        parents,
+        starts,
+    )
 }
 
 // Stamps every slot of `order` over the edges of two columns. All but the edges, the order and the four stamp columns is scratch.
@@ -107,17 +125,17 @@ pub fn stamp_edges(
     targets: &mut [u32],
     root: &mut [bool],
     roots: &mut [u32],
-    disc: &mut [u32],
-    fin: &mut [u32],
-    par: &mut [u32],
-    top: &mut [u32],
+    discoveries: &mut [u32],
+    finishes: &mut [u32],
+    parents: &mut [u32],
+    starts: &mut [u32],
 )
-    requires { ⌜ Walkable (length (now disc)) (now from) (now to) (now order) (now offsets) (now targets) (now root) (now roots) ⌝ }
-    requires { ⌜ Columned (length (now disc)) (now disc) (now fin) (now par) (now top) ⌝ }
+    requires { ⌜ Walkable (length (now discoveries)) (now from) (now to) (now order) (now offsets) (now targets) (now root) (now roots) ⌝ }
+    requires { ⌜ Columned (length (now discoveries)) (now discoveries) (now finishes) (now parents) (now starts) ⌝ }
     ensures { λ _. ⌜ Holding
         (stampAll (outs (now (from .entry)) (now (to .entry))) (λ q. absent q (now (to .entry))) (now (order .entry))
-        (blank (length (now (disc .entry))) (now (fin .entry)) (now (par .entry)) (now (top .entry))))
-        (now (disc .exit)) (now (fin .exit)) (now (par .exit)) (now (top .exit)) ⌝ }
+        (blank (length (now (discoveries .entry))) (now (finishes .entry)) (now (parents .entry)) (now (starts .entry))))
+        (now (discoveries .exit)) (now (finishes .exit)) (now (parents .exit)) (now (starts .exit)) ⌝ }
 {
     let k = from.len();
     implications::build(from, to, offsets, targets);
@@ -128,10 +146,10 @@ pub fn stamp_edges(
         roots,
         offsets,
         &targets[..k],
-        disc,
-        fin,
-        par,
-        top,
+        discoveries,
+        finishes,
+        parents,
+        starts,
     );
 }
 
@@ -148,16 +166,16 @@ pub fn stamp_graph(
     targets: &mut [u32],
     root: &mut [bool],
     roots: &mut [u32],
-    disc: &mut [u32],
-    fin: &mut [u32],
-    par: &mut [u32],
-    top: &mut [u32],
+    discoveries: &mut [u32],
+    finishes: &mut [u32],
+    parents: &mut [u32],
+    starts: &mut [u32],
 ) -> bool
     requires { ⌜ Proper v n (now clauses) (now literals) × Ordered (2 * v) (now order) ⌝ }
     requires { ⌜ Scratch v n (now from) (now to) (now offsets) (now targets) (now root) (now roots) ⌝ }
-    requires { ⌜ Columned (2 * v) (now disc) (now fin) (now par) (now top) ⌝ }
-    ensures { λ r. ⌜ Walked v n (now (clauses .entry)) (now (literals .entry)) (now (order .entry)) (now (fin .entry)) (now (par .entry)) (now (top .entry)) r
-        (now (disc .exit)) (now (fin .exit)) (now (par .exit)) (now (top .exit)) ⌝ }
+    requires { ⌜ Columned (2 * v) (now discoveries) (now finishes) (now parents) (now starts) ⌝ }
+    ensures { λ r. ⌜ Walked v n (now (clauses .entry)) (now (literals .entry)) (now (order .entry)) (now (finishes .entry)) (now (parents .entry)) (now (starts .entry)) r
+        (now (discoveries .exit)) (now (finishes .exit)) (now (parents .exit)) (now (starts .exit)) ⌝ }
 {
     let k = table_graph::list_pairs(n, clauses, literals, from, to);
     stamp_edges(
@@ -168,12 +186,12 @@ pub fn stamp_graph(
         targets,
         root,
         roots,
-        disc,
-        fin,
-        par,
-        top,
+        discoveries,
+        finishes,
+        parents,
+        starts,
     );
-    any_backward(&from[..k], &to[..k], fin)
+    any_backward(&from[..k], &to[..k], finishes)
 }
 
 // The same with scratch of its own.
@@ -183,15 +201,15 @@ pub fn stamp_columns(
     clauses: &[u32],
     literals: &[i32],
     order: &[u32],
-    disc: &mut [u32],
-    fin: &mut [u32],
-    par: &mut [u32],
-    top: &mut [u32],
+    discoveries: &mut [u32],
+    finishes: &mut [u32],
+    parents: &mut [u32],
+    starts: &mut [u32],
 ) -> bool
     requires { ⌜ Proper v n (now clauses) (now literals) × Ordered (2 * v) (now order) ⌝ }
-    requires { ⌜ Columned (2 * v) (now disc) (now fin) (now par) (now top) ⌝ }
-    ensures { λ r. ⌜ Walked v n (now (clauses .entry)) (now (literals .entry)) (now (order .entry)) (now (fin .entry)) (now (par .entry)) (now (top .entry)) r
-        (now (disc .exit)) (now (fin .exit)) (now (par .exit)) (now (top .exit)) ⌝ }
+    requires { ⌜ Columned (2 * v) (now discoveries) (now finishes) (now parents) (now starts) ⌝ }
+    ensures { λ r. ⌜ Walked v n (now (clauses .entry)) (now (literals .entry)) (now (order .entry)) (now (finishes .entry)) (now (parents .entry)) (now (starts .entry)) r
+        (now (discoveries .exit)) (now (finishes .exit)) (now (parents .exit)) (now (starts .exit)) ⌝ }
 {
     let slots = 2 * v;
     let ends = slots + 1;
@@ -213,9 +231,9 @@ pub fn stamp_columns(
         &mut targets,
         &mut root[..slots],
         &mut roots,
-        disc,
-        fin,
-        par,
-        top,
+        discoveries,
+        finishes,
+        parents,
+        starts,
     )
 }

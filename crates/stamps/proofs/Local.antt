@@ -10,24 +10,24 @@ use lib.IntN.{ℤ}
 use Rattle.base.specs.Decide.{same-or, le-or}
 use Rattle.literal.specs.Literals.{Literal, slotOf, litAt}
 use Rattle.literal.proofs.Laws.{slot-lit, lit-slot, slot-below, lit-var}
-use Rattle.stamps.specs.Fresh.{discovery, finish, parentOf, startOf, Holds, Times, NestedOrApart, Outermost, Parent, Start, FreshStamps}
+use Rattle.stamps.specs.Fresh.{discoveryIn, finishIn, parentIn, startIn, Holds, Times, NestedOrApart, Outermost, Parent, Start, FreshStamps}
 
 -- u is open when s is entered
 abbrev pub Around : List ℕ → ℕ → ℕ → Type 0
-Around times u s = (discovery times u < discovery times s) × (discovery times s < finish times u)
+Around times u s = (discoveryIn times u < discoveryIn times s) × (discoveryIn times s < finishIn times u)
 
 -- s is entered under p, the slot entered last of those that are open
 pub record Under (v : ℕ) (times : List ℕ) (links : List ℤ) (s p : ℕ) : Type 0 where
   pub slot : p < 2 * v
-  pub parent : parentOf links s ≡ litAt p
-  pub start : startOf links s ≡ startOf links p
+  pub parent : parentIn links s ≡ litAt p
+  pub start : startIn links s ≡ startIn links p
   pub around : Around times p s
-  pub last : (u : ℕ) → u < 2 * v → Around times u s → discovery times u ≤ discovery times p
+  pub last : (u : ℕ) → u < 2 * v → Around times u s → discoveryIn times u ≤ discoveryIn times p
 
 -- s is entered while none is open
 pub record Root (v : ℕ) (times : List ℕ) (links : List ℤ) (s : ℕ) : Type 0 where
-  pub parent : parentOf links s ≡ litAt s
-  pub start : startOf links s ≡ litAt s
+  pub parent : parentIn links s ≡ litAt s
+  pub start : startIn links s ≡ litAt s
   pub alone : (u : ℕ) → u < 2 * v → Around times u s → ⊥
 
 abbrev pub Entered : ℕ → List ℕ → List ℤ → ℕ → Type 0
@@ -35,33 +35,33 @@ Entered v times links s = Root v times links s ⊎ ((p : ℕ) × Under v times l
 
 -- s is left after it was entered, and after all that were entered since
 pub record Left (v : ℕ) (times : List ℕ) (s : ℕ) : Type 0 where
-  pub forward : discovery times s < finish times s
-  pub inside : (u : ℕ) → u < 2 * v → discovery times s < discovery times u → discovery times u < finish times s → finish times u < finish times s
+  pub forward : discoveryIn times s < finishIn times s
+  pub inside : (u : ℕ) → u < 2 * v → discoveryIn times s < discoveryIn times u → discoveryIn times u < finishIn times s → finishIn times u < finishIn times s
 
 -- ---- times differ
 
 module _ (v : ℕ) (times : List ℕ) (T : Times (4 * v) times) where
-  pub same-slot : (p q : ℕ) → p < 2 * v → q < 2 * v → discovery times p ≡ discovery times q → p ≡ q
+  pub same-slot : (p q : ℕ) → p < 2 * v → q < 2 * v → discoveryIn times p ≡ discoveryIn times q → p ≡ q
   same-slot p q lp lq e = omega (arith, T .once (2 * p) (omega arith) (2 * q) (omega arith) e)
 
-  pub same-finish : (p q : ℕ) → p < 2 * v → q < 2 * v → finish times p ≡ finish times q → p ≡ q
+  pub same-finish : (p q : ℕ) → p < 2 * v → q < 2 * v → finishIn times p ≡ finishIn times q → p ≡ q
   same-finish p q lp lq e = omega (arith, T .once (2 * p + 1) (omega arith) (2 * q + 1) (omega arith) e)
 
-  pub not-both : (p q : ℕ) → p < 2 * v → q < 2 * v → discovery times p ≡ finish times q → ⊥
+  pub not-both : (p q : ℕ) → p < 2 * v → q < 2 * v → discoveryIn times p ≡ finishIn times q → ⊥
   not-both p q lp lq e = omega (arith, T .once (2 * p) (omega arith) (2 * q + 1) (omega arith) e)
 
   -- another interval around q begins earlier
-  pub begins : (u q : ℕ) → u < 2 * v → q < 2 * v → (u ≡ q → ⊥) → Holds times u q → discovery times u < discovery times q
-  begins u q lu lq d h = ⊎-elim (λ (e : discovery times q ≤ discovery times u). absurd (d (same-slot u q lu lq (omega arith)))) (λ e. e) (le-or (discovery times q) (discovery times u))
+  pub begins : (u q : ℕ) → u < 2 * v → q < 2 * v → (u ≡ q → ⊥) → Holds times u q → discoveryIn times u < discoveryIn times q
+  begins u q lu lq d h = ⊎-elim (λ (e : discoveryIn times q ≤ discoveryIn times u). absurd (d (same-slot u q lu lq (omega arith)))) (λ e. e) (le-or (discoveryIn times q) (discoveryIn times u))
 
 -- ---- from the rule to the slots
 
 module _ (v : ℕ) (times : List ℕ) (links : List ℤ) (F : FreshStamps v times links) where
   abbrev D : ℕ → ℕ
-  D s = discovery times s
+  D s = discoveryIn times s
 
   abbrev E : ℕ → ℕ
-  E s = finish times s
+  E s = finishIn times s
 
   -- what is open when s is entered is around s
   around-holds : (u s : ℕ) → u < 2 * v → s < 2 * v → Around times u s → Holds times u s
@@ -86,40 +86,40 @@ module _ (v : ℕ) (times : List ℕ) (links : List ℤ) (F : FreshStamps v time
       go u lu a b le (inr (inr h)) = omega (arith, F .forward u lu)
 
   -- of two slots, one inside the other, the start is the same
-  same-start : (s p : ℕ) → s < 2 * v → p < 2 * v → Holds times p s → startOf links s ≡ startOf links p
+  same-start : (s p : ℕ) → s < 2 * v → p < 2 * v → Holds times p s → startIn links s ≡ startIn links p
   same-start s p ls lp h =
       let a = F .start s ls in
       let b = F .start p lp in
-      let r = slotOf (startOf links s) in
-      let q = slotOf (startOf links p) in
-      let lr : r < 2 * v = slot-below (startOf links s) v (F .start-literal s ls .above) (F .start-literal s ls .within) in
-      let lq : q < 2 * v = slot-below (startOf links p) v (F .start-literal p lp .above) (F .start-literal p lp .within) in
+      let r = slotOf (startIn links s) in
+      let q = slotOf (startIn links p) in
+      let lr : r < 2 * v = slot-below (startIn links s) v (F .start-literal s ls .above) (F .start-literal s ls .within) in
+      let lq : q < 2 * v = slot-below (startIn links p) v (F .start-literal p lp .above) (F .start-literal p lp .within) in
       let rp : Holds times r p = a .1 p lp h in
       let qr : Holds times q r = b .1 r lr rp in
       let rq : Holds times r q = a .1 q lq (le-trans (b .0 .0) (h .0), le-trans (h .1) (b .0 .1)) in
       let e : r ≡ q = same-slot v times (F .every-time) r q lr lq (omega arith) in
-      sym (lit-slot (startOf links s) (F .start-literal s ls .above)) ∙ ap litAt e ∙ lit-slot (startOf links p) (F .start-literal p lp .above)
+      sym (lit-slot (startIn links s) (F .start-literal s ls .above)) ∙ ap litAt e ∙ lit-slot (startIn links p) (F .start-literal p lp .above)
 
   pub slot-entered : (s : ℕ) → s < 2 * v → Entered v times links s
   slot-entered s ls = go (F .parent s ls)
     where
       p : ℕ
-      p = slotOf (parentOf links s)
+      p = slotOf (parentIn links s)
 
       lp : p < 2 * v
-      lp = slot-below (parentOf links s) v (F .parent-literal s ls .above) (F .parent-literal s ls .within)
+      lp = slot-below (parentIn links s) v (F .parent-literal s ls .above) (F .parent-literal s ls .within)
 
-      is : parentOf links s ≡ litAt p
-      is = sym (lit-slot (parentOf links s) (F .parent-literal s ls .above))
+      is : parentIn links s ≡ litAt p
+      is = sym (lit-slot (parentIn links s) (F .parent-literal s ls .above))
 
       go : Parent (2 * v) times s p → Entered v times links s
       go (inl h) =
           let r = F .start s ls in
-          let l : slotOf (startOf links s) < 2 * v = slot-below (startOf links s) v (F .start-literal s ls .above) (F .start-literal s ls .within) in
-          let e : slotOf (startOf links s) ≡ s = h .1 (slotOf (startOf links s)) l (r .0) in
+          let l : slotOf (startIn links s) < 2 * v = slot-below (startIn links s) v (F .start-literal s ls .above) (F .start-literal s ls .within) in
+          let e : slotOf (startIn links s) ≡ s = h .1 (slotOf (startIn links s)) l (r .0) in
           inl (record {
             parent = is ∙ ap litAt (h .0);
-            start = sym (lit-slot (startOf links s) (F .start-literal s ls .above)) ∙ ap litAt e;
+            start = sym (lit-slot (startIn links s) (F .start-literal s ls .above)) ∙ ap litAt e;
             alone = λ u lu a. omega (arith, ap D (h .1 u lu (around-holds u s lu ls a)));
           })
       go (inr h) =
@@ -140,10 +140,10 @@ module _ (v : ℕ) (times : List ℕ) (links : List ℤ) (F : FreshStamps v time
 module _ (v : ℕ) (times : List ℕ) (links : List ℤ) (T : Times (4 * v) times)
     (entered : (s : ℕ) → s < 2 * v → Entered v times links s) (left : (s : ℕ) → s < 2 * v → Left v times s) where
   abbrev D′ : ℕ → ℕ
-  D′ s = discovery times s
+  D′ s = discoveryIn times s
 
   abbrev E′ : ℕ → ℕ
-  E′ s = finish times s
+  E′ s = finishIn times s
 
   -- a slot that begins while p is open lies within p, else after it
   ordered : (p q : ℕ) → p < 2 * v → q < 2 * v → D′ p < D′ q → Holds times p q ⊎ (E′ p < D′ q)
@@ -197,22 +197,22 @@ module _ (v : ℕ) (times : List ℕ) (links : List ℤ) (T : Times (4 * v) time
   unfolding Linked
   linked l p P lp e h = subst (λ (k : ℤ). Literal v k × P (slotOf k)) (sym e) (record { above = omega (arith, lit-var p); within = omega (arith, lit-var p) }, subst P (sym (slot-lit p)) h)
 
-  parent : (q : ℕ) → q < 2 * v → Linked (parentOf links q) (Parent (2 * v) times q)
+  parent : (q : ℕ) → q < 2 * v → Linked (parentIn links q) (Parent (2 * v) times q)
   parent q lq =
       ⊎-elim
-      (λ (R : Root v times links q). linked (parentOf links q) q (Parent (2 * v) times q) lq (R .parent) (inl (refl, outermost q lq R)))
+      (λ (R : Root v times links q). linked (parentIn links q) q (Parent (2 * v) times q) lq (R .parent) (inl (refl, outermost q lq R)))
       (λ (u : (p : ℕ) × Under v times links q p). let U = u .1 in
-      linked (parentOf links q) (u .0) (Parent (2 * v) times q) (U .slot) (U .parent)
+      linked (parentIn links q) (u .0) (Parent (2 * v) times q) (U .slot) (U .parent)
       (inr (λ e. omega (arith, ap D′ e, U .around .0), under-holds q (u .0) lq U, narrow q (u .0) lq U)))
       (entered q lq)
 
   -- the start, by induction on the discovery
-  start-in : (n q : ℕ) → D′ q ≤ n → q < 2 * v → Linked (startOf links q) (Start (2 * v) times q)
+  start-in : (n q : ℕ) → D′ q ≤ n → q < 2 * v → Linked (startIn links q) (Start (2 * v) times q)
   unfolding Linked
   start-in zero q le lq = absurd (omega (arith, T .ranged (2 * q) (omega arith) .0))
   start-in (suc n) q le lq =
       ⊎-elim
-      (λ (R : Root v times links q). linked (startOf links q) q (Start (2 * v) times q) lq (R .start)
+      (λ (R : Root v times links q). linked (startIn links q) q (Start (2 * v) times q) lq (R .start)
       ((le-refl _, le-refl _), λ u lu h. let e = outermost q lq R u lu h in (omega (arith, ap D′ e), omega (arith, ap E′ e))))
       (λ (w : (p : ℕ) × Under v times links q p).
       let p = w .0 in

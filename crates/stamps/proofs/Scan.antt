@@ -11,7 +11,7 @@ use lib.IntN.{ℤ, pos, negsuc, natAbs}
 use Rattle.base.specs.Decide.{same-or, le-or}
 use Rattle.literal.specs.Literals.{slotOf, litAt}
 use Rattle.literal.proofs.Laws.{slot-lit, lit-var}
-use Rattle.stamps.specs.Fresh.{discovery, finish, parentOf, startOf, Times, FreshStamps}
+use Rattle.stamps.specs.Fresh.{discoveryIn, finishIn, parentIn, startIn, Times, FreshStamps}
 use Rattle.stamps.specs.Index.{Indexed, orElse}
 use Rattle.stamps.proofs.Local.{Around, Under, Root, Entered, Left, same-slot, same-finish, not-both, slot-entered, slot-left, fresh-from}
 
@@ -30,11 +30,11 @@ indexed-times n times index I = record {
 -- ---- the state of the scan after time t
 
 abbrev pub Open : List ℕ → ℕ → ℕ → Type 0
-Open times t u = (discovery times u ≤ t) × (t < finish times u)
+Open times t u = (discoveryIn times u ≤ t) × (t < finishIn times u)
 
 pub record Passed (v : ℕ) (times : List ℕ) (links : List ℤ) (t : ℕ) : Type 0 where
-  pub entered : (s : ℕ) → s < 2 * v → discovery times s ≤ t → Entered v times links s
-  pub left : (s : ℕ) → s < 2 * v → finish times s ≤ t → Left v times s
+  pub entered : (s : ℕ) → s < 2 * v → discoveryIn times s ≤ t → Entered v times links s
+  pub left : (s : ℕ) → s < 2 * v → finishIn times s ≤ t → Left v times s
 
 -- no slot is open
 pub record Idle (v : ℕ) (times : List ℕ) (t : ℕ) (current root : ℤ) : Type 0 where
@@ -46,20 +46,20 @@ pub record Idle (v : ℕ) (times : List ℕ) (t : ℕ) (current root : ℤ) : Ty
 pub record Within (v : ℕ) (times : List ℕ) (links : List ℤ) (t : ℕ) (current root : ℤ) (p : ℕ) : Type 0 where
   pub slot : p < 2 * v
   pub is : current ≡ litAt p
-  pub is-root : root ≡ startOf links p
+  pub is-root : root ≡ startIn links p
   pub some-root : 0 < natAbs root
   pub at : Open times t p
-  pub last : (u : ℕ) → u < 2 * v → Open times t u → discovery times u ≤ discovery times p
+  pub last : (u : ℕ) → u < 2 * v → Open times t u → discoveryIn times u ≤ discoveryIn times p
 
 abbrev pub Stack : ℕ → List ℕ → List ℤ → ℕ → ℤ → ℤ → Type 0
 Stack v times links t current root = Idle v times t current root ⊎ ((p : ℕ) × Within v times links t current root p)
 
 module _ (v : ℕ) (times : List ℕ) (links : List ℤ) (T : Times (4 * v) times) where
   abbrev D : ℕ → ℕ
-  D s = discovery times s
+  D s = discoveryIn times s
 
   abbrev E : ℕ → ℕ
-  E s = finish times s
+  E s = finishIn times s
 
   pub begin : Passed v times links 0 × Stack v times links 0 (pos 0) (pos 0)
   begin = (
@@ -82,17 +82,17 @@ module _ (v : ℕ) (times : List ℕ) (links : List ℤ) (T : Times (4 * v) time
     open-around u lu o = (omega (arith, o .0, now), ⊎-elim (λ (h : E u ≤ D s). absurd (not-both v times T s u ls lu (omega (arith, o .1, now)))) (λ h. h) (le-or (E u) (D s)))
 
     -- the tests, from the step
-    pub enter-tests : Entered v times links s → (parentOf links s ≡ orElse current (litAt s)) × (startOf links s ≡ orElse root (litAt s))
+    pub enter-tests : Entered v times links s → (parentIn links s ≡ orElse current (litAt s)) × (startIn links s ≡ orElse root (litAt s))
     enter-tests e = ⊎-elim idle within S
       where
-        idle : Idle v times t current root → (parentOf links s ≡ orElse current (litAt s)) × (startOf links s ≡ orElse root (litAt s))
+        idle : Idle v times t current root → (parentIn links s ≡ orElse current (litAt s)) × (startIn links s ≡ orElse root (litAt s))
         idle I =
             ⊎-elim
             (λ (R : Root v times links s). rw (I .none, I .no-root) (R .parent, R .start))
             (λ (w : (p : ℕ) × Under v times links s p). absurd (I .closed (w .0) (w .1 .slot) (around-open (w .0) (w .1 .slot) (w .1 .around))))
             e
 
-        within : ((p : ℕ) × Within v times links t current root p) → (parentOf links s ≡ orElse current (litAt s)) × (startOf links s ≡ orElse root (litAt s))
+        within : ((p : ℕ) × Within v times links t current root p) → (parentIn links s ≡ orElse current (litAt s)) × (startIn links s ≡ orElse root (litAt s))
         within w =
             let p = w .0 in
             let W = w .1 in
@@ -102,13 +102,13 @@ module _ (v : ℕ) (times : List ℕ) (links : List ℤ) (T : Times (4 * v) time
             let q = x .0 in
             let U = x .1 in
             let same : q ≡ p = same-slot v times T q p (U .slot) (W .slot) (omega (arith, W .last q (U .slot) (around-open q (U .slot) (U .around)), U .last p (W .slot) (open-around p (W .slot) (W .at)))) in
-            let e₁ : parentOf links s ≡ current = U .parent ∙ ap litAt same ∙ sym (W .is) in
-            let e₂ : startOf links s ≡ root = U .start ∙ ap (startOf links) same ∙ sym (W .is-root) in
+            let e₁ : parentIn links s ≡ current = U .parent ∙ ap litAt same ∙ sym (W .is) in
+            let e₂ : startIn links s ≡ root = U .start ∙ ap (startIn links) same ∙ sym (W .is-root) in
             (e₁ ∙ sym (else-some current (litAt s) (omega (arith, lit-var p, ap natAbs (W .is)))), e₂ ∙ sym (else-some root (litAt s) (W .some-root))))
             e
 
     -- the step, from the tests
-    pub enter-right : parentOf links s ≡ orElse current (litAt s) → startOf links s ≡ orElse root (litAt s) → Entered v times links s
+    pub enter-right : parentIn links s ≡ orElse current (litAt s) → startIn links s ≡ orElse root (litAt s) → Entered v times links s
     enter-right e₁ e₂ = ⊎-elim idle within S
       where
         idle : Idle v times t current root → Entered v times links s
@@ -139,7 +139,7 @@ module _ (v : ℕ) (times : List ℕ) (links : List ℤ) (T : Times (4 * v) time
       left = λ u lu h. P .left u lu (⊎-elim (λ (k : E u ≤ t). k) (λ (k : t < E u). absurd (not-both v times T s u ls lu (omega arith))) (le-or (E u) t));
     }
 
-    pub enter-stack : startOf links s ≡ orElse root (litAt s) → Stack v times links (t + 1) (litAt s) (orElse root (litAt s))
+    pub enter-stack : startIn links s ≡ orElse root (litAt s) → Stack v times links (t + 1) (litAt s) (orElse root (litAt s))
     enter-stack e = inr (
       s,
       record {
@@ -229,13 +229,13 @@ module _ (v : ℕ) (times : List ℕ) (links : List ℤ) (T : Times (4 * v) time
       was-entered : Entered v times links s
       was-entered = P .entered s ls (here e .at .0)
 
-      pub leave-idle : parentOf links s ≡ litAt s → Stack v times links (t + 1) (pos 0) (pos 0)
+      pub leave-idle : parentIn links s ≡ litAt s → Stack v times links (t + 1) (pos 0) (pos 0)
       leave-idle q = ⊎-elim
           (λ (R : Root v times links s). inl (record { none = refl; no-root = refl; closed = λ u lu o. R .alone u lu (still-around u lu o) }))
           (λ (w : (p : ℕ) × Under v times links s p). absurd (omega (arith, w .1 .around .0, ap D (sym (slot-lit (w .0)) ∙ ap slotOf (sym (w .1 .parent) ∙ q) ∙ slot-lit s))))
           was-entered
 
-      pub leave-up : (parentOf links s ≡ litAt s → ⊥) → Stack v times links (t + 1) (parentOf links s) root
+      pub leave-up : (parentIn links s ≡ litAt s → ⊥) → Stack v times links (t + 1) (parentIn links s) root
       leave-up n = ⊎-elim
           (λ (R : Root v times links s). absurd (n (R .parent)))
           (λ (w : (p : ℕ) × Under v times links s p).
@@ -292,13 +292,13 @@ module _ (v : ℕ) (index : List ℕ) (links : List ℤ) (t : ℕ) (current root
     double : 2 * (k / 2) ≡ k
     double = omega arith
 
-    parent-at : parentOf links (k / 2) ≡ getD links k (pos 0)
+    parent-at : parentIn links (k / 2) ≡ getD links k (pos 0)
     parent-at = ap (λ (j : ℕ). getD links j (pos 0)) double
 
-    start-at : startOf links (k / 2) ≡ getD links (k + 1) (pos 0)
+    start-at : startIn links (k / 2) ≡ getD links (k + 1) (pos 0)
     start-at = ap (λ (j : ℕ). getD links (j + 1) (pos 0)) double
 
-    discovery-at : (times : List ℕ) → Indexed (4 * v) times index → discovery times (k / 2) ≡ t + 1
+    discovery-at : (times : List ℕ) → Indexed (4 * v) times index → discoveryIn times (k / 2) ≡ t + 1
     discovery-at times I = ap (λ (j : ℕ). getD times j 0) double ∙ at-place times I .1
 
     pub scan-enter : getD links k (pos 0) ≡ orElse current (litAt (k / 2)) → getD links (k + 1) (pos 0) ≡ orElse root (litAt (k / 2))
@@ -326,10 +326,10 @@ module _ (v : ℕ) (index : List ℕ) (links : List ℤ) (t : ℕ) (current root
   -- ---- an odd place is a finish
 
   module _ (odd : k % 2 ≡ 0 → ⊥) where
-    before-at : parentOf links (k / 2) ≡ getD links (k - 1) (pos 0)
+    before-at : parentIn links (k / 2) ≡ getD links (k - 1) (pos 0)
     before-at = let e : 2 * (k / 2) ≡ k - 1 = omega arith in ap (λ (j : ℕ). getD links j (pos 0)) e
 
-    finish-at : (times : List ℕ) → Indexed (4 * v) times index → finish times (k / 2) ≡ t + 1
+    finish-at : (times : List ℕ) → Indexed (4 * v) times index → finishIn times (k / 2) ≡ t + 1
     finish-at times I = let e : 2 * (k / 2) + 1 ≡ k = omega arith in ap (λ (j : ℕ). getD times j 0) e ∙ at-place times I .1
 
     module _ (e : current ≡ litAt (k / 2)) where

@@ -7,13 +7,13 @@ use lib.ListN.{getD}
 use lib.IntN.{ℤ, natAbs}
 use Rattle.base.specs.Decide.{and?, or?, if?, not?, so?, every?}
 use Rattle.literal.specs.Literals.{Literal, slotOf}
-use Rattle.stamps.specs.Fresh.{discovery, finish, parentOf, startOf, Holds, Times, NestedOrApart, Narrowest, Parent, Start, FreshStamps}
+use Rattle.stamps.specs.Fresh.{discoveryIn, finishIn, parentIn, startIn, Holds, Times, NestedOrApart, Narrowest, Parent, Start, FreshStamps}
 
 unfoldable pub literal? : (v : ℕ) (l : ℤ) → Dec (Literal v l)
 literal? v l = so? (λ h. record { above = h .0; within = h .1 }) (λ (L : Literal v l). (L .above, L .within)) (and? (decLt 0 (natAbs l)) (decLe (natAbs l) v))
 
 unfoldable pub holds? : (times : List ℕ) (p q : ℕ) → Dec (Holds times p q)
-holds? times p q = and? (decLe (discovery times p) (discovery times q)) (decLe (finish times q) (finish times p))
+holds? times p q = and? (decLe (discoveryIn times p) (discoveryIn times q)) (decLe (finishIn times q) (finishIn times p))
 
 unfoldable pub times? : (n : ℕ) (times : List ℕ) → Dec (Times n times)
 times? n times =
@@ -33,7 +33,7 @@ unfoldable pub start? : (size : ℕ) (times : List ℕ) (q r : ℕ) → Dec (Sta
 start? size times q r = and? (holds? times r q) (every? size (λ u. if? (holds? times u q) (holds? times r u)))
 
 unfoldable pub nested? : (times : List ℕ) (p q : ℕ) → Dec (NestedOrApart times p q)
-nested? times p q = or? (or? (holds? times p q) (holds? times q p)) (or? (decLt (finish times p) (discovery times q)) (decLt (finish times q) (discovery times p)))
+nested? times p q = or? (or? (holds? times p q) (holds? times q p)) (or? (decLt (finishIn times p) (discoveryIn times q)) (decLt (finishIn times q) (discoveryIn times p)))
 
 unfoldable pub fresh? : (v : ℕ) (times : List ℕ) (links : List ℤ) → Dec (FreshStamps v times links)
 fresh? v times links =
@@ -49,10 +49,10 @@ fresh? v times links =
     })
     (λ (F : FreshStamps v times links). (F .every-time, (F .forward, (F .nested, (F .parent-literal, (F .parent, (F .start-literal, F .start)))))))
     (and? (times? (4 * v) times)
-    (and? (every? (2 * v) (λ s. decLt (discovery times s) (finish times s)))
+    (and? (every? (2 * v) (λ s. decLt (discoveryIn times s) (finishIn times s)))
     (and? (every? (2 * v) (λ p. every? (2 * v) (λ q. nested? times p q)))
-    (and? (every? (2 * v) (λ q. literal? v (parentOf links q)))
-    (and? (every? (2 * v) (λ q. parent? (2 * v) times q (slotOf (parentOf links q))))
-    (and? (every? (2 * v) (λ q. literal? v (startOf links q)))
-    (every? (2 * v) (λ q. start? (2 * v) times q (slotOf (startOf links q)))))))))
+    (and? (every? (2 * v) (λ q. literal? v (parentIn links q)))
+    (and? (every? (2 * v) (λ q. parent? (2 * v) times q (slotOf (parentIn links q))))
+    (and? (every? (2 * v) (λ q. literal? v (startIn links q)))
+    (every? (2 * v) (λ q. start? (2 * v) times q (slotOf (startIn links q)))))))))
     )

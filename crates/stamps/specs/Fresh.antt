@@ -8,21 +8,21 @@ use lib.ListN.{getD}
 use lib.IntN.{ℤ, pos}
 use Rattle.literal.specs.Literals.{Literal, slotOf}
 
-abbrev pub discovery : List ℕ → ℕ → ℕ
-discovery times s = getD times (2 * s) 0
+abbrev pub discoveryIn : List ℕ → ℕ → ℕ
+discoveryIn times s = getD times (2 * s) 0
 
-abbrev pub finish : List ℕ → ℕ → ℕ
-finish times s = getD times (2 * s + 1) 0
+abbrev pub finishIn : List ℕ → ℕ → ℕ
+finishIn times s = getD times (2 * s + 1) 0
 
-abbrev pub parentOf : List ℤ → ℕ → ℤ
-parentOf links s = getD links (2 * s) (pos 0)
+abbrev pub parentIn : List ℤ → ℕ → ℤ
+parentIn links s = getD links (2 * s) (pos 0)
 
-abbrev pub startOf : List ℤ → ℕ → ℤ
-startOf links s = getD links (2 * s + 1) (pos 0)
+abbrev pub startIn : List ℤ → ℕ → ℤ
+startIn links s = getD links (2 * s + 1) (pos 0)
 
 -- interval p holds interval q: it begins no later and ends no earlier
 abbrev pub Holds : List ℕ → ℕ → ℕ → Type 0
-Holds times p q = (discovery times p ≤ discovery times q) × (finish times q ≤ finish times p)
+Holds times p q = (discoveryIn times p ≤ discoveryIn times q) × (finishIn times q ≤ finishIn times p)
 
 -- the first n places are 1 to n, once each
 pub record Times (n : ℕ) (times : List ℕ) : Type 0 where
@@ -30,7 +30,7 @@ pub record Times (n : ℕ) (times : List ℕ) : Type 0 where
   pub once : (j : ℕ) → j < n → (k : ℕ) → k < n → getD times j 0 ≡ getD times k 0 → j ≡ k
 
 abbrev pub NestedOrApart : List ℕ → ℕ → ℕ → Type 0
-NestedOrApart times p q = (Holds times p q ⊎ Holds times q p) ⊎ ((finish times p < discovery times q) ⊎ (finish times q < discovery times p))
+NestedOrApart times p q = (Holds times p q ⊎ Holds times q p) ⊎ ((finishIn times p < discoveryIn times q) ⊎ (finishIn times q < discoveryIn times p))
 
 -- no interval of the slots below size but q's own is around q
 abbrev pub Outermost : ℕ → List ℕ → ℕ → Type 0
@@ -51,9 +51,9 @@ Start size times q r = Holds times r q × ((u : ℕ) → u < size → Holds time
 -- the stamps of the 2v literals of v variables
 pub record FreshStamps (v : ℕ) (times : List ℕ) (links : List ℤ) : Type 0 where
   pub every-time : Times (4 * v) times
-  pub forward : (s : ℕ) → s < 2 * v → discovery times s < finish times s
+  pub forward : (s : ℕ) → s < 2 * v → discoveryIn times s < finishIn times s
   pub nested : (p : ℕ) → p < 2 * v → (q : ℕ) → q < 2 * v → NestedOrApart times p q
-  pub parent-literal : (q : ℕ) → q < 2 * v → Literal v (parentOf links q)
-  pub parent : (q : ℕ) → q < 2 * v → Parent (2 * v) times q (slotOf (parentOf links q))
-  pub start-literal : (q : ℕ) → q < 2 * v → Literal v (startOf links q)
-  pub start : (q : ℕ) → q < 2 * v → Start (2 * v) times q (slotOf (startOf links q))
+  pub parent-literal : (q : ℕ) → q < 2 * v → Literal v (parentIn links q)
+  pub parent : (q : ℕ) → q < 2 * v → Parent (2 * v) times q (slotOf (parentIn links q))
+  pub start-literal : (q : ℕ) → q < 2 * v → Literal v (startIn links q)
+  pub start : (q : ℕ) → q < 2 * v → Start (2 * v) times q (slotOf (startIn links q))

@@ -13,7 +13,7 @@ use Rattle.stamps.specs.Columns.{columns}
 use Rattle.hidden.specs.Hidden.{hiddenTautology, shorten}
 use Rattle.hidden.proofs.Intervals.{Nested}
 use Rattle.hidden.proofs.Shorten.{shorten-filled}
-use Rattle.hidden.proofs.Columns.{fresh-nested}
+use Rattle.hidden.proofs.FreshColumns.{fresh-nested}
 use Rattle.tables.specs.Tables.{Tables, tables, standing}
 use Rattle.tables.specs.Clauses.{literalsOf}
 use Rattle.tables.specs.Fates.{Fate, left, dropped, store, visit, visits, shortened}

@@ -11,9 +11,10 @@ use Rattle.literal.specs.Literals.{slotOf, twin}
 use Rattle.stamps.specs.Columns.{columns}
 use Rattle.hidden.specs.Hidden.{byDiscovery, scan, hiddenTautology}
 use Rattle.hidden.proofs.Intervals.{Nested}
-use Rattle.hidden.proofs.Columns.{column-fin, fresh-nested}
+use Rattle.stamps.proofs.Columns.{column-finishes}
+use Rattle.hidden.proofs.FreshColumns.{fresh-nested}
 use Rattle.hidden.proofs.Sorted.{sorted-out}
-use Rattle.discovery_order.specs.Slots.{Slots}
+use Rattle.stamps.specs.Slots.{Slots}
 use Rattle.sweep_clause.specs.Stamped.{Both, Lits, Inside, Clause, Judged}
 use Rattle.sweep_clause.proofs.Shortened.{inside-small, inside-twins, clause-within, clause-lits}
 
@@ -28,7 +29,7 @@ module _ {times : List ℕ} {links C : List ℤ} (J : Judged times links C) wher
     few = J .stamped .few;
     long = J .long;
     nested = timed;
-    small = λ q lt. omega (arith, column-fin times [] q, J .stamped .fresh .every-time .ranged (2 * q + 1) (omega arith) .1, J .stamped .few);
+    small = λ q lt. omega (arith, column-finishes times [] q, J .stamped .fresh .every-time .ranged (2 * q + 1) (omega arith) .1, J .stamped .few);
     each = J .each;
   }
 

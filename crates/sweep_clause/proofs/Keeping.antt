@@ -19,9 +19,9 @@ use Rattle.literal.proofs.Compact.{Compact, start, stay, gone}
 use Rattle.literal.proofs.Signed.{abs-neg, small-neg}
 use Rattle.literal.proofs.Laws.{slot-below}
 use Rattle.walk.specs.Walk.{Stamps}
-use Rattle.walk.specs.Forest.{fin}
+use Rattle.walk.specs.Forest.{discoveryAt, finishAt}
 use Rattle.stamps.specs.Columns.{columns}
-use Rattle.discovery_order.specs.Slots.{began, ended, Slots}
+use Rattle.stamps.specs.Slots.{Slots}
 use Rattle.discovery_order.proofs.Sorting.{slot-at}
 use Rattle.sweep_clause.specs.Stamped.{Searched, Lits, Sorted}
 use Rattle.sweep_clause.specs.Figures.{least, inner, outer, among, keptBy}
@@ -73,19 +73,19 @@ narrowing-none times xs = record {
 }
 
 module _ (σ : Stamps) (x : ℕ) (xs : List ℕ) where
-  inner-goes : ltb (least σ xs) (fin σ x) ≡ true → (inner σ (x ∷ xs) ≡ inner σ xs) × (least σ (x ∷ xs) ≡ least σ xs)
+  inner-goes : ltb (least σ xs) (finishAt σ x) ≡ true → (inner σ (x ∷ xs) ≡ inner σ xs) × (least σ (x ∷ xs) ≡ least σ xs)
   unfolding inner least
   inner-goes e = (rw (e, inner), rw (e, least))
 
-  inner-stays : ltb (least σ xs) (fin σ x) ≡ false → (inner σ (x ∷ xs) ≡ x ∷ inner σ xs) × (least σ (x ∷ xs) ≡ fin σ x)
+  inner-stays : ltb (least σ xs) (finishAt σ x) ≡ false → (inner σ (x ∷ xs) ≡ x ∷ inner σ xs) × (least σ (x ∷ xs) ≡ finishAt σ x)
   unfolding inner least
   inner-stays e = (rw (e, inner), rw (e, least))
 
-  outer-goes : (d : ℕ) → ltb (fin σ x) d ≡ true → outer σ d (x ∷ xs) ≡ outer σ d xs
+  outer-goes : (d : ℕ) → ltb (finishAt σ x) d ≡ true → outer σ d (x ∷ xs) ≡ outer σ d xs
   unfolding outer
   outer-goes d e = rw (e, outer)
 
-  outer-stays : (d : ℕ) → ltb (fin σ x) d ≡ false → outer σ d (x ∷ xs) ≡ x ∷ outer σ (fin σ x) xs
+  outer-stays : (d : ℕ) → ltb (finishAt σ x) d ≡ false → outer σ d (x ∷ xs) ≡ x ∷ outer σ (finishAt σ x) xs
   unfolding outer
   outer-stays d e = rw (e, outer)
 
@@ -102,7 +102,7 @@ module _ {times xs₀ xs : List ℕ} {finished n i : ℕ} (N : Narrowing times x
   pub narrowing-time : Slots times xs₀ → 2 * getD xs (i - 1) 0 + 1 < length times
   narrowing-time S = subst (λ (y : ℕ). 2 * y + 1 < length times) (sym last) (slot-at S (i - 1) (omega (arith, N .within, N .room, N .same)))
 
-  pub narrowing-stays : (f : ℕ) → f ≡ ended times (getD xs (i - 1) 0) → f ≤ finished → Narrowing times xs₀ (set xs (n - 1) (getD xs (i - 1) 0)) f (n - 1) (i - 1)
+  pub narrowing-stays : (f : ℕ) → f ≡ finishAt (columns times []) (getD xs (i - 1) 0) → f ≤ finished → Narrowing times xs₀ (set xs (n - 1) (getD xs (i - 1) 0)) f (n - 1) (i - 1)
   narrowing-stays f e h = record {
     within = omega (arith, N .within);
     room = simp length-set (omega (arith, N .room));
@@ -114,7 +114,7 @@ module _ {times xs₀ xs : List ℕ} {finished n i : ℕ} (N : Narrowing times x
     smallest = λ links. e ∙ sym (inner-stays (columns times links) (getD xs (i - 1) 0) (drop i xs₀) (test links) .1) ∙ ap (least (columns times links)) (sym from);
   }
     where
-      test : (links : List ℤ) → ltb (least (columns times links) (drop i xs₀)) (fin (columns times links) (getD xs (i - 1) 0)) ≡ false
+      test : (links : List ℤ) → ltb (least (columns times links) (drop i xs₀)) (finishAt (columns times links) (getD xs (i - 1) 0)) ≡ false
       test links = shown-le (N .smallest links) e h
 
       placed : (y : ℕ) → drop (n - 1) (set xs (n - 1) y) ≡ y ∷ drop n xs
@@ -122,7 +122,7 @@ module _ {times xs₀ xs : List ℕ} {finished n i : ℕ} (N : Narrowing times x
           ap (drop (n - 1)) (set-split xs (n - 1) y (omega (arith, N .room, N .within))) ∙ drop-at (take (n - 1) xs) (y ∷ drop (suc (n - 1)) xs) (n - 1) (length-take-le (n - 1) xs (omega (arith, N .room)))
           ∙ ap (λ (k : ℕ). y ∷ drop k xs) (let q : suc (n - 1) ≡ n = omega (arith, N .within) in q)
 
-  pub narrowing-goes : (f : ℕ) → f ≡ ended times (getD xs (i - 1) 0) → finished < f → Narrowing times xs₀ xs finished n (i - 1)
+  pub narrowing-goes : (f : ℕ) → f ≡ finishAt (columns times []) (getD xs (i - 1) 0) → finished < f → Narrowing times xs₀ xs finished n (i - 1)
   narrowing-goes f e h = record {
     within = omega (arith, N .within);
     room = N .room;
@@ -132,7 +132,7 @@ module _ {times xs₀ xs : List ℕ} {finished n i : ℕ} (N : Narrowing times x
     smallest = λ links. N .smallest links ∙ sym (inner-goes (columns times links) (getD xs (i - 1) 0) (drop i xs₀) (test links) .1) ∙ ap (least (columns times links)) (sym from);
   }
     where
-      test : (links : List ℤ) → ltb (least (columns times links) (drop i xs₀)) (fin (columns times links) (getD xs (i - 1) 0)) ≡ true
+      test : (links : List ℤ) → ltb (least (columns times links) (drop i xs₀)) (finishAt (columns times links) (getD xs (i - 1) 0)) ≡ true
       test links = shown-lt (N .smallest links) e h
 
 pub narrowing-done : {times xs₀ xs : List ℕ} {finished n i : ℕ} → Narrowing times xs₀ xs finished n i → i ≤ 0 → (n ≤ length xs₀) × ((links : List ℤ) → drop n xs ≡ inner (columns times links) xs₀)
@@ -157,7 +157,7 @@ module _ {times xs₀ xs : List ℕ} {finished n i : ℕ} (W : Widening times xs
   pub widening-time : Slots times xs₀ → 2 * getD xs i 0 + 1 < length times
   widening-time S = subst (λ (y : ℕ). 2 * y + 1 < length times) (sym (W .ahead i (omega arith))) (slot-at S i (omega (arith, W .same, lt)))
 
-  pub widening-stays : (f : ℕ) → f ≡ ended times (getD xs i 0) → finished ≤ f → Widening times xs₀ (set xs n (getD xs i 0)) f (n + 1) (i + 1)
+  pub widening-stays : (f : ℕ) → f ≡ finishAt (columns times []) (getD xs i 0) → finished ≤ f → Widening times xs₀ (set xs n (getD xs i 0)) f (n + 1) (i + 1)
   widening-stays f e h = record {
     behind = omega (arith, W .behind);
     within = simp length-set (omega arith);
@@ -173,7 +173,7 @@ module _ {times xs₀ xs : List ℕ} {finished n i : ℕ} (W : Widening times xs
       placed : (y : ℕ) (l : List ℕ) → take n xs ++ y ∷ l ≡ take (n + 1) (set xs n y) ++ l
       placed y l = sym (append-snoc (take n xs) y l) ∙ ap (λ (z : List ℕ). z ++ l) (sym (take-suc-set xs n y (omega (arith, W .behind, lt)))) ∙ ap (λ (k : ℕ). take k (set xs n y) ++ l) (sym (add-one n))
 
-  pub widening-goes : (f : ℕ) → f ≡ ended times (getD xs i 0) → f < finished → Widening times xs₀ xs finished n (i + 1)
+  pub widening-goes : (f : ℕ) → f ≡ finishAt (columns times []) (getD xs i 0) → f < finished → Widening times xs₀ xs finished n (i + 1)
   widening-goes f e h = record {
     behind = omega (arith, W .behind);
     within = omega arith;
@@ -219,15 +219,15 @@ module _ {xs : List ℕ} {s low high : ℕ} (H : Halving xs s low high) where
   halving-done h = among-none s xs (λ k l e. ⊎-elim (λ (a : low ≤ k). H .behind k (omega (arith, h, a)) l e) (λ (a : k < low). H .before k a e) (le-or low k))
 
   module _ {times : List ℕ} (S : Searched times xs s) (mid : ℕ) (lo : low ≤ mid) (hi : mid < high) (other : getD xs mid 0 ≡ s → ⊥) where
-    pub halving-up : began times (getD xs mid 0) < began times s → Halving xs s (mid + 1) high
+    pub halving-up : discoveryAt (columns times []) (getD xs mid 0) < discoveryAt (columns times []) s → Halving xs s (mid + 1) high
     halving-up lt = record {
       ordered = omega arith;
       within = H .within;
-      before = λ k h e. ⊎-elim (λ (q : k ≡ mid). other (ap (λ (j : ℕ). getD xs j 0) (sym q) ∙ e)) (λ (d : k ≡ mid → ⊥). omega (arith, lt, S .rises k mid (omega (arith, h, d)) (omega (arith, hi, H .within)), ap (began times) e)) (same-or k mid);
+      before = λ k h e. ⊎-elim (λ (q : k ≡ mid). other (ap (λ (j : ℕ). getD xs j 0) (sym q) ∙ e)) (λ (d : k ≡ mid → ⊥). omega (arith, lt, S .rises k mid (omega (arith, h, d)) (omega (arith, hi, H .within)), ap (discoveryAt (columns times [])) e)) (same-or k mid);
       behind = H .behind;
     }
 
-    pub halving-down : began times s ≤ began times (getD xs mid 0) → Halving xs s low mid
+    pub halving-down : discoveryAt (columns times []) s ≤ discoveryAt (columns times []) (getD xs mid 0) → Halving xs s low mid
     halving-down le = record {
       ordered = lo;
       within = omega (arith, hi, H .within);
@@ -235,8 +235,8 @@ module _ {xs : List ℕ} {s low high : ℕ} (H : Halving xs s low high) where
       behind = λ k h l e.
           ⊎-elim
           (λ (q : mid ≡ k). other (ap (λ (j : ℕ). getD xs j 0) q ∙ e))
-          (λ (d : mid ≡ k → ⊥). ⊎-elim (λ (t : began times (getD xs mid 0) ≡ began times s). other (S .alone mid (omega (arith, hi, H .within)) t))
-          (λ (t : began times (getD xs mid 0) ≡ began times s → ⊥). omega (arith, le, t, S .rises mid k (omega (arith, h, d)) l, ap (began times) e)) (same-or (began times (getD xs mid 0)) (began times s)))
+          (λ (d : mid ≡ k → ⊥). ⊎-elim (λ (t : discoveryAt (columns times []) (getD xs mid 0) ≡ discoveryAt (columns times []) s). other (S .alone mid (omega (arith, hi, H .within)) t))
+          (λ (t : discoveryAt (columns times []) (getD xs mid 0) ≡ discoveryAt (columns times []) s → ⊥). omega (arith, le, t, S .rises mid k (omega (arith, h, d)) l, ap (discoveryAt (columns times [])) e)) (same-or (discoveryAt (columns times []) (getD xs mid 0)) (discoveryAt (columns times []) s)))
           (same-or mid k);
     }
 

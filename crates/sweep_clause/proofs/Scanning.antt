@@ -11,9 +11,9 @@ use borrow.Author.Tests.{lt-ltb, le-ltb, eq-eqb, ne-eqb}
 use Rattle.base.proofs.Lists.{getD-mem, drop-step}
 use Rattle.literal.specs.Literals.{twin}
 use Rattle.walk.specs.Walk.{Stamps}
-use Rattle.walk.specs.Forest.{dis, fin, par}
+use Rattle.walk.specs.Forest.{discoveryAt, finishAt, parentAt}
 use Rattle.hidden.specs.Hidden.{passes, scanAt, scan}
-use Rattle.discovery_order.specs.Slots.{Child}
+use Rattle.stamps.specs.Slots.{Child}
 use Rattle.sweep_clause.specs.Stamped.{Stamped, Two, Both}
 
 -- ---- what has stamps can be read
@@ -41,17 +41,17 @@ pub shown-le : {a b d e : ℕ} → d ≡ a → e ≡ b → e ≤ d → ltb a b �
 shown-le {a} {b} p q h = le-ltb a b (omega arith)
 
 module _ (σ : Stamps) (neg pos : ℕ) where
-  pub passes-ends : (two : Bool) → ltb (fin σ neg) (fin σ pos) ≡ true → passes σ two neg pos ≡ true
+  pub passes-ends : (two : Bool) → ltb (finishAt σ neg) (finishAt σ pos) ≡ true → passes σ two neg pos ≡ true
   unfolding passes
-  passes-ends two e = ap (λ (b : Bool). b || (two && (eqb pos (twin neg) || eqb (par σ pos) neg))) e
+  passes-ends two e = ap (λ (b : Bool). b || (two && (eqb pos (twin neg) || eqb (parentAt σ pos) neg))) e
 
-  pub passes-long : (two : Bool) → two ≡ false → ltb (fin σ neg) (fin σ pos) ≡ false → passes σ two neg pos ≡ false
+  pub passes-long : (two : Bool) → two ≡ false → ltb (finishAt σ neg) (finishAt σ pos) ≡ false → passes σ two neg pos ≡ false
   unfolding passes
-  passes-long two t e = (λ i. e i || (t i && (eqb pos (twin neg) || eqb (par σ pos) neg)))
+  passes-long two t e = (λ i. e i || (t i && (eqb pos (twin neg) || eqb (parentAt σ pos) neg)))
 
-  pub passes-pair : (two : Bool) → two ≡ true → ltb (fin σ neg) (fin σ pos) ≡ false → passes σ two neg pos ≡ (eqb pos (twin neg) || eqb (par σ pos) neg)
+  pub passes-pair : (two : Bool) → two ≡ true → ltb (finishAt σ neg) (finishAt σ pos) ≡ false → passes σ two neg pos ≡ (eqb pos (twin neg) || eqb (parentAt σ pos) neg)
   unfolding passes
-  passes-pair two t e = (λ i. e i || (t i && (eqb pos (twin neg) || eqb (par σ pos) neg)))
+  passes-pair two t e = (λ i. e i || (t i && (eqb pos (twin neg) || eqb (parentAt σ pos) neg)))
 
 -- ---- the steps
 
@@ -68,15 +68,15 @@ module _ (σ : Stamps) (two : Bool) where
   scan-empty (p ∷ ps) ns e = absurd (omega arith)
 
   module _ (p n : ℕ) (ps ns : List ℕ) where
-    pub scan-next-pos : ltb (dis σ p) (dis σ n) ≡ true → scan σ two (p ∷ ps) (n ∷ ns) ≡ scan σ two ps (n ∷ ns)
+    pub scan-next-pos : ltb (discoveryAt σ p) (discoveryAt σ n) ≡ true → scan σ two (p ∷ ps) (n ∷ ns) ≡ scan σ two ps (n ∷ ns)
     unfolding scan scanAt
     scan-next-pos e = rw (e, scanAt)
 
-    pub scan-next-neg : ltb (dis σ p) (dis σ n) ≡ false → passes σ two n p ≡ true → scan σ two (p ∷ ps) (n ∷ ns) ≡ scan σ two (p ∷ ps) ns
+    pub scan-next-neg : ltb (discoveryAt σ p) (discoveryAt σ n) ≡ false → passes σ two n p ≡ true → scan σ two (p ∷ ps) (n ∷ ns) ≡ scan σ two (p ∷ ps) ns
     unfolding scan scanAt
     scan-next-neg e h = rw (e, h, scanAt)
 
-    pub scan-yes : ltb (dis σ p) (dis σ n) ≡ false → passes σ two n p ≡ false → scan σ two (p ∷ ps) (n ∷ ns) ≡ true
+    pub scan-yes : ltb (discoveryAt σ p) (discoveryAt σ n) ≡ false → passes σ two n p ≡ false → scan σ two (p ∷ ps) (n ∷ ns) ≡ true
     unfolding scan scanAt
     scan-yes e h = rw (e, h, scanAt)
 
@@ -103,26 +103,26 @@ module _ {σ : Stamps} {two : Bool} {ps ns : List ℕ} {i j : ℕ} (S : Scanning
     again : (xs : List ℕ) (k : ℕ) → k < length xs → getD xs k 0 ∷ drop (k + 1) xs ≡ drop k xs
     again xs k lt = sym (drop-step xs k lt)
 
-    pub scanning-next-pos : ltb (dis σ (getD ps i 0)) (dis σ (getD ns j 0)) ≡ true → Scanning σ two ps ns (i + 1) j
+    pub scanning-next-pos : ltb (discoveryAt σ (getD ps i 0)) (discoveryAt σ (getD ns j 0)) ≡ true → Scanning σ two ps ns (i + 1) j
     scanning-next-pos e = record {
       one = omega arith;
       other = S .other;
       left = sym (heads ∙ scan-next-pos σ two (getD ps i 0) (getD ns j 0) (drop (i + 1) ps) (drop (j + 1) ns) e ∙ ap (scan σ two (drop (i + 1) ps)) (again ns j ln));
     }
 
-    pub scanning-next-neg : ltb (dis σ (getD ps i 0)) (dis σ (getD ns j 0)) ≡ false → passes σ two (getD ns j 0) (getD ps i 0) ≡ true → Scanning σ two ps ns i (j + 1)
+    pub scanning-next-neg : ltb (discoveryAt σ (getD ps i 0)) (discoveryAt σ (getD ns j 0)) ≡ false → passes σ two (getD ns j 0) (getD ps i 0) ≡ true → Scanning σ two ps ns i (j + 1)
     scanning-next-neg e h = record {
       one = S .one;
       other = omega arith;
       left = sym (heads ∙ scan-next-neg σ two (getD ps i 0) (getD ns j 0) (drop (i + 1) ps) (drop (j + 1) ns) e h ∙ ap (λ (l : List ℕ). scan σ two l (drop (j + 1) ns)) (again ps i lp));
     }
 
-    pub scanning-yes : ltb (dis σ (getD ps i 0)) (dis σ (getD ns j 0)) ≡ false → passes σ two (getD ns j 0) (getD ps i 0) ≡ false → scan σ two ps ns ≡ true
+    pub scanning-yes : ltb (discoveryAt σ (getD ps i 0)) (discoveryAt σ (getD ns j 0)) ≡ false → passes σ two (getD ns j 0) (getD ps i 0) ≡ false → scan σ two ps ns ≡ true
     scanning-yes e h = heads ∙ scan-yes σ two (getD ps i 0) (getD ns j 0) (drop (i + 1) ps) (drop (j + 1) ns) e h
 
 -- ---- what the code of line 7 has shown
 
-module _ (σ : Stamps) (two : Bool) (neg pos a b : ℕ) (ends : a ≡ fin σ neg) (end : b ≡ fin σ pos) where
+module _ (σ : Stamps) (two : Bool) (neg pos a b : ℕ) (ends : a ≡ finishAt σ neg) (end : b ≡ finishAt σ pos) where
   pub line7-ends : a < b → true ≡ passes σ two neg pos
   line7-ends h = sym (passes-ends σ neg pos two (shown-lt ends end h))
 
@@ -130,9 +130,9 @@ module _ (σ : Stamps) (two : Bool) (neg pos a b : ℕ) (ends : a ≡ fin σ neg
   line7-long h t = sym (passes-long σ neg pos two t (shown-le ends end h))
 
   pub line7-twin : (x : ℕ) → b ≤ a → two ≡ true → x ≡ twin neg → pos ≡ x → true ≡ passes σ two neg pos
-  line7-twin x h t e p = sym (passes-pair σ neg pos two t (shown-le ends end h) ∙ ap (λ (y : Bool). y || eqb (par σ pos) neg) (eq-eqb pos (twin neg) (p ∙ e)))
+  line7-twin x h t e p = sym (passes-pair σ neg pos two t (shown-le ends end h) ∙ ap (λ (y : Bool). y || eqb (parentAt σ pos) neg) (eq-eqb pos (twin neg) (p ∙ e)))
 
-  pub line7-parent : (x y : ℕ) → b ≤ a → two ≡ true → x ≡ twin neg → (pos ≡ x → ⊥) → y ≡ par σ pos → eqb y neg ≡ passes σ two neg pos
+  pub line7-parent : (x y : ℕ) → b ≤ a → two ≡ true → x ≡ twin neg → (pos ≡ x → ⊥) → y ≡ parentAt σ pos → eqb y neg ≡ passes σ two neg pos
   line7-parent x y h t e p q =
       ap (λ (z : ℕ). eqb z neg) q
-      ∙ sym (passes-pair σ neg pos two t (shown-le ends end h) ∙ ap (λ (z : Bool). z || eqb (par σ pos) neg) (ne-eqb pos (twin neg) (λ k. p (k ∙ sym e))))
+      ∙ sym (passes-pair σ neg pos two t (shown-le ends end h) ∙ ap (λ (z : Bool). z || eqb (parentAt σ pos) neg) (ne-eqb pos (twin neg) (λ k. p (k ∙ sym e))))

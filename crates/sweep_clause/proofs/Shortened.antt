@@ -16,12 +16,12 @@ use Rattle.literal.specs.Literals.{Literal, slotOf, twin}
 use Rattle.literal.proofs.Laws.{slot-below, slot-twin}
 use Rattle.literal.proofs.Twins.{twin-below}
 use Rattle.walk.specs.Walk.{Stamps}
-use Rattle.walk.specs.Forest.{dis, fin, Parted}
+use Rattle.walk.specs.Forest.{discoveryAt, finishAt, Parted}
 use Rattle.stamps.specs.Columns.{columns}
 use Rattle.hidden.specs.Hidden.{byDiscovery, shorten}
 use Rattle.hidden.proofs.Intervals.{Nested, Within}
 use Rattle.hidden.proofs.Sorted.{Rising, sorted-out, sorted-rising}
-use Rattle.discovery_order.specs.Slots.{Slots}
+use Rattle.stamps.specs.Slots.{Slots}
 use Rattle.discovery_order.proofs.Sorting.{length-sorted}
 use Rattle.sweep_clause.specs.Stamped.{Lits, Sorted, Inside, Clause}
 use Rattle.sweep_clause.specs.Figures.{least, inner, outer, keptBy}
@@ -62,14 +62,14 @@ filter-rising σ p (x ∷ xs) r = go (filter-rising σ p xs (r .1)) (p x)
     go rest true = (λ y m. r .0 y (mem-filter p xs m), rest)
     go rest false = rest
 
-rising-at : (σ : Stamps) (xs : List ℕ) → Rising σ xs → (j k : ℕ) → j < k → k < length xs → dis σ (getD xs j 0) ≤ dis σ (getD xs k 0)
+rising-at : (σ : Stamps) (xs : List ℕ) → Rising σ xs → (j k : ℕ) → j < k → k < length xs → discoveryAt σ (getD xs j 0) ≤ discoveryAt σ (getD xs k 0)
 rising-at σ [] r j k lt h = absurd (omega arith)
 rising-at σ (x ∷ xs) r j zero lt h = absurd (omega arith)
 rising-at σ (x ∷ xs) r zero (suc k) lt h = r .0 (getD xs k 0) (getD-mem xs k 0 (omega arith))
 rising-at σ (x ∷ xs) r (suc j) (suc k) lt h = rising-at σ xs (r .1) j k (omega arith) (omega arith)
 
 -- slots that are discovered together are one
-same-discovery : (size : ℕ) (σ : Stamps) → Nested size σ → (a b : ℕ) → a < size → b < size → dis σ a ≡ dis σ b → a ≡ b
+same-discovery : (size : ℕ) (σ : Stamps) → Nested size σ → (a b : ℕ) → a < size → b < size → discoveryAt σ a ≡ discoveryAt σ b → a ≡ b
 same-discovery size σ N a b la lb e = ⊎-elim (λ q. q) (λ d. absurd (go (N .parted a b la lb d))) (same-or a b)
   where
     go : Parted σ a b → ⊥
@@ -83,7 +83,7 @@ same-discovery size σ N a b la lb e = ⊎-elim (λ q. q) (λ d. absurd (go (N .
 inner-shorter : (σ : Stamps) (xs : List ℕ) → length (inner σ xs) ≤ length xs
 unfolding inner
 inner-shorter σ [] = omega arith
-inner-shorter σ (x ∷ xs) = go (ltb (least σ xs) (fin σ x)) (inner-shorter σ xs)
+inner-shorter σ (x ∷ xs) = go (ltb (least σ xs) (finishAt σ x)) (inner-shorter σ xs)
   where
     go : (b : Bool) → length (inner σ xs) ≤ length xs → length {A = ℕ} (elim b [ true ↦ inner σ xs | false ↦ x ∷ inner σ xs ]) ≤ suc (length xs)
     go true h = omega arith
@@ -103,7 +103,7 @@ module _ {times : List ℕ} {C : List ℤ} (K : Clause times C) where
       let h = subst (λ (x : ℕ). x < 2 * K .vars) (r .2) (slot-below (r .0) (K .vars) (L .above) (L .within)) in
       (h, twin-below (K .vars) s h)
 
-  clause-small : (q : ℕ) → q < 2 * K .vars → fin (columns times []) q ≤ 4294967295
+  clause-small : (q : ℕ) → q < 2 * K .vars → finishAt (columns times []) q ≤ 4294967295
   clause-small q lt = omega (arith, K .small q lt)
 
   pub clause-lits : Lits C

@@ -13,7 +13,7 @@ use Rattle.literal.specs.Literals.{slotOf, twin}
 use Rattle.literal.proofs.Laws.{slot-twin}
 use Rattle.literal.proofs.Twins.{twin-eq}
 use Rattle.walk.specs.Walk.{Stamps}
-use Rattle.walk.specs.Forest.{fin}
+use Rattle.walk.specs.Forest.{finishAt}
 use Rattle.hidden.specs.Hidden.{holds, byDiscovery, unhidden, shorten}
 use Rattle.hidden.proofs.Intervals.{Nested, Within, Below}
 use Rattle.hidden.proofs.Sorted.{sorted-in, sorted-out, sorted-rising}
@@ -56,7 +56,7 @@ innerSlots σ C = inner σ (byDiscovery σ (map slotOf C))
 abbrev pub outerTwins : Stamps → List ℤ → List ℕ
 outerTwins σ C = outer σ 0 (byDiscovery σ (map twin (innerSlots σ C)))
 
-module _ (size : ℕ) (σ : Stamps) (N : Nested size σ) (C : List ℤ) (w : Within size (map slotOf C)) (small : (q : ℕ) → q < size → fin σ q ≤ 4294967295) where
+module _ (size : ℕ) (σ : Stamps) (N : Nested size σ) (C : List ℤ) (w : Within size (map slotOf C)) (small : (q : ℕ) → q < size → finishAt σ q ≤ 4294967295) where
   pub sorted-below : Below size (byDiscovery σ (map slotOf C))
   sorted-below x m = w x (sorted-out σ (map slotOf C) m) .0
 

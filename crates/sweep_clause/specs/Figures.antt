@@ -7,22 +7,22 @@ use lib.IntN.{ℤ, negℤ}
 use Rattle.base.specs.Lists.{any, filter}
 use Rattle.literal.specs.Literals.{slotOf}
 use Rattle.walk.specs.Walk.{Stamps}
-use Rattle.walk.specs.Forest.{fin}
+use Rattle.walk.specs.Forest.{finishAt}
 
 -- the least finish in the list, or the largest 32-bit number
 unfoldable pub least : Stamps → List ℕ → ℕ
 least σ [] = 4294967295
-least σ (x ∷ xs) = elim (ltb (least σ xs) (fin σ x)) [ true ↦ least σ xs | false ↦ fin σ x ]
+least σ (x ∷ xs) = elim (ltb (least σ xs) (finishAt σ x)) [ true ↦ least σ xs | false ↦ finishAt σ x ]
 
 -- lines 1 to 4, from the last to the first: a slot that ends after one behind it goes
 unfoldable pub inner : Stamps → List ℕ → List ℕ
 inner σ [] = []
-inner σ (x ∷ xs) = elim (ltb (least σ xs) (fin σ x)) [ true ↦ inner σ xs | false ↦ x ∷ inner σ xs ]
+inner σ (x ∷ xs) = elim (ltb (least σ xs) (finishAt σ x)) [ true ↦ inner σ xs | false ↦ x ∷ inner σ xs ]
 
 -- lines 5 to 8, from the first to the last: a slot that ends before one in front of it goes
 unfoldable pub outer : Stamps → ℕ → List ℕ → List ℕ
 outer σ finished [] = []
-outer σ finished (x ∷ xs) = elim (ltb (fin σ x) finished) [ true ↦ outer σ finished xs | false ↦ x ∷ outer σ (fin σ x) xs ]
+outer σ finished (x ∷ xs) = elim (ltb (finishAt σ x) finished) [ true ↦ outer σ finished xs | false ↦ x ∷ outer σ (finishAt σ x) xs ]
 
 -- s is in the list
 abbrev pub among : ℕ → List ℕ → Bool

@@ -5,8 +5,9 @@ use mathlib.Core.List.{List, [], List·Memᴰ}
 use lib.ListN.{length, getD}
 use lib.IntN.{ℤ, pos, negℤ}
 use Rattle.literal.specs.Literals.{Literal, slotOf}
+use Rattle.walk.specs.Forest.{discoveryAt, finishAt}
 use Rattle.stamps.specs.Fresh.{FreshStamps}
-use Rattle.discovery_order.specs.Slots.{began, ended, Slots}
+use Rattle.stamps.specs.Slots.{Slots}
 use Rattle.stamps.specs.Columns.{columns}
 use Rattle.hidden.proofs.Intervals.{Nested}
 
@@ -33,8 +34,8 @@ pub record Both (times : List ℕ) (links : List ℤ) (xs ys : List ℕ) : Type 
 
 -- discoveries never fall along the list, and one that is discovered with s is s
 pub record Searched (times xs : List ℕ) (s : ℕ) : Type 0 where
-  pub rises : (j k : ℕ) → j < k → k < length xs → began times (getD xs j 0) ≤ began times (getD xs k 0)
-  pub alone : (k : ℕ) → k < length xs → began times (getD xs k 0) ≡ began times s → getD xs k 0 ≡ s
+  pub rises : (j k : ℕ) → j < k → k < length xs → discoveryAt (columns times []) (getD xs j 0) ≤ discoveryAt (columns times []) (getD xs k 0)
+  pub alone : (k : ℕ) → k < length xs → discoveryAt (columns times []) (getD xs k 0) ≡ discoveryAt (columns times []) s → getD xs k 0 ≡ s
 
 -- literals, each of one of 1,024 variables
 pub record Lits (C : List ℤ) : Type 0 where
@@ -60,7 +61,7 @@ pub record Clause (times : List ℕ) (C : List ℤ) : Type 0 where
   pub few : vars ≤ 1024
   pub long : 4096 ≤ length times
   pub nested : Nested (2 * vars) (columns times [])
-  pub small : (q : ℕ) → q < 2 * vars → ended times q ≤ 4096
+  pub small : (q : ℕ) → q < 2 * vars → finishAt (columns times []) q ≤ 4096
   pub each : (k : ℕ) → k < length C → Literal vars (getD C k (pos 0))
 
 -- literals of a clause, all with fresh stamps

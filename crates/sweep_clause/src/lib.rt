@@ -9,7 +9,7 @@ ghost use Rattle.stamps.specs.Columns.{columns};
 ghost use Rattle.hidden.specs.Hidden.{byDiscovery, passes, scan, hiddenTautology, shorten};
 ghost use Rattle.sweep_clause.specs.Stamped.{Two, Both, Searched, Lits, Sorted, Inside, Clause, Judged};
 ghost use Rattle.sweep_clause.specs.Figures.{inner, outer, among, keptBy};
-ghost use Rattle.discovery_order.specs.Slots.{Slots};
+ghost use Rattle.stamps.specs.Slots.{Slots};
 
 // ---- figure 6
 
@@ -18,7 +18,7 @@ fn passes(times: &[u32], links: &[i32], two: bool, neg: u32, pos: u32) -> bool
     requires { ⌜ Two (now times) (now links) neg pos ⌝ }
     ensures { λ r. ⌜ r ≡ passes (columns (now (times .entry)) (now (links .entry))) two neg pos ⌝ }
 {
-    if discovery_order::finish(times, neg) < discovery_order::finish(times, pos) {
+    if stamps::finish(times, neg) < stamps::finish(times, pos) {
         return true;
     }
     if !two {
@@ -27,7 +27,7 @@ fn passes(times: &[u32], links: &[i32], two: bool, neg: u32, pos: u32) -> bool
     if pos == literal::twin_of(neg) {
         return true;
     }
-    discovery_order::parent(links, pos) == neg
+    stamps::parent(links, pos) == neg
 }
 
 // The scan, over the sorted literals and the sorted complements: it stops with its verdict.
@@ -46,7 +46,7 @@ fn scan(times: &[u32], links: &[i32], two: bool, pos: &[u32], neg: &[u32]) -> bo
         }
         let p = pos[i];
         let q = neg[j];
-        if discovery_order::discovery(times, p) < discovery_order::discovery(times, q) {
+        if stamps::discovery(times, p) < stamps::discovery(times, q) {
             i += 1;
         } else {
             if !passes(times, links, two, q, p) {
@@ -116,7 +116,7 @@ fn keep_inner(slots: &mut [u32], times: &[u32]) -> usize
     while 0 < i {
         i -= 1;
         let x = slots[i];
-        let f = discovery_order::finish(times, x);
+        let f = stamps::finish(times, x);
         if f <= finished {
             n -= 1;
             slots[n] = x;
@@ -136,7 +136,7 @@ fn keep_outer(slots: &mut [u32], times: &[u32]) -> usize
     let mut i = 0;
     while i < slots.len() {
         let x = slots[i];
-        let f = discovery_order::finish(times, x);
+        let f = stamps::finish(times, x);
         i += 1;
         if finished <= f {
             slots[n] = x;
@@ -152,7 +152,7 @@ fn has_slot(slots: &[u32], times: &[u32], s: u32) -> bool
     requires { ⌜ Slots (now times) (now slots) × (2 * s + 1 < length (now times)) × Searched (now times) (now slots) s ⌝ }
     ensures { λ r. ⌜ r ≡ among s (now (slots .entry)) ⌝ }
 {
-    let d = discovery_order::discovery(times, s);
+    let d = stamps::discovery(times, s);
     let mut low = 0;
     let mut high = slots.len();
     while low < high {
@@ -161,7 +161,7 @@ fn has_slot(slots: &[u32], times: &[u32], s: u32) -> bool
         if m == s {
             return true;
         }
-        if discovery_order::discovery(times, m) < d {
+        if stamps::discovery(times, m) < d {
             low = mid + 1;
         } else {
             high = mid;

@@ -87,20 +87,29 @@ pub fn find_components(
     to: &mut [u32],
     offsets: &mut [u32],
     targets: &mut [u32],
-    disc: &mut [u32],
-    fin: &mut [u32],
-    par: &mut [u32],
-    top: &mut [u32],
+    discoveries: &mut [u32],
+    finishes: &mut [u32],
+    parents: &mut [u32],
+    starts: &mut [u32],
     order: &mut [u32],
     rep: &mut [u32],
 )
     requires { ⌜ Room v n (now clauses) (now literals) (now from) (now to) (now offsets) (now targets) ⌝ }
-    requires { ⌜ Scratch v (now disc) (now fin) (now par) (now top) (now order) (now rep) ⌝ }
+    requires { ⌜ Scratch v (now discoveries) (now finishes) (now parents) (now starts) (now order) (now rep) ⌝ }
     ensures { λ _. ⌜ ((s : ℕ) → s < 2 * v →
         getD (now (rep .exit)) s 0 ≡ leastMutual (implications (slotsFrom (now (clauses .entry)) (now (literals .entry)) n 0)) (2 * v) s) ⌝ }
 {
     let k = build_graph(v, n, clauses, literals, from, to, offsets, targets);
-    scc::groups(offsets, &targets[..k], disc, fin, par, top, order, rep);
+    scc::groups(
+        offsets,
+        &targets[..k],
+        discoveries,
+        finishes,
+        parents,
+        starts,
+        order,
+        rep,
+    );
 }
 
 // The same with scratch of its own: `rep` has a place for each slot of the v variables.
@@ -116,10 +125,10 @@ pub fn representatives(v: usize, n: usize, clauses: &[u32], literals: &[i32], re
     let mut to = [0u32; 8192];
     let mut offsets = [0u32; 2049];
     let mut targets = [0u32; 8192];
-    let mut disc = [0u32; 2048];
-    let mut fin = [0u32; 2048];
-    let mut par = [0u32; 2048];
-    let mut top = [0u32; 2048];
+    let mut discoveries = [0u32; 2048];
+    let mut finishes = [0u32; 2048];
+    let mut parents = [0u32; 2048];
+    let mut starts = [0u32; 2048];
     let mut order = [0u32; 2048];
     find_components(
         v,
@@ -130,10 +139,10 @@ pub fn representatives(v: usize, n: usize, clauses: &[u32], literals: &[i32], re
         &mut to,
         &mut offsets[..ends],
         &mut targets,
-        &mut disc[..slots],
-        &mut fin[..slots],
-        &mut par[..slots],
-        &mut top[..slots],
+        &mut discoveries[..slots],
+        &mut finishes[..slots],
+        &mut parents[..slots],
+        &mut starts[..slots],
         &mut order[..slots],
         rep,
     );

@@ -7,7 +7,7 @@ use mathlib.Core.Path.{_≡_, refl, sym, ap, subst, _∙_}
 use mathlib.Core.List.{List, [], _∷_, _++_, append-nil, List·Memᴰ}
 use lib.ListN.{length, drop, replicate, length-replicate}
 use Rattle.base.proofs.Lists.{drop-done}
-use Rattle.walk.specs.Walk.{Stamps, edge, edges, starts, fresh}
+use Rattle.walk.specs.Walk.{Stamps, edge, edges, startWalk, fresh}
 use Rattle.walk.specs.Ready.{Graph, Columns, adjOf, stamps}
 use Rattle.walk.proofs.Run.{Less, less-refl, columns-less, edge-cases, edges-less, enters-less, graph-inside}
 
@@ -33,8 +33,8 @@ fresh-le (suc k ∷ l) = omega (arith, fresh-le l)
 
 pub record Starting (offsets targets rest whole : List ℕ) (size : ℕ) (σ₀ σ : Stamps) : Type 0 where
   pub cols : Columns size σ
-  pub fewer : fresh (σ .disc) ≤ fresh (σ₀ .disc)
-  pub same : (n : ℕ) → fresh (σ₀ .disc) ≤ n → edges (starts n (adjOf offsets targets)) rest σ ≡ edges (starts n (adjOf offsets targets)) whole σ₀
+  pub fewer : fresh (σ .discoveries) ≤ fresh (σ₀ .discoveries)
+  pub same : (n : ℕ) → fresh (σ₀ .discoveries) ≤ n → edges (startWalk n (adjOf offsets targets)) rest σ ≡ edges (startWalk n (adjOf offsets targets)) whole σ₀
 
 pub starting-none : (offsets targets whole : List ℕ) (size : ℕ) (σ : Stamps) → Columns size σ → Starting offsets targets whole whole size σ σ
 starting-none offsets targets whole size σ c = record { cols = c; fewer = le-refl _; same = λ n le. refl }
@@ -42,26 +42,26 @@ starting-none offsets targets whole size σ c = record { cols = c; fewer = le-re
 pub starting-as : (offsets targets rest rest′ whole : List ℕ) (size : ℕ) (σ₀ σ : Stamps) → rest ≡ rest′ → Starting offsets targets rest whole size σ₀ σ → Starting offsets targets rest′ whole size σ₀ σ
 starting-as offsets targets rest rest′ whole size σ₀ σ e s = subst (λ (l : List ℕ). Starting offsets targets l whole size σ₀ σ) e s
 
-pub start-less : (offsets targets : List ℕ) (size n q : ℕ) (σ : Stamps) → Graph offsets targets size → length (σ .disc) ≡ size → q < size → Less σ (edge (starts n (adjOf offsets targets)) q σ)
-unfolding starts
+pub start-less : (offsets targets : List ℕ) (size n q : ℕ) (σ : Stamps) → Graph offsets targets size → length (σ .discoveries) ≡ size → q < size → Less σ (edge (startWalk n (adjOf offsets targets)) q σ)
+unfolding startWalk
 start-less offsets targets size n q σ g len lt =
-    edge-cases (Less σ) (starts n (adjOf offsets targets)) q σ (λ e. enters-less (adjOf offsets targets) size (graph-inside offsets targets size g) n q q q σ len lt e) (less-refl σ)
+    edge-cases (Less σ) (startWalk n (adjOf offsets targets)) q σ (λ e. enters-less (adjOf offsets targets) size (graph-inside offsets targets size g) n q q q σ len lt e) (less-refl σ)
 
 pub starting-step : (offsets targets rest whole : List ℕ) (size q : ℕ) (σ₀ σ σ′ : Stamps) → Graph offsets targets size → q < size
     → Starting offsets targets (q ∷ rest) whole size σ₀ σ
-    → ((n : ℕ) → fresh (σ .disc) ≤ n → σ′ ≡ edge (starts n (adjOf offsets targets)) q σ)
+    → ((n : ℕ) → fresh (σ .discoveries) ≤ n → σ′ ≡ edge (startWalk n (adjOf offsets targets)) q σ)
     → Starting offsets targets rest whole size σ₀ σ′
 unfolding edges
 starting-step offsets targets rest whole size q σ₀ σ σ′ g lt s one =
-    let next : Less σ σ′ = subst (Less σ) (sym (one (fresh (σ .disc)) (le-refl _))) (start-less offsets targets size (fresh (σ .disc)) q σ g (s .cols .discs) lt) in
+    let next : Less σ σ′ = subst (Less σ) (sym (one (fresh (σ .discoveries)) (le-refl _))) (start-less offsets targets size (fresh (σ .discoveries)) q σ g (s .cols .discs) lt) in
     record {
       cols = columns-less size σ σ′ next (s .cols);
       fewer = le-trans (next .fewer) (s .fewer);
-      same = λ n le. ap (edges (starts n (adjOf offsets targets)) rest) (one n (le-trans (s .fewer) le)) ∙ s .same n le;
+      same = λ n le. ap (edges (startWalk n (adjOf offsets targets)) rest) (one n (le-trans (s .fewer) le)) ∙ s .same n le;
     }
 
 pub starting-done : (offsets targets whole : List ℕ) (size : ℕ) (σ₀ σ : Stamps) → Starting offsets targets [] whole size σ₀ σ
-    → (n : ℕ) → fresh (σ₀ .disc) ≤ n → σ ≡ edges (starts n (adjOf offsets targets)) whole σ₀
+    → (n : ℕ) → fresh (σ₀ .discoveries) ≤ n → σ ≡ edges (startWalk n (adjOf offsets targets)) whole σ₀
 unfolding edges
 starting-done offsets targets whole size σ₀ σ s n le = s .same n le
 
@@ -75,8 +75,8 @@ begun offsets targets D d f p s e g hf hp hs =
     (len, record { discs = len; fins = hf; pars = hp; starts = hs; room = omega (arith, g .small, ap fresh e, fresh-all (length d)) })
 
 pub starts-columns : (offsets targets l : List ℕ) (size n : ℕ) (σ σ′ : Stamps) → Graph offsets targets size → ((q : ℕ) → List·Memᴰ q l → q < size) → Columns size σ
-    → σ′ ≡ edges (starts n (adjOf offsets targets)) l σ → Columns size σ′
-unfolding starts
+    → σ′ ≡ edges (startWalk n (adjOf offsets targets)) l σ → Columns size σ′
+unfolding startWalk
 starts-columns offsets targets l size n σ σ′ g all c e =
     let inside = graph-inside offsets targets size g in
-    columns-less size σ σ′ (subst (Less σ) (sym e) (edges-less (adjOf offsets targets) size inside (starts n (adjOf offsets targets)) (λ q τ len k f. enters-less (adjOf offsets targets) size inside n q q q τ len k f) l all σ (c .discs))) c
+    columns-less size σ σ′ (subst (Less σ) (sym e) (edges-less (adjOf offsets targets) size inside (startWalk n (adjOf offsets targets)) (λ q τ len k f. enters-less (adjOf offsets targets) size inside n q q q τ len k f) l all σ (c .discs))) c

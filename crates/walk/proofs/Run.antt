@@ -14,24 +14,24 @@ use Rattle.walk.specs.Ready.{Graph, Columns, adjOf, stamps}
 
 -- ---- one step
 
-pub edge-new : (visit : ℕ → Stamps → Stamps) (q : ℕ) (σ : Stamps) → getD (σ .disc) q 0 ≡ 0 → edge visit q σ ≡ visit q σ
+pub edge-new : (visit : ℕ → Stamps → Stamps) (q : ℕ) (σ : Stamps) → getD (σ .discoveries) q 0 ≡ 0 → edge visit q σ ≡ visit q σ
 unfolding edge
 edge-new visit q σ e = rw (e, edge)
 
-pub edge-old : (visit : ℕ → Stamps → Stamps) (q : ℕ) (σ : Stamps) → (getD (σ .disc) q 0 ≡ 0 → ⊥) → edge visit q σ ≡ σ
+pub edge-old : (visit : ℕ → Stamps → Stamps) (q : ℕ) (σ : Stamps) → (getD (σ .discoveries) q 0 ≡ 0 → ⊥) → edge visit q σ ≡ σ
 unfolding edge
-edge-old visit q σ old = go (getD (σ .disc) q 0) refl
+edge-old visit q σ old = go (getD (σ .discoveries) q 0) refl
   where
-    go : (k : ℕ) → getD (σ .disc) q 0 ≡ k → edge visit q σ ≡ σ
+    go : (k : ℕ) → getD (σ .discoveries) q 0 ≡ k → edge visit q σ ≡ σ
     go zero e = absurd (old e)
     go (suc k) e = rw (e, edge)
 
 -- what holds of q's edge whether or not q was entered
-pub edge-cases : (P : Stamps → Type 0) (visit : ℕ → Stamps → Stamps) (q : ℕ) (σ : Stamps) → (getD (σ .disc) q 0 ≡ 0 → P (visit q σ)) → P σ → P (edge visit q σ)
+pub edge-cases : (P : Stamps → Type 0) (visit : ℕ → Stamps → Stamps) (q : ℕ) (σ : Stamps) → (getD (σ .discoveries) q 0 ≡ 0 → P (visit q σ)) → P σ → P (edge visit q σ)
 unfolding edge
-edge-cases P visit q σ new old = go (getD (σ .disc) q 0) refl
+edge-cases P visit q σ new old = go (getD (σ .discoveries) q 0) refl
   where
-    go : (k : ℕ) → getD (σ .disc) q 0 ≡ k → P (edge visit q σ)
+    go : (k : ℕ) → getD (σ .discoveries) q 0 ≡ k → P (edge visit q σ)
     go zero e = subst P (sym (edge-new visit q σ e)) (new e)
     go (suc k) e = subst P (sym (edge-old visit q σ (λ z. absurd (let o : _≡_ {A = ℕ} 0 1 = omega arith in omega arith)))) old
 
@@ -48,12 +48,12 @@ fresh-set (suc k ∷ ds) (suc s) v lt e = fresh-set ds s v (le-of-suc-le-suc lt)
 -- ---- what every walk keeps
 
 pub record Less (σ σ′ : Stamps) : Type 0 where
-  pub discs : length (σ′ .disc) ≡ length (σ .disc)
-  pub fins : length (σ′ .fin) ≡ length (σ .fin)
-  pub pars : length (σ′ .par) ≡ length (σ .par)
-  pub starts : length (σ′ .start) ≡ length (σ .start)
-  pub fewer : fresh (σ′ .disc) ≤ fresh (σ .disc)
-  pub spent : σ′ .time + 2 * fresh (σ′ .disc) ≡ σ .time + 2 * fresh (σ .disc)
+  pub discs : length (σ′ .discoveries) ≡ length (σ .discoveries)
+  pub fins : length (σ′ .finishes) ≡ length (σ .finishes)
+  pub pars : length (σ′ .parents) ≡ length (σ .parents)
+  pub starts : length (σ′ .starts) ≡ length (σ .starts)
+  pub fewer : fresh (σ′ .discoveries) ≤ fresh (σ .discoveries)
+  pub spent : σ′ .time + 2 * fresh (σ′ .discoveries) ≡ σ .time + 2 * fresh (σ .discoveries)
 
 pub less-refl : (σ : Stamps) → Less σ σ
 less-refl σ = record { discs = refl; fins = refl; pars = refl; starts = refl; fewer = le-refl _; spent = refl }
@@ -72,8 +72,8 @@ less-trans σ σ′ σ″ a b =
 module _ (adj : ℕ → List ℕ) (size : ℕ) (inside : (s q : ℕ) → s < size → List·Memᴰ q (adj s) → q < size) where
   pub edges-less :
       (visit : ℕ → Stamps → Stamps)
-      → ((q : ℕ) (σ : Stamps) → length (σ .disc) ≡ size → q < size → getD (σ .disc) q 0 ≡ 0 → Less σ (visit q σ))
-      → (qs : List ℕ) → ((q : ℕ) → List·Memᴰ q qs → q < size) → (σ : Stamps) → length (σ .disc) ≡ size → Less σ (edges visit qs σ)
+      → ((q : ℕ) (σ : Stamps) → length (σ .discoveries) ≡ size → q < size → getD (σ .discoveries) q 0 ≡ 0 → Less σ (visit q σ))
+      → (qs : List ℕ) → ((q : ℕ) → List·Memᴰ q qs → q < size) → (σ : Stamps) → length (σ .discoveries) ≡ size → Less σ (edges visit qs σ)
   unfolding edges
   edges-less visit one [] all σ len = less-refl σ
   edges-less visit one (q ∷ qs) all σ len =
@@ -81,29 +81,29 @@ module _ (adj : ℕ → List ℕ) (size : ℕ) (inside : (s q : ℕ) → s < siz
       less-trans σ (edge visit q σ) _ first (edges-less visit one qs (λ k m. all k (List·Memᴰ·tail m)) (edge visit q σ) (first .discs ∙ len))
 
   pub enters-less :
-      (n r p s : ℕ) (σ : Stamps) → length (σ .disc) ≡ size → s < size → getD (σ .disc) s 0 ≡ 0 → Less σ (enters n adj r p s σ)
+      (n r p s : ℕ) (σ : Stamps) → length (σ .discoveries) ≡ size → s < size → getD (σ .discoveries) s 0 ≡ 0 → Less σ (enters n adj r p s σ)
   unfolding enters arrive leave
   enters-less zero r p s σ len lt e = less-refl σ
   enters-less (suc n) r p s σ len lt e =
       let α : Stamps = arrive r p s σ in
       let ω : Stamps = edges (λ q. enters n adj r s q) (adj s) α in
-      let walk : Less α ω = edges-less (λ q. enters n adj r s q) (λ q τ l k f. enters-less n r s q τ l k f) (adj s) (λ q m. inside s q lt m) α (length-set (σ .disc) s (σ .time + 1) ∙ len) in
-      let one = fresh-set (σ .disc) s (σ .time) (subst (λ (k : ℕ). s < k) (sym len) lt) e in
+      let walk : Less α ω = edges-less (λ q. enters n adj r s q) (λ q τ l k f. enters-less n r s q τ l k f) (adj s) (λ q m. inside s q lt m) α (length-set (σ .discoveries) s (σ .time + 1) ∙ len) in
+      let one = fresh-set (σ .discoveries) s (σ .time) (subst (λ (k : ℕ). s < k) (sym len) lt) e in
       record {
-        discs = walk .discs ∙ length-set (σ .disc) s (σ .time + 1);
-        fins = length-set (ω .fin) s (ω .time + 1) ∙ walk .fins;
-        pars = walk .pars ∙ length-set (σ .par) s p;
-        starts = walk .starts ∙ length-set (σ .start) s r;
+        discs = walk .discs ∙ length-set (σ .discoveries) s (σ .time + 1);
+        fins = length-set (ω .finishes) s (ω .time + 1) ∙ walk .fins;
+        pars = walk .pars ∙ length-set (σ .parents) s p;
+        starts = walk .starts ∙ length-set (σ .starts) s r;
         fewer = omega (arith, walk .fewer, one);
         spent = omega (arith, walk .spent, one);
       }
 
 -- with any depth that is at least the number of fresh slots, there is one more step
-pub enters-step : (n : ℕ) (adj : ℕ → List ℕ) (r p s : ℕ) (σ : Stamps) → s < length (σ .disc) → getD (σ .disc) s 0 ≡ 0 → fresh (σ .disc) ≤ n
-    → (m : ℕ) × (n ≡ suc m) × (fresh (arrive r p s σ .disc) ≤ m) × (enters n adj r p s σ ≡ leave s (edges (λ q. enters m adj r s q) (adj s) (arrive r p s σ)))
+pub enters-step : (n : ℕ) (adj : ℕ → List ℕ) (r p s : ℕ) (σ : Stamps) → s < length (σ .discoveries) → getD (σ .discoveries) s 0 ≡ 0 → fresh (σ .discoveries) ≤ n
+    → (m : ℕ) × (n ≡ suc m) × (fresh (arrive r p s σ .discoveries) ≤ m) × (enters n adj r p s σ ≡ leave s (edges (λ q. enters m adj r s q) (adj s) (arrive r p s σ)))
 unfolding enters arrive
-enters-step zero adj r p s σ lt e le = absurd (omega (arith, fresh-set (σ .disc) s (σ .time) lt e))
-enters-step (suc m) adj r p s σ lt e le = (m, refl, omega (arith, fresh-set (σ .disc) s (σ .time) lt e), refl)
+enters-step zero adj r p s σ lt e le = absurd (omega (arith, fresh-set (σ .discoveries) s (σ .time) lt e))
+enters-step (suc m) adj r p s σ lt e le = (m, refl, omega (arith, fresh-set (σ .discoveries) s (σ .time) lt e), refl)
 
 -- ---- the graph in compressed form
 
@@ -119,8 +119,8 @@ graph-inside offsets targets size g s q lt m = mem-below targets size (g .below)
 pub record Going (offsets targets : List ℕ) (size slot start at₀ end at : ℕ) (σ₀ σ : Stamps) : Type 0 where
   pub within : at ≤ end
   pub cols : Columns size σ
-  pub fewer : fresh (σ .disc) ≤ fresh (σ₀ .disc)
-  pub same : (n : ℕ) → fresh (σ₀ .disc) ≤ n
+  pub fewer : fresh (σ .discoveries) ≤ fresh (σ₀ .discoveries)
+  pub same : (n : ℕ) → fresh (σ₀ .discoveries) ≤ n
       → edges (λ q. enters n (adjOf offsets targets) start slot q) (slice at end targets) σ ≡ edges (λ q. enters n (adjOf offsets targets) start slot q) (slice at₀ end targets) σ₀
 
 pub columns-less : (size : ℕ) (σ σ′ : Stamps) → Less σ σ′ → Columns size σ → Columns size σ′
@@ -172,15 +172,15 @@ finished adj n slot parent start t r d f p s d′ f′ p′ s′ lt e le walk =
 -- one turn of the loop
 pub going-step : (offsets targets : List ℕ) (size slot start at₀ end at : ℕ) (σ₀ σ σ′ : Stamps) → Graph offsets targets size → slot < size → end ≤ length targets → at < end
     → Going offsets targets size slot start at₀ end at σ₀ σ
-    → ((n : ℕ) → fresh (σ₀ .disc) ≤ n → σ′ ≡ edge (λ q. enters n (adjOf offsets targets) start slot q) (getD targets at 0) σ)
+    → ((n : ℕ) → fresh (σ₀ .discoveries) ≤ n → σ′ ≡ edge (λ q. enters n (adjOf offsets targets) start slot q) (getD targets at 0) σ)
     → Going offsets targets size slot start at₀ end (at + 1) σ₀ σ′
 unfolding edges
 going-step offsets targets size slot start at₀ end at σ₀ σ σ′ g lt bound less going one =
     let inside = graph-inside offsets targets size g in
     let visit : ℕ → ℕ → Stamps → Stamps = λ n q. enters n (adjOf offsets targets) start slot q in
     let q : ℕ = getD targets at 0 in
-    let first : Less σ (edge (visit (fresh (σ₀ .disc))) q σ) = edge-cases (Less σ) (visit (fresh (σ₀ .disc))) q σ (λ e. enters-less (adjOf offsets targets) size inside (fresh (σ₀ .disc)) start slot q σ (going .cols .discs) (g .below at (omega arith)) e) (less-refl σ) in
-    let next : Less σ σ′ = subst (Less σ) (sym (one (fresh (σ₀ .disc)) (le-refl _))) first in
+    let first : Less σ (edge (visit (fresh (σ₀ .discoveries))) q σ) = edge-cases (Less σ) (visit (fresh (σ₀ .discoveries))) q σ (λ e. enters-less (adjOf offsets targets) size inside (fresh (σ₀ .discoveries)) start slot q σ (going .cols .discs) (g .below at (omega arith)) e) (less-refl σ) in
+    let next : Less σ σ′ = subst (Less σ) (sym (one (fresh (σ₀ .discoveries)) (le-refl _))) first in
     record {
       within = omega arith;
       cols = columns-less size σ σ′ next (going .cols);
@@ -195,7 +195,7 @@ going-step offsets targets size slot start at₀ end at σ₀ σ σ′ g lt boun
 -- the loop is over
 pub going-done : (offsets targets : List ℕ) (size slot start end at : ℕ) (σ₀ σ : Stamps) → end ≤ at → end ≡ getD offsets (slot + 1) 0
     → Going offsets targets size slot start (getD offsets slot 0) end at σ₀ σ
-    → (n : ℕ) → fresh (σ₀ .disc) ≤ n → σ ≡ edges (λ q. enters n (adjOf offsets targets) start slot q) (adjOf offsets targets slot) σ₀
+    → (n : ℕ) → fresh (σ₀ .discoveries) ≤ n → σ ≡ edges (λ q. enters n (adjOf offsets targets) start slot q) (adjOf offsets targets slot) σ₀
 unfolding edges adjOf
 going-done offsets targets size slot start end at σ₀ σ over is going n le =
     let visit : ℕ → Stamps → Stamps = λ q. enters n (adjOf offsets targets) start slot q in
@@ -206,4 +206,4 @@ going-done offsets targets size slot start end at σ₀ σ over is going n le =
     ∙ ap (λ (k : ℕ). edges visit (slice (getD offsets slot 0) k targets) σ₀) is
 
 pub stamps-eq : {t t′ : ℕ} {d d′ f f′ p p′ s s′ : List ℕ} → d ≡ d′ → f ≡ f′ → p ≡ p′ → s ≡ s′ → t ≡ t′ → stamps t d f p s ≡ stamps t′ d′ f′ p′ s′
-stamps-eq d f p s t = λ i. record { time = t i; disc = d i; fin = f i; par = p i; start = s i }
+stamps-eq d f p s t = λ i. record { time = t i; discoveries = d i; finishes = f i; parents = p i; starts = s i }

@@ -9,8 +9,8 @@ use mathlib.Core.List.{List, [], _∷_, List·Memᴰ, List·Memᴰ·head, List·
 use lib.ListN.{length, length-set}
 use lib.Seq.{getD-set-same, getD-set-other}
 use Rattle.base.specs.Decide.{same-or, le-or, zero-or}
-use Rattle.walk.specs.Walk.{Stamps, arrive, leave, edge, edges, enters, starts, fresh}
-use Rattle.walk.specs.Forest.{dis, fin, par, top, Holds, Parted, Reach, here, on}
+use Rattle.walk.specs.Walk.{Stamps, arrive, leave, edge, edges, enters, startWalk, fresh}
+use Rattle.walk.specs.Forest.{discoveryAt, finishAt, parentAt, startAt, Holds, Parted, Reach, here, on}
 use Rattle.walk.proofs.Run.{Less, less-refl, less-trans, edge-new, edge-old, enters-less, fresh-set}
 
 pub reach-from : {adj : ℕ → List ℕ} {a b c : ℕ} → List·Memᴰ b (adj a) → Reach adj b c → Reach adj a c
@@ -19,42 +19,42 @@ reach-from m (on r k) = on (reach-from m r) k
 
 -- q is entered by the walk from σ to σ′
 abbrev New : Stamps → Stamps → ℕ → Type 0
-New σ σ′ q = (dis σ q ≡ 0) × (0 < dis σ′ q)
+New σ σ′ q = (discoveryAt σ q ≡ 0) × (0 < discoveryAt σ′ q)
 
 -- q hangs under u, which the same walk entered
 pub record Hung (adj : ℕ → List ℕ) (σ σ′ : Stamps) (q u : ℕ) : Type 0 where
-  pub parent : par σ′ q ≡ u
+  pub parent : parentAt σ′ q ≡ u
   pub new : New σ σ′ u
   pub edge : List·Memᴰ q (adj u)
-  pub begins : dis σ′ u < dis σ′ q
-  pub ends : fin σ′ q < fin σ′ u
+  pub begins : discoveryAt σ′ u < discoveryAt σ′ q
+  pub ends : finishAt σ′ q < finishAt σ′ u
   pub narrowest : (v : ℕ) → New σ σ′ v → (v ≡ q → ⊥) → Holds σ′ v q → Holds σ′ v u
 
 -- q was entered from outside, from p
 pub record Led (Ok : ℕ → Type 0) (p : ℕ) (σ σ′ : Stamps) (q : ℕ) : Type 0 where
   pub ok : Ok q
-  pub parent : par σ′ q ≡ p
+  pub parent : parentAt σ′ q ≡ p
   pub widest : (v : ℕ) → New σ σ′ v → (v ≡ q → ⊥) → Holds σ′ v q → ⊥
 
 pub record Added (adj : ℕ → List ℕ) (Ok : ℕ → Type 0) (p r : ℕ) (σ σ′ : Stamps) (q : ℕ) : Type 0 where
-  pub after : σ .time < dis σ′ q
-  pub spans : dis σ′ q < fin σ′ q
-  pub past : fin σ′ q ≤ σ′ .time
-  pub start : top σ′ q ≡ r
-  pub closed : (c : ℕ) → List·Memᴰ c (adj q) → (0 < dis σ′ c) × (dis σ′ c < fin σ′ q)
+  pub after : σ .time < discoveryAt σ′ q
+  pub spans : discoveryAt σ′ q < finishAt σ′ q
+  pub past : finishAt σ′ q ≤ σ′ .time
+  pub start : startAt σ′ q ≡ r
+  pub closed : (c : ℕ) → List·Memᴰ c (adj q) → (0 < discoveryAt σ′ c) × (discoveryAt σ′ c < finishAt σ′ q)
   pub reach : (o : ℕ) × Ok o × Reach adj o q
   pub came : Led Ok p σ σ′ q ⊎ ((u : ℕ) × Hung adj σ σ′ q u)
 
 -- a walk from σ to σ′ that enters slots which are Ok from p, in the tree of r
 pub record Walked (adj : ℕ → List ℕ) (Ok : ℕ → Type 0) (p r : ℕ) (σ σ′ : Stamps) : Type 0 where
   pub later : σ .time ≤ σ′ .time
-  pub dis-kept : (q : ℕ) → 0 < dis σ q → dis σ′ q ≡ dis σ q
-  pub fin-kept : (q : ℕ) → 0 < dis σ q → fin σ′ q ≡ fin σ q
-  pub par-kept : (q : ℕ) → 0 < dis σ q → par σ′ q ≡ par σ q
-  pub top-kept : (q : ℕ) → 0 < dis σ q → top σ′ q ≡ top σ q
+  pub discovery-kept : (q : ℕ) → 0 < discoveryAt σ q → discoveryAt σ′ q ≡ discoveryAt σ q
+  pub finishes-kept : (q : ℕ) → 0 < discoveryAt σ q → finishAt σ′ q ≡ finishAt σ q
+  pub parents-kept : (q : ℕ) → 0 < discoveryAt σ q → parentAt σ′ q ≡ parentAt σ q
+  pub starts-kept : (q : ℕ) → 0 < discoveryAt σ q → startAt σ′ q ≡ startAt σ q
   pub added : (q : ℕ) → New σ σ′ q → Added adj Ok p r σ σ′ q
   pub parted : (q u : ℕ) → New σ σ′ q → New σ σ′ u → (q ≡ u → ⊥) → Parted σ′ q u
-  pub hit : (t : ℕ) → σ .time < t → t ≤ σ′ .time → (q : ℕ) × (New σ σ′ q) × ((dis σ′ q ≡ t) ⊎ (fin σ′ q ≡ t))
+  pub hit : (t : ℕ) → σ .time < t → t ≤ σ′ .time → (q : ℕ) × (New σ σ′ q) × ((discoveryAt σ′ q ≡ t) ⊎ (finishAt σ′ q ≡ t))
 
 not-both : {A : Type 0} (k : ℕ) → k ≡ 0 → 0 < k → A
 not-both k e lt = absurd (omega arith)
@@ -63,47 +63,47 @@ pub walked-refl : (adj : ℕ → List ℕ) (Ok : ℕ → Type 0) (p r : ℕ) (σ
 walked-refl adj Ok p r σ =
     record {
       later = le-refl _;
-      dis-kept = λ q e. refl;
-      fin-kept = λ q e. refl;
-      par-kept = λ q e. refl;
-      top-kept = λ q e. refl;
-      added = λ q n. not-both (dis σ q) (n .0) (n .1);
-      parted = λ q u n m d. not-both (dis σ q) (n .0) (n .1);
+      discovery-kept = λ q e. refl;
+      finishes-kept = λ q e. refl;
+      parents-kept = λ q e. refl;
+      starts-kept = λ q e. refl;
+      added = λ q n. not-both (discoveryAt σ q) (n .0) (n .1);
+      parted = λ q u n m d. not-both (discoveryAt σ q) (n .0) (n .1);
       hit = λ t a b. absurd (omega arith);
     }
 
 -- no discovery is past the time
 abbrev pub Timely : Stamps → Type 0
-Timely σ = (q : ℕ) → dis σ q ≤ σ .time
+Timely σ = (q : ℕ) → discoveryAt σ q ≤ σ .time
 
 pub timely-walked : (adj : ℕ → List ℕ) (Ok : ℕ → Type 0) (p r : ℕ) (σ σ′ : Stamps) → Walked adj Ok p r σ σ′ → Timely σ → Timely σ′
 timely-walked adj Ok p r σ σ′ w t q =
     ⊎-elim
-    (λ (z : dis σ q ≡ 0). ⊎-elim (λ (y : dis σ′ q ≡ 0). omega arith) (λ (y : 0 < dis σ′ q). let a = w .added q (z, y) in omega (arith, a .spans, a .past)) (zero-or (dis σ′ q)))
-    (λ (e : 0 < dis σ q). omega (arith, w .dis-kept q e, t q, w .later))
-    (zero-or (dis σ q))
+    (λ (z : discoveryAt σ q ≡ 0). ⊎-elim (λ (y : discoveryAt σ′ q ≡ 0). omega arith) (λ (y : 0 < discoveryAt σ′ q). let a = w .added q (z, y) in omega (arith, a .spans, a .past)) (zero-or (discoveryAt σ′ q)))
+    (λ (e : 0 < discoveryAt σ q). omega (arith, w .discovery-kept q e, t q, w .later))
+    (zero-or (discoveryAt σ q))
 
 -- ---- one walk after another
 
 module _ (adj : ℕ → List ℕ) (Ok : ℕ → Type 0) (p r : ℕ) (σ σ₁ σ₂ : Stamps) (a : Walked adj Ok p r σ σ₁) (b : Walked adj Ok p r σ₁ σ₂) where
   -- entered by the first, or by the second
   First : ℕ → Type 0
-  First q = (New σ σ₁ q) × (dis σ₂ q ≡ dis σ₁ q) × (fin σ₂ q ≡ fin σ₁ q) × (fin σ₁ q ≤ σ₁ .time)
+  First q = (New σ σ₁ q) × (discoveryAt σ₂ q ≡ discoveryAt σ₁ q) × (finishAt σ₂ q ≡ finishAt σ₁ q) × (finishAt σ₁ q ≤ σ₁ .time)
 
   Second : ℕ → Type 0
-  Second q = (New σ₁ σ₂ q) × (σ₁ .time < dis σ₂ q)
+  Second q = (New σ₁ σ₂ q) × (σ₁ .time < discoveryAt σ₂ q)
 
   which : (q : ℕ) → New σ σ₂ q → First q ⊎ Second q
   unfolding First Second
   which q n =
       ⊎-elim
       (λ z. inr ((z, n .1), b .added q (z, n .1) .after))
-      (λ s. inl ((n .0, s), b .dis-kept q s, b .fin-kept q s, a .added q (n .0, s) .past))
-      (zero-or (dis σ₁ q))
+      (λ s. inl ((n .0, s), b .discovery-kept q s, b .finishes-kept q s, a .added q (n .0, s) .past))
+      (zero-or (discoveryAt σ₁ q))
 
   -- what is new to the second was not entered at first
-  was-new : (q : ℕ) → dis σ₁ q ≡ 0 → dis σ q ≡ 0
-  was-new q z = ⊎-elim (λ e. e) (λ s. absurd (omega (arith, a .dis-kept q s))) (zero-or (dis σ q))
+  was-new : (q : ℕ) → discoveryAt σ₁ q ≡ 0 → discoveryAt σ q ≡ 0
+  was-new q z = ⊎-elim (λ e. e) (λ s. absurd (omega (arith, a .discovery-kept q s))) (zero-or (discoveryAt σ q))
 
   first-added : (q : ℕ) → First q → Added adj Ok p r σ σ₂ q
   unfolding First Second
@@ -114,14 +114,14 @@ module _ (adj : ℕ → List ℕ) (Ok : ℕ → Type 0) (p r : ℕ) (σ σ₁ σ
         after = omega (arith, A .after, f .1);
         spans = omega (arith, A .spans, f .1, f .2);
         past = omega (arith, f .2, f .3, b .later);
-        start = b .top-kept q s ∙ A .start;
-        closed = λ c m. let k = A .closed c m in let e = b .dis-kept c (k .0) in (omega (arith, k, e), omega (arith, k, e, f .2));
+        start = b .starts-kept q s ∙ A .start;
+        closed = λ c m. let k = A .closed c m in let e = b .discovery-kept c (k .0) in (omega (arith, k, e), omega (arith, k, e, f .2));
         reach = A .reach;
         came =
             ⊎-elim
             (λ l. inl (record {
               ok = l .ok;
-              parent = b .par-kept q s ∙ l .parent;
+              parent = b .parents-kept q s ∙ l .parent;
               widest = λ v n d h. ⊎-elim
                   (λ g. l .widest v (g .0) d (omega (arith, h, g .1, g .2, f .1, f .2), omega (arith, h, g .1, g .2, f .1, f .2)))
                   (λ g. absurd (omega (arith, h, g .1, f .1, f .2, f .3, A .spans)))
@@ -130,14 +130,14 @@ module _ (adj : ℕ → List ℕ) (Ok : ℕ → Type 0) (p r : ℕ) (σ σ₁ σ
             (λ l. inr (
               l .0,
               record {
-                parent = b .par-kept q s ∙ l .1 .parent;
-                new = (l .1 .new .0, omega (arith, b .dis-kept (l .0) (l .1 .new .1), l .1 .new .1));
+                parent = b .parents-kept q s ∙ l .1 .parent;
+                new = (l .1 .new .0, omega (arith, b .discovery-kept (l .0) (l .1 .new .1), l .1 .new .1));
                 edge = l .1 .edge;
-                begins = omega (arith, b .dis-kept (l .0) (l .1 .new .1), l .1 .begins, f .1);
-                ends = omega (arith, b .fin-kept (l .0) (l .1 .new .1), l .1 .ends, f .2);
+                begins = omega (arith, b .discovery-kept (l .0) (l .1 .new .1), l .1 .begins, f .1);
+                ends = omega (arith, b .finishes-kept (l .0) (l .1 .new .1), l .1 .ends, f .2);
                 narrowest = λ v n d h. ⊎-elim
                     (λ g. let w = l .1 .narrowest v (g .0) d (omega (arith, h, g .1, g .2, f .1, f .2), omega (arith, h, g .1, g .2, f .1, f .2)) in
-                    (omega (arith, w, g .1, b .dis-kept (l .0) (l .1 .new .1)), omega (arith, w, g .2, b .fin-kept (l .0) (l .1 .new .1))))
+                    (omega (arith, w, g .1, b .discovery-kept (l .0) (l .1 .new .1)), omega (arith, w, g .2, b .finishes-kept (l .0) (l .1 .new .1))))
                     (λ g. absurd (omega (arith, h, g .1, f .1, f .2, f .3, A .spans)))
                     (which v n);
               },
@@ -200,16 +200,16 @@ module _ (adj : ℕ → List ℕ) (Ok : ℕ → Type 0) (p r : ℕ) (σ σ₁ σ
   walked-trans =
       record {
         later = le-trans (a .later) (b .later);
-        dis-kept = λ q e. b .dis-kept q (omega (arith, a .dis-kept q e, e)) ∙ a .dis-kept q e;
-        fin-kept = λ q e. b .fin-kept q (omega (arith, a .dis-kept q e, e)) ∙ a .fin-kept q e;
-        par-kept = λ q e. b .par-kept q (omega (arith, a .dis-kept q e, e)) ∙ a .par-kept q e;
-        top-kept = λ q e. b .top-kept q (omega (arith, a .dis-kept q e, e)) ∙ a .top-kept q e;
+        discovery-kept = λ q e. b .discovery-kept q (omega (arith, a .discovery-kept q e, e)) ∙ a .discovery-kept q e;
+        finishes-kept = λ q e. b .finishes-kept q (omega (arith, a .discovery-kept q e, e)) ∙ a .finishes-kept q e;
+        parents-kept = λ q e. b .parents-kept q (omega (arith, a .discovery-kept q e, e)) ∙ a .parents-kept q e;
+        starts-kept = λ q e. b .starts-kept q (omega (arith, a .discovery-kept q e, e)) ∙ a .starts-kept q e;
         added = λ q n. ⊎-elim (first-added q) (second-added q) (which q n);
         parted = λ q u n m d. parted-two q u d (which q n) (which u m);
         hit = λ t x y.
             ⊎-elim
             (λ (le : t ≤ σ₁ .time). let h = a .hit t x le in
-            (h .0, (h .1 .0, omega (arith, h .1, b .dis-kept (h .0) (h .1 .1))), ⊎-map (λ e. b .dis-kept (h .0) (h .1 .1) ∙ e) (λ e. b .fin-kept (h .0) (h .1 .1) ∙ e) (h .2)))
+            (h .0, (h .1 .0, omega (arith, h .1, b .discovery-kept (h .0) (h .1 .1))), ⊎-map (λ e. b .discovery-kept (h .0) (h .1 .1) ∙ e) (λ e. b .finishes-kept (h .0) (h .1 .1) ∙ e) (h .2)))
             (λ (lt : σ₁ .time < t). let h = b .hit t lt y in (h .0, (was-new (h .0) (h .1 .0), h .1 .1), h .2))
             (le-or t (σ₁ .time));
       }
@@ -218,100 +218,100 @@ module _ (adj : ℕ → List ℕ) (Ok : ℕ → Type 0) (p r : ℕ) (σ σ₁ σ
 
 record Arrived (r p s : ℕ) (σ α : Stamps) : Type 0 where
   time : α .time ≡ σ .time + 1
-  dis-at : dis α s ≡ σ .time + 1
-  par-at : par α s ≡ p
-  top-at : top α s ≡ r
-  dis-else : (q : ℕ) → (q ≡ s → ⊥) → dis α q ≡ dis σ q
-  fin-all : (q : ℕ) → fin α q ≡ fin σ q
-  par-else : (q : ℕ) → (q ≡ s → ⊥) → par α q ≡ par σ q
-  top-else : (q : ℕ) → (q ≡ s → ⊥) → top α q ≡ top σ q
+  discovery-at : discoveryAt α s ≡ σ .time + 1
+  parents-at : parentAt α s ≡ p
+  starts-at : startAt α s ≡ r
+  discovery-else : (q : ℕ) → (q ≡ s → ⊥) → discoveryAt α q ≡ discoveryAt σ q
+  finishes-all : (q : ℕ) → finishAt α q ≡ finishAt σ q
+  parents-else : (q : ℕ) → (q ≡ s → ⊥) → parentAt α q ≡ parentAt σ q
+  starts-else : (q : ℕ) → (q ≡ s → ⊥) → startAt α q ≡ startAt σ q
 
 record Left (s : ℕ) (ω σ′ : Stamps) : Type 0 where
   time : σ′ .time ≡ ω .time + 1
-  fin-at : fin σ′ s ≡ ω .time + 1
-  fin-else : (q : ℕ) → (q ≡ s → ⊥) → fin σ′ q ≡ fin ω q
-  dis-all : (q : ℕ) → dis σ′ q ≡ dis ω q
-  par-all : (q : ℕ) → par σ′ q ≡ par ω q
-  top-all : (q : ℕ) → top σ′ q ≡ top ω q
+  finishes-at : finishAt σ′ s ≡ ω .time + 1
+  finishes-else : (q : ℕ) → (q ≡ s → ⊥) → finishAt σ′ q ≡ finishAt ω q
+  discovery-all : (q : ℕ) → discoveryAt σ′ q ≡ discoveryAt ω q
+  parents-all : (q : ℕ) → parentAt σ′ q ≡ parentAt ω q
+  starts-all : (q : ℕ) → startAt σ′ q ≡ startAt ω q
 
-arrive-is : (r p s : ℕ) (σ : Stamps) → s < length (σ .disc) → s < length (σ .par) → s < length (σ .start) → Arrived r p s σ (arrive r p s σ)
+arrive-is : (r p s : ℕ) (σ : Stamps) → s < length (σ .discoveries) → s < length (σ .parents) → s < length (σ .starts) → Arrived r p s σ (arrive r p s σ)
 unfolding arrive
 arrive-is r p s σ d u t =
     record {
       time = refl;
-      dis-at = getD-set-same (σ .disc) s (σ .time + 1) 0 d;
-      par-at = getD-set-same (σ .par) s p 0 u;
-      top-at = getD-set-same (σ .start) s r 0 t;
-      dis-else = λ q n. getD-set-other (σ .disc) s q (σ .time + 1) 0 n;
-      fin-all = λ q. refl;
-      par-else = λ q n. getD-set-other (σ .par) s q p 0 n;
-      top-else = λ q n. getD-set-other (σ .start) s q r 0 n;
+      discovery-at = getD-set-same (σ .discoveries) s (σ .time + 1) 0 d;
+      parents-at = getD-set-same (σ .parents) s p 0 u;
+      starts-at = getD-set-same (σ .starts) s r 0 t;
+      discovery-else = λ q n. getD-set-other (σ .discoveries) s q (σ .time + 1) 0 n;
+      finishes-all = λ q. refl;
+      parents-else = λ q n. getD-set-other (σ .parents) s q p 0 n;
+      starts-else = λ q n. getD-set-other (σ .starts) s q r 0 n;
     }
 
-leave-is : (s : ℕ) (ω : Stamps) → s < length (ω .fin) → Left s ω (leave s ω)
+leave-is : (s : ℕ) (ω : Stamps) → s < length (ω .finishes) → Left s ω (leave s ω)
 unfolding leave
 leave-is s ω f =
     record {
       time = refl;
-      fin-at = getD-set-same (ω .fin) s (ω .time + 1) 0 f;
-      fin-else = λ q n. getD-set-other (ω .fin) s q (ω .time + 1) 0 n;
-      dis-all = λ q. refl;
-      par-all = λ q. refl;
-      top-all = λ q. refl;
+      finishes-at = getD-set-same (ω .finishes) s (ω .time + 1) 0 f;
+      finishes-else = λ q n. getD-set-other (ω .finishes) s q (ω .time + 1) 0 n;
+      discovery-all = λ q. refl;
+      parents-all = λ q. refl;
+      starts-all = λ q. refl;
     }
 
 arrived-timely : (r p s : ℕ) (σ α : Stamps) → Arrived r p s σ α → Timely σ → Timely α
-arrived-timely r p s σ α A timely q = ⊎-elim (λ (e : q ≡ s). omega (arith, ap (dis α) e, A .dis-at, A .time)) (λ (d : q ≡ s → ⊥). omega (arith, A .dis-else q d, timely q, A .time)) (same-or q s)
+arrived-timely r p s σ α A timely q = ⊎-elim (λ (e : q ≡ s). omega (arith, ap (discoveryAt α) e, A .discovery-at, A .time)) (λ (d : q ≡ s → ⊥). omega (arith, A .discovery-else q d, timely q, A .time)) (same-or q s)
 
-module _ (adj : ℕ → List ℕ) (Ok : ℕ → Type 0) (p r s : ℕ) (σ α ω σ′ : Stamps) (A : Arrived r p s σ α) (L : Left s ω σ′) (ok : Ok s) (z : dis σ s ≡ 0) (timely : Timely σ)
-    (w : Walked adj (λ q. List·Memᴰ q (adj s)) s r α ω) (all : (c : ℕ) → List·Memᴰ c (adj s) → 0 < dis ω c) where
-  s-entered : 0 < dis α s
-  s-entered = omega (arith, A .dis-at)
+module _ (adj : ℕ → List ℕ) (Ok : ℕ → Type 0) (p r s : ℕ) (σ α ω σ′ : Stamps) (A : Arrived r p s σ α) (L : Left s ω σ′) (ok : Ok s) (z : discoveryAt σ s ≡ 0) (timely : Timely σ)
+    (w : Walked adj (λ q. List·Memᴰ q (adj s)) s r α ω) (all : (c : ℕ) → List·Memᴰ c (adj s) → 0 < discoveryAt ω c) where
+  s-entered : 0 < discoveryAt α s
+  s-entered = omega (arith, A .discovery-at)
 
-  s-dis : dis σ′ s ≡ σ .time + 1
-  s-dis = L .dis-all s ∙ w .dis-kept s s-entered ∙ A .dis-at
+  s-discovery : discoveryAt σ′ s ≡ σ .time + 1
+  s-discovery = L .discovery-all s ∙ w .discovery-kept s s-entered ∙ A .discovery-at
 
   room : σ .time + 1 ≤ ω .time
   room = omega (arith, A .time, w .later)
 
   s-new : New σ σ′ s
-  s-new = (z, omega (arith, s-dis))
+  s-new = (z, omega (arith, s-discovery))
 
   -- an old slot is not s, and is old to the walk of the edges too
-  not-s : (q : ℕ) → 0 < dis σ q → q ≡ s → ⊥
-  not-s q lt e = let h : dis σ q ≡ 0 = ap (dis σ) e ∙ z in omega arith
+  not-s : (q : ℕ) → 0 < discoveryAt σ q → q ≡ s → ⊥
+  not-s q lt e = let h : discoveryAt σ q ≡ 0 = ap (discoveryAt σ) e ∙ z in omega arith
 
-  still : (q : ℕ) → 0 < dis σ q → 0 < dis α q
-  still q lt = omega (arith, A .dis-else q (not-s q lt))
+  still : (q : ℕ) → 0 < discoveryAt σ q → 0 < discoveryAt α q
+  still q lt = omega (arith, A .discovery-else q (not-s q lt))
 
   inner : (q : ℕ) → (q ≡ s → ⊥) → New σ σ′ q → New α ω q
-  inner q d n = (A .dis-else q d ∙ n .0, omega (arith, n .1, L .dis-all q))
+  inner q d n = (A .discovery-else q d ∙ n .0, omega (arith, n .1, L .discovery-all q))
 
   outer-not : (q : ℕ) → New α ω q → q ≡ s → ⊥
-  outer-not q n e = let h : dis α s ≡ 0 = ap (dis α) (sym e) ∙ n .0 in omega (arith, s-entered)
+  outer-not q n e = let h : discoveryAt α s ≡ 0 = ap (discoveryAt α) (sym e) ∙ n .0 in omega (arith, s-entered)
 
   outer : (q : ℕ) → New α ω q → New σ σ′ q
-  outer q n = (sym (A .dis-else q (outer-not q n)) ∙ n .0, omega (arith, n .1, L .dis-all q))
+  outer q n = (sym (A .discovery-else q (outer-not q n)) ∙ n .0, omega (arith, n .1, L .discovery-all q))
 
   -- s's interval is strictly around each that its edges' walk entered
-  around : (q : ℕ) → New α ω q → (dis σ′ s < dis σ′ q) × (fin σ′ q < fin σ′ s)
+  around : (q : ℕ) → New α ω q → (discoveryAt σ′ s < discoveryAt σ′ q) × (finishAt σ′ q < finishAt σ′ s)
   around q n =
       let B = w .added q n in
       let d = outer-not q n in
-      (omega (arith, s-dis, B .after, A .time, L .dis-all q), omega (arith, L .fin-at, B .past, L .fin-else q d))
+      (omega (arith, s-discovery, B .after, A .time, L .discovery-all q), omega (arith, L .finishes-at, B .past, L .finishes-else q d))
 
   added-s : Added adj Ok p r σ σ′ s
   added-s =
       record {
-        after = omega (arith, s-dis);
-        spans = omega (arith, s-dis, L .fin-at, room);
-        past = omega (arith, L .fin-at, L .time);
-        start = L .top-all s ∙ w .top-kept s s-entered ∙ A .top-at;
-        closed = λ c m. let k = timely-walked adj (λ q. List·Memᴰ q (adj s)) s r α ω w (arrived-timely r p s σ α A timely) c in (omega (arith, all c m, L .dis-all c), omega (arith, k, L .dis-all c, L .fin-at));
+        after = omega (arith, s-discovery);
+        spans = omega (arith, s-discovery, L .finishes-at, room);
+        past = omega (arith, L .finishes-at, L .time);
+        start = L .starts-all s ∙ w .starts-kept s s-entered ∙ A .starts-at;
+        closed = λ c m. let k = timely-walked adj (λ q. List·Memᴰ q (adj s)) s r α ω w (arrived-timely r p s σ α A timely) c in (omega (arith, all c m, L .discovery-all c), omega (arith, k, L .discovery-all c, L .finishes-at));
         reach = (s, ok, here);
         came = inl (record {
           ok = ok;
-          parent = L .par-all s ∙ w .par-kept s s-entered ∙ A .par-at;
+          parent = L .parents-all s ∙ w .parents-kept s s-entered ∙ A .parents-at;
           widest = λ v n d h. absurd (let k = around v (inner v d n) in omega (arith, h, k));
         });
       }
@@ -321,40 +321,40 @@ module _ (adj : ℕ → List ℕ) (Ok : ℕ → Type 0) (p r s : ℕ) (σ α ω 
       let B = w .added q m in
       let d = outer-not q m in
       record {
-        after = omega (arith, B .after, A .time, L .dis-all q);
-        spans = omega (arith, B .spans, L .dis-all q, L .fin-else q d);
-        past = omega (arith, B .past, L .fin-else q d, L .time);
-        start = L .top-all q ∙ B .start;
-        closed = λ c k. let h = B .closed c k in (omega (arith, h, L .dis-all c), omega (arith, h, L .dis-all c, L .fin-else q d));
+        after = omega (arith, B .after, A .time, L .discovery-all q);
+        spans = omega (arith, B .spans, L .discovery-all q, L .finishes-else q d);
+        past = omega (arith, B .past, L .finishes-else q d, L .time);
+        start = L .starts-all q ∙ B .start;
+        closed = λ c k. let h = B .closed c k in (omega (arith, h, L .discovery-all c), omega (arith, h, L .discovery-all c, L .finishes-else q d));
         reach = (s, ok, reach-from (B .reach .1) (B .reach .2));
         came =
             ⊎-elim
             (λ l. inr (
               s,
               record {
-                parent = L .par-all q ∙ l .parent;
+                parent = L .parents-all q ∙ l .parent;
                 new = s-new;
                 edge = l .ok;
                 begins = around q m .0;
                 ends = around q m .1;
                 narrowest = λ v n e h. ⊎-elim
-                    (λ (same : v ≡ s). (omega (arith, ap (dis σ′) same), omega (arith, ap (fin σ′) same)))
-                    (λ (other : v ≡ s → ⊥). absurd (l .widest v (inner v other n) e (omega (arith, h, L .dis-all v, L .dis-all q), omega (arith, h, L .fin-else v other, L .fin-else q d))))
+                    (λ (same : v ≡ s). (omega (arith, ap (discoveryAt σ′) same), omega (arith, ap (finishAt σ′) same)))
+                    (λ (other : v ≡ s → ⊥). absurd (l .widest v (inner v other n) e (omega (arith, h, L .discovery-all v, L .discovery-all q), omega (arith, h, L .finishes-else v other, L .finishes-else q d))))
                     (same-or v s);
               },
             ))
             (λ l. let u = l .0 in let k = l .1 in inr (
               u,
               record {
-                parent = L .par-all q ∙ k .parent;
+                parent = L .parents-all q ∙ k .parent;
                 new = outer u (k .new);
                 edge = k .edge;
-                begins = omega (arith, k .begins, L .dis-all q, L .dis-all u);
-                ends = omega (arith, k .ends, L .fin-else q d, L .fin-else u (outer-not u (k .new)));
+                begins = omega (arith, k .begins, L .discovery-all q, L .discovery-all u);
+                ends = omega (arith, k .ends, L .finishes-else q d, L .finishes-else u (outer-not u (k .new)));
                 narrowest = λ v n e h. ⊎-elim
-                    (λ (same : v ≡ s). let i = around u (k .new) in (omega (arith, ap (dis σ′) same, i), omega (arith, ap (fin σ′) same, i)))
-                    (λ (other : v ≡ s → ⊥). let i = k .narrowest v (inner v other n) e (omega (arith, h, L .dis-all v, L .dis-all q), omega (arith, h, L .fin-else v other, L .fin-else q d)) in
-                    (omega (arith, i, L .dis-all v, L .dis-all u), omega (arith, i, L .fin-else v other, L .fin-else u (outer-not u (k .new)))))
+                    (λ (same : v ≡ s). let i = around u (k .new) in (omega (arith, ap (discoveryAt σ′) same, i), omega (arith, ap (finishAt σ′) same, i)))
+                    (λ (other : v ≡ s → ⊥). let i = k .narrowest v (inner v other n) e (omega (arith, h, L .discovery-all v, L .discovery-all q), omega (arith, h, L .finishes-else v other, L .finishes-else q d)) in
+                    (omega (arith, i, L .discovery-all v, L .discovery-all u), omega (arith, i, L .finishes-else v other, L .finishes-else u (outer-not u (k .new)))))
                     (same-or v s);
               },
             ))
@@ -363,35 +363,35 @@ module _ (adj : ℕ → List ℕ) (Ok : ℕ → Type 0) (p r s : ℕ) (σ α ω 
 
   parted-enter : (q u : ℕ) → New σ σ′ q → New σ σ′ u → (q ≡ u → ⊥) → (q ≡ s) ⊎ (q ≡ s → ⊥) → (u ≡ s) ⊎ (u ≡ s → ⊥) → Parted σ′ q u
   parted-enter q u n m d (inl e) (inl f) = absurd (d (e ∙ sym f))
-  parted-enter q u n m d (inl e) (inr f) = let k = around u (inner u f m) in inr (inr (inl (omega (arith, k, ap (dis σ′) e), omega (arith, k, ap (fin σ′) e))))
-  parted-enter q u n m d (inr e) (inl f) = let k = around q (inner q e n) in inr (inr (inr (omega (arith, k, ap (dis σ′) f), omega (arith, k, ap (fin σ′) f))))
+  parted-enter q u n m d (inl e) (inr f) = let k = around u (inner u f m) in inr (inr (inl (omega (arith, k, ap (discoveryAt σ′) e), omega (arith, k, ap (finishAt σ′) e))))
+  parted-enter q u n m d (inr e) (inl f) = let k = around q (inner q e n) in inr (inr (inr (omega (arith, k, ap (discoveryAt σ′) f), omega (arith, k, ap (finishAt σ′) f))))
   parted-enter q u n m d (inr e) (inr f) = moved (w .parted q u (inner q e n) (inner u f m) d)
     where
       moved : Parted ω q u → Parted σ′ q u
-      moved (inl h) = inl (omega (arith, h, L .fin-else q e, L .dis-all u))
-      moved (inr (inl h)) = inr (inl (omega (arith, h, L .fin-else u f, L .dis-all q)))
-      moved (inr (inr (inl h))) = inr (inr (inl (omega (arith, h, L .dis-all q, L .dis-all u), omega (arith, h, L .fin-else q e, L .fin-else u f))))
-      moved (inr (inr (inr h))) = inr (inr (inr (omega (arith, h, L .dis-all q, L .dis-all u), omega (arith, h, L .fin-else q e, L .fin-else u f))))
+      moved (inl h) = inl (omega (arith, h, L .finishes-else q e, L .discovery-all u))
+      moved (inr (inl h)) = inr (inl (omega (arith, h, L .finishes-else u f, L .discovery-all q)))
+      moved (inr (inr (inl h))) = inr (inr (inl (omega (arith, h, L .discovery-all q, L .discovery-all u), omega (arith, h, L .finishes-else q e, L .finishes-else u f))))
+      moved (inr (inr (inr h))) = inr (inr (inr (omega (arith, h, L .discovery-all q, L .discovery-all u), omega (arith, h, L .finishes-else q e, L .finishes-else u f))))
 
   entered-walked : Walked adj Ok p r σ σ′
   entered-walked =
       record {
         later = omega (arith, L .time, room);
-        dis-kept = λ q e. L .dis-all q ∙ w .dis-kept q (still q e) ∙ A .dis-else q (not-s q e);
-        fin-kept = λ q e. L .fin-else q (not-s q e) ∙ w .fin-kept q (still q e) ∙ A .fin-all q;
-        par-kept = λ q e. L .par-all q ∙ w .par-kept q (still q e) ∙ A .par-else q (not-s q e);
-        top-kept = λ q e. L .top-all q ∙ w .top-kept q (still q e) ∙ A .top-else q (not-s q e);
+        discovery-kept = λ q e. L .discovery-all q ∙ w .discovery-kept q (still q e) ∙ A .discovery-else q (not-s q e);
+        finishes-kept = λ q e. L .finishes-else q (not-s q e) ∙ w .finishes-kept q (still q e) ∙ A .finishes-all q;
+        parents-kept = λ q e. L .parents-all q ∙ w .parents-kept q (still q e) ∙ A .parents-else q (not-s q e);
+        starts-kept = λ q e. L .starts-all q ∙ w .starts-kept q (still q e) ∙ A .starts-else q (not-s q e);
         added = λ q n. ⊎-elim (λ (e : q ≡ s). subst (Added adj Ok p r σ σ′) (sym e) added-s) (λ (d : q ≡ s → ⊥). added-else q (inner q d n)) (same-or q s);
         parted = λ q u n m d. parted-enter q u n m d (same-or q s) (same-or u s);
         hit = λ t x y.
             ⊎-elim
-            (λ (e : t ≡ σ .time + 1). (s, s-new, inl (s-dis ∙ sym e)))
+            (λ (e : t ≡ σ .time + 1). (s, s-new, inl (s-discovery ∙ sym e)))
             (λ (d : t ≡ σ .time + 1 → ⊥).
             ⊎-elim
-            (λ (e : t ≡ ω .time + 1). (s, s-new, inr (L .fin-at ∙ sym e)))
+            (λ (e : t ≡ ω .time + 1). (s, s-new, inr (L .finishes-at ∙ sym e)))
             (λ (f : t ≡ ω .time + 1 → ⊥).
             let h = w .hit t (omega (arith, A .time)) (omega (arith, L .time)) in
-            (h .0, outer (h .0) (h .1), ⊎-map (λ e. L .dis-all (h .0) ∙ e) (λ e. L .fin-else (h .0) (outer-not (h .0) (h .1)) ∙ e) (h .2)))
+            (h .0, outer (h .0) (h .1), ⊎-map (λ e. L .discovery-all (h .0) ∙ e) (λ e. L .finishes-else (h .0) (outer-not (h .0) (h .1)) ∙ e) (h .2)))
             (same-or t (ω .time + 1)))
             (same-or t (σ .time + 1));
       }
@@ -399,11 +399,11 @@ module _ (adj : ℕ → List ℕ) (Ok : ℕ → Type 0) (p r s : ℕ) (σ α ω 
 -- ---- the walk itself
 
 pub record Sized (size n : ℕ) (σ : Stamps) : Type 0 where
-  pub discs : length (σ .disc) ≡ size
-  pub fins : length (σ .fin) ≡ size
-  pub pars : length (σ .par) ≡ size
-  pub starts : length (σ .start) ≡ size
-  pub few : fresh (σ .disc) ≤ n
+  pub discs : length (σ .discoveries) ≡ size
+  pub fins : length (σ .finishes) ≡ size
+  pub pars : length (σ .parents) ≡ size
+  pub starts : length (σ .starts) ≡ size
+  pub few : fresh (σ .discoveries) ≤ n
 
 pub sized-less : (size n : ℕ) (σ σ′ : Stamps) → Less σ σ′ → Sized size n σ → Sized size n σ′
 sized-less size n σ σ′ l z =
@@ -415,45 +415,45 @@ sized-less size n σ σ′ l z =
       few = le-trans (l .fewer) (z .few);
     }
 
-arrived-sized : (size n r p s : ℕ) (σ : Stamps) → Sized size (suc n) σ → s < length (σ .disc) → dis σ s ≡ 0 → Sized size n (arrive r p s σ)
+arrived-sized : (size n r p s : ℕ) (σ : Stamps) → Sized size (suc n) σ → s < length (σ .discoveries) → discoveryAt σ s ≡ 0 → Sized size n (arrive r p s σ)
 unfolding arrive
 arrived-sized size n r p s σ z lt e =
     record {
-      discs = length-set (σ .disc) s (σ .time + 1) ∙ z .discs;
+      discs = length-set (σ .discoveries) s (σ .time + 1) ∙ z .discs;
       fins = z .fins;
-      pars = length-set (σ .par) s p ∙ z .pars;
-      starts = length-set (σ .start) s r ∙ z .starts;
-      few = omega (arith, z .few, fresh-set (σ .disc) s (σ .time) lt e);
+      pars = length-set (σ .parents) s p ∙ z .pars;
+      starts = length-set (σ .starts) s r ∙ z .starts;
+      few = omega (arith, z .few, fresh-set (σ .discoveries) s (σ .time) lt e);
     }
 
 module _ (adj : ℕ → List ℕ) (size : ℕ) (inside : (s q : ℕ) → s < size → List·Memᴰ q (adj s) → q < size) where
   -- what a visit of q does: a walk, from the slots that are Ok, after which q is entered
   abbrev Visit : (ℕ → Type 0) → ℕ → ℕ → ℕ → (ℕ → Stamps → Stamps) → Type 0
-  Visit Ok p r n visit = (q : ℕ) (σ : Stamps) → Sized size n σ → Timely σ → Ok q → q < size → dis σ q ≡ 0 → (Less σ (visit q σ)) × (Walked adj Ok p r σ (visit q σ)) × (0 < dis (visit q σ) q)
+  Visit Ok p r n visit = (q : ℕ) (σ : Stamps) → Sized size n σ → Timely σ → Ok q → q < size → discoveryAt σ q ≡ 0 → (Less σ (visit q σ)) × (Walked adj Ok p r σ (visit q σ)) × (0 < discoveryAt (visit q σ) q)
 
   pub edges-walked : (Ok : ℕ → Type 0) (p r n : ℕ) (visit : ℕ → Stamps → Stamps) → Visit Ok p r n visit
       → (qs : List ℕ) → ((q : ℕ) → List·Memᴰ q qs → (Ok q) × (q < size)) → (σ : Stamps) → Sized size n σ → Timely σ
-      → (Less σ (edges visit qs σ)) × (Walked adj Ok p r σ (edges visit qs σ)) × ((c : ℕ) → List·Memᴰ c qs → 0 < dis (edges visit qs σ) c)
+      → (Less σ (edges visit qs σ)) × (Walked adj Ok p r σ (edges visit qs σ)) × ((c : ℕ) → List·Memᴰ c qs → 0 < discoveryAt (edges visit qs σ) c)
   unfolding edges
   edges-walked Ok p r n visit one [] oks σ z tm = (less-refl σ, walked-refl adj Ok p r σ, λ c m. absurd (List·Memᴰ·not-nil m))
   edges-walked Ok p r n visit one (q ∷ qs) oks σ z tm =
       let here-ok = oks q (List·Memᴰ·head refl) in
       let τ : Stamps = edge visit q σ in
-      let first : (Less σ τ) × (Walked adj Ok p r σ τ) × (0 < dis τ q) =
+      let first : (Less σ τ) × (Walked adj Ok p r σ τ) × (0 < discoveryAt τ q) =
       ⊎-elim
-      (λ (e : dis σ q ≡ 0). subst (λ (x : Stamps). (Less σ x) × (Walked adj Ok p r σ x) × (0 < dis x q)) (sym (edge-new visit q σ e)) (one q σ z tm (here-ok .0) (here-ok .1) e))
-      (λ (e : 0 < dis σ q). subst (λ (x : Stamps). (Less σ x) × (Walked adj Ok p r σ x) × (0 < dis x q)) (sym (edge-old visit q σ (λ o. omega (arith, o, e)))) (less-refl σ, walked-refl adj Ok p r σ, e))
-      (zero-or (dis σ q)) in
+      (λ (e : discoveryAt σ q ≡ 0). subst (λ (x : Stamps). (Less σ x) × (Walked adj Ok p r σ x) × (0 < discoveryAt x q)) (sym (edge-new visit q σ e)) (one q σ z tm (here-ok .0) (here-ok .1) e))
+      (λ (e : 0 < discoveryAt σ q). subst (λ (x : Stamps). (Less σ x) × (Walked adj Ok p r σ x) × (0 < discoveryAt x q)) (sym (edge-old visit q σ (λ o. omega (arith, o, e)))) (less-refl σ, walked-refl adj Ok p r σ, e))
+      (zero-or (discoveryAt σ q)) in
       let rest = edges-walked Ok p r n visit one qs (λ c m. oks c (List·Memᴰ·tail m)) τ (sized-less size n σ τ (first .0) z) (timely-walked adj Ok p r σ τ (first .1) tm) in
       let ρ : Stamps = edges visit qs τ in (
         less-trans σ τ ρ (first .0) (rest .0),
         walked-trans adj Ok p r σ τ ρ (first .1) (rest .1),
-        λ c m. ⊎-elim (λ (e : c ≡ q). let k = rest .1 .dis-kept q (first .2) in omega (arith, k, first .2, ap (dis ρ) e)) (λ (t : List·Memᴰ c qs). rest .2 c t) (List·Memᴰ·cases-cons m),
+        λ c m. ⊎-elim (λ (e : c ≡ q). let k = rest .1 .discovery-kept q (first .2) in omega (arith, k, first .2, ap (discoveryAt ρ) e)) (λ (t : List·Memᴰ c qs). rest .2 c t) (List·Memᴰ·cases-cons m),
       )
 
   pub enters-walked : (Ok : ℕ → Type 0) (p r n : ℕ) → Visit Ok p r n (λ q. enters n adj r p q)
   unfolding enters
-  enters-walked Ok p r zero s σ z tm ok lt e = absurd (omega (arith, fresh-set (σ .disc) s (σ .time) (omega (arith, z .discs)) e, z .few))
+  enters-walked Ok p r zero s σ z tm ok lt e = absurd (omega (arith, fresh-set (σ .discoveries) s (σ .time) (omega (arith, z .discs)) e, z .few))
   enters-walked Ok p r (suc n) s σ z tm ok lt e =
       let α : Stamps = arrive r p s σ in
       let ω : Stamps = edges (λ q. enters n adj r s q) (adj s) α in
@@ -463,5 +463,5 @@ module _ (adj : ℕ → List ℕ) (size : ℕ) (inside : (s q : ℕ) → s < siz
       let L = leave-is s ω (omega (arith, body .0 .fins, sα .fins)) in (
         enters-less adj size inside (suc n) r p s σ (z .discs) lt e,
         entered-walked adj Ok p r s σ α ω (leave s ω) A L ok e tm (body .1) (body .2),
-        omega (arith, L .dis-all s, body .1 .dis-kept s (omega (arith, A .dis-at)), A .dis-at),
+        omega (arith, L .discovery-all s, body .1 .discovery-kept s (omega (arith, A .discovery-at)), A .discovery-at),
       )

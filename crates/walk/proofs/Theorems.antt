@@ -18,9 +18,9 @@ use lib.ListN.{length, getD, replicate, length-replicate}
 use Rattle.base.specs.Decide.{same-or, le-or, zero-or}
 use Rattle.base.specs.Lists.{filter}
 use Rattle.base.proofs.Lists.{mem-filter, getD-zeros, getD-inside}
-use Rattle.walk.specs.Walk.{Stamps, edge, edges, starts, fresh, stampAll}
+use Rattle.walk.specs.Walk.{Stamps, edge, edges, startWalk, fresh, stampAll}
 use Rattle.walk.specs.Ready.{stamps}
-use Rattle.walk.specs.Forest.{dis, fin, par, top, Holds, Parted, Above, self, up, Reach, here, on, Top, Under, Forest}
+use Rattle.walk.specs.Forest.{discoveryAt, finishAt, parentAt, startAt, Holds, Parted, Above, self, up, Reach, here, on, Top, Under, Forest}
 use Rattle.walk.proofs.Run.{Less, less-refl, less-trans, edge-new, edge-old}
 use Rattle.walk.proofs.Drive.{fresh-all, fresh-le}
 use Rattle.walk.proofs.Steps.{Walked, Sized, sized-less, enters-walked, Timely, reach-from}
@@ -28,31 +28,31 @@ use Rattle.walk.proofs.Steps.{Walked, Sized, sized-less, enters-walked,
 -- after Stamp: a forest, every slot entered, and the time twice their number, so that by `hit` and `times-apart` each time of 1 to 2 * size is once a discovery or a finish
 pub record Stamped (adj : ℕ → List ℕ) (size : ℕ) (σ : Stamps) : Type 0 where
   pub forest : Forest adj σ
-  pub all : (q : ℕ) → q < size → 0 < dis σ q
+  pub all : (q : ℕ) → q < size → 0 < discoveryAt σ q
   pub end : σ .time ≡ 2 * size
 
 -- ---- of any forest
 
 module _ (adj : ℕ → List ℕ) (σ : Stamps) (F : Forest adj σ) where
   -- a parent is entered and holds its child
-  parent-holds : (b : ℕ) → 0 < dis σ b → (0 < dis σ (par σ b)) × (Holds σ (par σ b) b)
+  parent-holds : (b : ℕ) → 0 < discoveryAt σ b → (0 < discoveryAt σ (parentAt σ b)) × (Holds σ (parentAt σ b) b)
   parent-holds b e =
       ⊎-elim
-      (λ t. (omega (arith, e, ap (dis σ) (t .parent)), (omega (arith, ap (dis σ) (t .parent)), omega (arith, ap (fin σ) (t .parent)))))
+      (λ t. (omega (arith, e, ap (discoveryAt σ) (t .parent)), (omega (arith, ap (discoveryAt σ) (t .parent)), omega (arith, ap (finishAt σ) (t .parent)))))
       (λ u. (
-        omega (arith, u .1 .entered, ap (dis σ) (u .1 .parent)),
-        (omega (arith, u .1 .begins, ap (dis σ) (u .1 .parent)), omega (arith, u .1 .ends, ap (fin σ) (u .1 .parent))),
+        omega (arith, u .1 .entered, ap (discoveryAt σ) (u .1 .parent)),
+        (omega (arith, u .1 .begins, ap (discoveryAt σ) (u .1 .parent)), omega (arith, u .1 .ends, ap (finishAt σ) (u .1 .parent))),
       ))
       (F .tree b e)
 
-  pub above-holds : {a b : ℕ} → 0 < dis σ b → Above σ a b → (0 < dis σ a) × (Holds σ a b)
+  pub above-holds : {a b : ℕ} → 0 < discoveryAt σ b → Above σ a b → (0 < discoveryAt σ a) × (Holds σ a b)
   above-holds e self = (e, (le-refl _, le-refl _))
   above-holds e (up {b = b} h) =
       let k = parent-holds b e in
       let i = above-holds (k .0) h in
       (i .0, (le-trans (i .1 .0) (k .1 .0), le-trans (k .1 .1) (i .1 .1)))
 
-  holds-above-in : (n a b : ℕ) → dis σ b ≤ n → 0 < dis σ a → 0 < dis σ b → Holds σ a b → Above σ a b
+  holds-above-in : (n a b : ℕ) → discoveryAt σ b ≤ n → 0 < discoveryAt σ a → 0 < discoveryAt σ b → Holds σ a b → Above σ a b
   holds-above-in zero a b le ea eb h = absurd (omega arith)
   holds-above-in (suc n) a b le ea eb h =
       ⊎-elim
@@ -64,10 +64,10 @@ module _ (adj : ℕ → List ℕ) (σ : Stamps) (F : Forest adj σ) where
       (F .tree b eb))
       (same-or a b)
 
-  pub holds-above : {a b : ℕ} → 0 < dis σ a → 0 < dis σ b → Holds σ a b → Above σ a b
-  holds-above {a} {b} ea eb h = holds-above-in (dis σ b) a b (le-refl _) ea eb h
+  pub holds-above : {a b : ℕ} → 0 < discoveryAt σ a → 0 < discoveryAt σ b → Holds σ a b → Above σ a b
+  holds-above {a} {b} ea eb h = holds-above-in (discoveryAt σ b) a b (le-refl _) ea eb h
 
-  pub above-reach : {a b : ℕ} → 0 < dis σ b → Above σ a b → Reach adj a b
+  pub above-reach : {a b : ℕ} → 0 < discoveryAt σ b → Above σ a b → Reach adj a b
   above-reach e self = here
   above-reach {a} e (up {b = b} h) =
       let r = above-reach (parent-holds b e .0) h in
@@ -77,90 +77,90 @@ module _ (adj : ℕ → List ℕ) (σ : Stamps) (F : Forest adj σ) where
       (F .tree b e)
 
   -- so an interval that holds another is a path
-  pub holds-reach : {a b : ℕ} → 0 < dis σ a → 0 < dis σ b → Holds σ a b → Reach adj a b
+  pub holds-reach : {a b : ℕ} → 0 < discoveryAt σ a → 0 < discoveryAt σ b → Holds σ a b → Reach adj a b
   holds-reach ea eb h = above-reach eb (holds-above ea eb h)
 
   -- the start is the top of the tree: it holds q, and nothing else holds it
-  start-in : (n q : ℕ) → dis σ q ≤ n → 0 < dis σ q → (0 < dis σ (top σ q)) × (Holds σ (top σ q) q) × (Top σ (top σ q))
+  start-in : (n q : ℕ) → discoveryAt σ q ≤ n → 0 < discoveryAt σ q → (0 < discoveryAt σ (startAt σ q)) × (Holds σ (startAt σ q) q) × (Top σ (startAt σ q))
   start-in zero q le e = absurd (omega arith)
   start-in (suc n) q le e =
       ⊎-elim
-      (λ (t : Top σ q). subst (λ (k : ℕ). (0 < dis σ k) × (Holds σ k q) × (Top σ k)) (sym (t .start)) (e, (le-refl _, le-refl _), t))
+      (λ (t : Top σ q). subst (λ (k : ℕ). (0 < discoveryAt σ k) × (Holds σ k q) × (Top σ k)) (sym (t .start)) (e, (le-refl _, le-refl _), t))
       (λ (u : (p : ℕ) × Under adj σ q p).
       let i = start-in n (u .0) (omega (arith, u .1 .begins)) (u .1 .entered) in
-      subst (λ (k : ℕ). (0 < dis σ k) × (Holds σ k q) × (Top σ k)) (sym (u .1 .start)) (i .0, (omega (arith, i .1 .0, u .1 .begins), omega (arith, i .1 .1, u .1 .ends)), i .2))
+      subst (λ (k : ℕ). (0 < discoveryAt σ k) × (Holds σ k q) × (Top σ k)) (sym (u .1 .start)) (i .0, (omega (arith, i .1 .0, u .1 .begins), omega (arith, i .1 .1, u .1 .ends)), i .2))
       (F .tree q e)
 
-  pub start-top : (q : ℕ) → 0 < dis σ q → (0 < dis σ (top σ q)) × (Holds σ (top σ q) q) × (Top σ (top σ q))
-  start-top q e = start-in (dis σ q) q (le-refl _) e
+  pub start-starts : (q : ℕ) → 0 < discoveryAt σ q → (0 < discoveryAt σ (startAt σ q)) × (Holds σ (startAt σ q) q) × (Top σ (startAt σ q))
+  start-starts q e = start-in (discoveryAt σ q) q (le-refl _) e
 
   -- all times differ, and none is past the end
-  pub times-apart : (q u : ℕ) → 0 < dis σ q → 0 < dis σ u → (q ≡ u → ⊥) → ((dis σ q ≡ dis σ u → ⊥) × (fin σ q ≡ fin σ u → ⊥) × (dis σ q ≡ fin σ u → ⊥))
+  pub times-apart : (q u : ℕ) → 0 < discoveryAt σ q → 0 < discoveryAt σ u → (q ≡ u → ⊥) → ((discoveryAt σ q ≡ discoveryAt σ u → ⊥) × (finishAt σ q ≡ finishAt σ u → ⊥) × (discoveryAt σ q ≡ finishAt σ u → ⊥))
   times-apart q u e f d = go (F .parted q u e f d)
     where
-      go : Parted σ q u → ((dis σ q ≡ dis σ u → ⊥) × (fin σ q ≡ fin σ u → ⊥) × (dis σ q ≡ fin σ u → ⊥))
+      go : Parted σ q u → ((discoveryAt σ q ≡ discoveryAt σ u → ⊥) × (finishAt σ q ≡ finishAt σ u → ⊥) × (discoveryAt σ q ≡ finishAt σ u → ⊥))
       go (inl h) = (λ x. omega (arith, F .spans q e, F .spans u f), λ x. omega (arith, F .spans q e, F .spans u f), λ x. omega (arith, F .spans q e, F .spans u f))
       go (inr (inl h)) = (λ x. omega (arith, F .spans q e, F .spans u f), λ x. omega (arith, F .spans q e, F .spans u f), λ x. omega (arith, F .spans q e, F .spans u f))
       go (inr (inr (inl h))) = (λ x. omega (arith, F .spans q e, F .spans u f), λ x. omega (arith, F .spans q e, F .spans u f), λ x. omega (arith, F .spans q e, F .spans u f))
       go (inr (inr (inr h))) = (λ x. omega (arith, F .spans q e, F .spans u f), λ x. omega (arith, F .spans q e, F .spans u f), λ x. omega (arith, F .spans q e, F .spans u f))
 
   pub forest-timely : Timely σ
-  forest-timely q = ⊎-elim (λ (z : dis σ q ≡ 0). omega arith) (λ (e : 0 < dis σ q). omega (arith, F .spans q e, F .past q e)) (zero-or (dis σ q))
+  forest-timely q = ⊎-elim (λ (z : discoveryAt σ q ≡ 0). omega arith) (λ (e : 0 < discoveryAt σ q). omega (arith, F .spans q e, F .past q e)) (zero-or (discoveryAt σ q))
 
-  pub reach-entered : {a b : ℕ} → 0 < dis σ a → Reach adj a b → 0 < dis σ b
+  pub reach-entered : {a b : ℕ} → 0 < discoveryAt σ a → Reach adj a b → 0 < discoveryAt σ b
   reach-entered e here = e
   reach-entered e (on {b = b} {c = c} r m) = F .closed b c (reach-entered e r) m
 
 -- ---- where the discoveries have a place for each slot, what is entered is a slot, and so are its parent and its start
 
-module _ (adj : ℕ → List ℕ) (size : ℕ) (σ : Stamps) (S : Stamped adj size σ) (len : length (σ .disc) ≡ size) where
-  pub entered-below : (q : ℕ) → 0 < dis σ q → q < size
-  entered-below q e = omega (arith, len, getD-inside (σ .disc) q e)
+module _ (adj : ℕ → List ℕ) (size : ℕ) (σ : Stamps) (S : Stamped adj size σ) (len : length (σ .discoveries) ≡ size) where
+  pub entered-below : (q : ℕ) → 0 < discoveryAt σ q → q < size
+  entered-below q e = omega (arith, len, getD-inside (σ .discoveries) q e)
 
-  pub links-below : (q : ℕ) → q < size → (par σ q < size) × (top σ q < size)
+  pub links-below : (q : ℕ) → q < size → (parentAt σ q < size) × (startAt σ q < size)
   links-below q lt = (
-    entered-below (par σ q)
+    entered-below (parentAt σ q)
         (⊎-elim
-        (λ (t : Top σ q). subst (λ (k : ℕ). 0 < dis σ k) (sym (t .parent)) (S .all q lt))
-        (λ (u : (p : ℕ) × Under adj σ q p). subst (λ (k : ℕ). 0 < dis σ k) (sym (u .1 .parent)) (u .1 .entered))
+        (λ (t : Top σ q). subst (λ (k : ℕ). 0 < discoveryAt σ k) (sym (t .parent)) (S .all q lt))
+        (λ (u : (p : ℕ) × Under adj σ q p). subst (λ (k : ℕ). 0 < discoveryAt σ k) (sym (u .1 .parent)) (u .1 .entered))
         (S .forest .tree q (S .all q lt))),
-    entered-below (top σ q) (start-top adj σ (S .forest) q (S .all q lt) .0),
+    entered-below (startAt σ q) (start-starts adj σ (S .forest) q (S .all q lt) .0),
   )
 
 -- ---- cycles: two different slots reach each other exactly when an edge goes back to an interval around it
 
 module _ (adj : ℕ → List ℕ) (σ : Stamps) (F : Forest adj σ) where
   -- an edge that goes back closes a cycle
-  pub back-cycle : (a b : ℕ) → 0 < dis σ a → List·Memᴰ b (adj a) → Holds σ b a → (Reach adj a b) × (Reach adj b a)
+  pub back-cycle : (a b : ℕ) → 0 < discoveryAt σ a → List·Memᴰ b (adj a) → Holds σ b a → (Reach adj a b) × (Reach adj b a)
   back-cycle a b e m h = (on here m, holds-reach adj σ F (F .closed a b e m) e h)
 
   -- any other edge goes to a slot that finished earlier
-  edge-down : (a b : ℕ) → 0 < dis σ a → List·Memᴰ b (adj a) → (a ≡ b → ⊥) → (Holds σ b a → ⊥) → fin σ b < fin σ a
+  edge-down : (a b : ℕ) → 0 < discoveryAt σ a → List·Memᴰ b (adj a) → (a ≡ b → ⊥) → (Holds σ b a → ⊥) → finishAt σ b < finishAt σ a
   edge-down a b e m d not = go (F .parted a b e (F .closed a b e m) d)
     where
-      go : Parted σ a b → fin σ b < fin σ a
+      go : Parted σ a b → finishAt σ b < finishAt σ a
       go (inl h) = absurd (omega (arith, F .seen a b e m))
       go (inr (inl h)) = omega (arith, F .spans a e)
       go (inr (inr (inl h))) = h .1
       go (inr (inr (inr h))) = absurd (not (omega arith, omega arith))
 
-  pub reach-down : ((a b : ℕ) → 0 < dis σ a → List·Memᴰ b (adj a) → (a ≡ b → ⊥) → Holds σ b a → ⊥) → {a b : ℕ} → 0 < dis σ a → Reach adj a b → (a ≡ b) ⊎ (fin σ b < fin σ a)
+  pub reach-down : ((a b : ℕ) → 0 < discoveryAt σ a → List·Memᴰ b (adj a) → (a ≡ b → ⊥) → Holds σ b a → ⊥) → {a b : ℕ} → 0 < discoveryAt σ a → Reach adj a b → (a ≡ b) ⊎ (finishAt σ b < finishAt σ a)
   reach-down none e here = inl refl
   reach-down none {a} e (on {b = b} {c = c} r m) =
       let eb = reach-entered adj σ F e r in
       ⊎-elim
-      (λ (x : b ≡ c). subst (λ (k : ℕ). (a ≡ k) ⊎ (fin σ k < fin σ a)) x (reach-down none e r))
+      (λ (x : b ≡ c). subst (λ (k : ℕ). (a ≡ k) ⊎ (finishAt σ k < finishAt σ a)) x (reach-down none e r))
       (λ (d : b ≡ c → ⊥).
       let k = edge-down b c eb m d (none b c eb m d) in
-      inr (⊎-elim (λ (x : a ≡ b). omega (arith, k, ap (fin σ) x)) (λ (x : fin σ b < fin σ a). omega (arith, k)) (reach-down none e r)))
+      inr (⊎-elim (λ (x : a ≡ b). omega (arith, k, ap (finishAt σ) x)) (λ (x : finishAt σ b < finishAt σ a). omega (arith, k)) (reach-down none e r)))
       (same-or b c)
 
   -- with no edge back, no two different slots reach each other
-  pub acyclic : ((a b : ℕ) → 0 < dis σ a → List·Memᴰ b (adj a) → (a ≡ b → ⊥) → Holds σ b a → ⊥) → (a b : ℕ) → 0 < dis σ a → (a ≡ b → ⊥) → Reach adj a b → Reach adj b a → ⊥
+  pub acyclic : ((a b : ℕ) → 0 < discoveryAt σ a → List·Memᴰ b (adj a) → (a ≡ b → ⊥) → Holds σ b a → ⊥) → (a b : ℕ) → 0 < discoveryAt σ a → (a ≡ b → ⊥) → Reach adj a b → Reach adj b a → ⊥
   acyclic none a b e d there back =
       ⊎-elim
       (λ (x : a ≡ b). d x)
-      (λ (x : fin σ b < fin σ a). ⊎-elim (λ (y : b ≡ a). d (sym y)) (λ (y : fin σ a < fin σ b). omega arith) (reach-down none (reach-entered adj σ F e there) back))
+      (λ (x : finishAt σ b < finishAt σ a). ⊎-elim (λ (y : b ≡ a). d (sym y)) (λ (y : finishAt σ a < finishAt σ b). omega arith) (reach-down none (reach-entered adj σ F e there) back))
       (reach-down none e there)
 
 -- ---- a start makes a forest of a forest
@@ -168,18 +168,18 @@ module _ (adj : ℕ → List ℕ) (σ : Stamps) (F : Forest adj σ) where
 module _ (adj : ℕ → List ℕ) (r : ℕ) (σ σ′ : Stamps) (F : Forest adj σ) (w : Walked adj (λ q. q ≡ r) r r σ σ′) where
   -- entered before: all stays; or by this start
   Was : ℕ → Type 0
-  Was q = (0 < dis σ q) × (dis σ′ q ≡ dis σ q) × (fin σ′ q ≡ fin σ q) × (fin σ q ≤ σ .time) × (dis σ q < fin σ q)
+  Was q = (0 < discoveryAt σ q) × (discoveryAt σ′ q ≡ discoveryAt σ q) × (finishAt σ′ q ≡ finishAt σ q) × (finishAt σ q ≤ σ .time) × (discoveryAt σ q < finishAt σ q)
 
   Now : ℕ → Type 0
-  Now q = (dis σ q ≡ 0) × (0 < dis σ′ q) × (σ .time < dis σ′ q) × (dis σ′ q < fin σ′ q)
+  Now q = (discoveryAt σ q ≡ 0) × (0 < discoveryAt σ′ q) × (σ .time < discoveryAt σ′ q) × (discoveryAt σ′ q < finishAt σ′ q)
 
-  when : (q : ℕ) → 0 < dis σ′ q → Was q ⊎ Now q
+  when : (q : ℕ) → 0 < discoveryAt σ′ q → Was q ⊎ Now q
   unfolding Was Now
   when q e =
       ⊎-elim
       (λ z. let a = w .added q (z, e) in inr (z, e, a .after, a .spans))
-      (λ s. inl (s, w .dis-kept q s, w .fin-kept q s, F .past q s, F .spans q s))
-      (zero-or (dis σ q))
+      (λ s. inl (s, w .discovery-kept q s, w .finishes-kept q s, F .past q s, F .spans q s))
+      (zero-or (discoveryAt σ q))
 
   parted-when : (q u : ℕ) → (q ≡ u → ⊥) → Was q ⊎ Now q → Was u ⊎ Now u → Parted σ′ q u
   unfolding Was Now
@@ -199,8 +199,8 @@ module _ (adj : ℕ → List ℕ) (r : ℕ) (σ σ′ : Stamps) (F : Forest adj 
   tree-was q f =
       ⊎-elim
       (λ (t : Top σ q). inl (record {
-        parent = w .par-kept q (f .0) ∙ t .parent;
-        start = w .top-kept q (f .0) ∙ t .start;
+        parent = w .parents-kept q (f .0) ∙ t .parent;
+        start = w .starts-kept q (f .0) ∙ t .start;
         widest = λ v e d h. ⊎-elim
             (λ g. t .widest v (g .0) d (omega (arith, h, g .1, f .1), omega (arith, h, g .2, f .2)))
             (λ g. absurd (omega (arith, h, g .2, f .1, f .3, f .4)))
@@ -212,15 +212,15 @@ module _ (adj : ℕ → List ℕ) (r : ℕ) (σ σ′ : Stamps) (F : Forest adj 
       inr (
         p,
         record {
-          parent = w .par-kept q (f .0) ∙ b .parent;
-          entered = omega (arith, b .entered, w .dis-kept p (b .entered));
+          parent = w .parents-kept q (f .0) ∙ b .parent;
+          entered = omega (arith, b .entered, w .discovery-kept p (b .entered));
           edge = b .edge;
-          begins = omega (arith, b .begins, w .dis-kept p (b .entered), f .1);
-          ends = omega (arith, b .ends, w .fin-kept p (b .entered), f .2);
-          start = w .top-kept q (f .0) ∙ b .start ∙ sym (w .top-kept p (b .entered));
+          begins = omega (arith, b .begins, w .discovery-kept p (b .entered), f .1);
+          ends = omega (arith, b .ends, w .finishes-kept p (b .entered), f .2);
+          start = w .starts-kept q (f .0) ∙ b .start ∙ sym (w .starts-kept p (b .entered));
           narrowest = λ v e d h. ⊎-elim
               (λ g. let k = b .narrowest v (g .0) d (omega (arith, h, g .1, f .1), omega (arith, h, g .2, f .2)) in
-              (omega (arith, k, g .1, w .dis-kept p (b .entered)), omega (arith, k, g .2, w .fin-kept p (b .entered))))
+              (omega (arith, k, g .1, w .discovery-kept p (b .entered)), omega (arith, k, g .2, w .finishes-kept p (b .entered))))
               (λ g. absurd (omega (arith, h, g .2, f .1, f .3, f .4)))
               (when v e);
         },
@@ -268,11 +268,11 @@ module _ (adj : ℕ → List ℕ) (r : ℕ) (σ σ′ : Stamps) (F : Forest adj 
         past = λ q e. ⊎-elim (λ f. omega (arith, f .2, f .3, w .later)) (λ f. w .added q (f .0, f .1) .past) (when q e);
         parted = λ q u e f d. parted-when q u d (when q e) (when u f);
         tree = λ q e. ⊎-elim (tree-was q) (tree-now q) (when q e);
-        closed = λ q c e m. ⊎-elim (λ f. let k = F .closed q c (f .0) m in omega (arith, k, w .dis-kept c k)) (λ f. w .added q (f .0, f .1) .closed c m .0) (when q e);
-        seen = λ q c e m. ⊎-elim (λ f. let k = F .seen q c (f .0) m in omega (arith, k, w .dis-kept c (F .closed q c (f .0) m), f .2)) (λ f. w .added q (f .0, f .1) .closed c m .1) (when q e);
+        closed = λ q c e m. ⊎-elim (λ f. let k = F .closed q c (f .0) m in omega (arith, k, w .discovery-kept c k)) (λ f. w .added q (f .0, f .1) .closed c m .0) (when q e);
+        seen = λ q c e m. ⊎-elim (λ f. let k = F .seen q c (f .0) m in omega (arith, k, w .discovery-kept c (F .closed q c (f .0) m), f .2)) (λ f. w .added q (f .0, f .1) .closed c m .1) (when q e);
         hit = λ t x y.
             ⊎-elim
-            (λ (le : t ≤ σ .time). let h = F .hit t x le in (h .0, omega (arith, h .1, w .dis-kept (h .0) (h .1)), ⊎-map (λ e. w .dis-kept (h .0) (h .1) ∙ e) (λ e. w .fin-kept (h .0) (h .1) ∙ e) (h .2)))
+            (λ (le : t ≤ σ .time). let h = F .hit t x le in (h .0, omega (arith, h .1, w .discovery-kept (h .0) (h .1)), ⊎-map (λ e. w .discovery-kept (h .0) (h .1) ∙ e) (λ e. w .finishes-kept (h .0) (h .1) ∙ e) (h .2)))
             (λ (lt : σ .time < t). let h = w .hit t lt y in (h .0, h .1 .1, h .2))
             (le-or t (σ .time));
       }
@@ -280,51 +280,51 @@ module _ (adj : ℕ → List ℕ) (r : ℕ) (σ σ′ : Stamps) (F : Forest adj 
 -- ---- Stamp, whole
 
 module _ (adj : ℕ → List ℕ) (size : ℕ) (inside : (s q : ℕ) → s < size → List·Memᴰ q (adj s) → q < size) where
-  pub start-walked : (n r : ℕ) (σ : Stamps) → Sized size n σ → Forest adj σ → r < size → dis σ r ≡ 0
-      → (Less σ (starts n adj r σ)) × (Walked adj (λ q. q ≡ r) r r σ (starts n adj r σ)) × (0 < dis (starts n adj r σ) r)
-  unfolding starts
+  pub start-walked : (n r : ℕ) (σ : Stamps) → Sized size n σ → Forest adj σ → r < size → discoveryAt σ r ≡ 0
+      → (Less σ (startWalk n adj r σ)) × (Walked adj (λ q. q ≡ r) r r σ (startWalk n adj r σ)) × (0 < discoveryAt (startWalk n adj r σ) r)
+  unfolding startWalk
   start-walked n r σ z F lt e = enters-walked adj size inside (λ q. q ≡ r) r r n r σ z (forest-timely adj σ F) refl lt e
 
   -- (e) the slots that a start enters are those that it reaches and that were not entered
-  pub start-exact : (n r : ℕ) (σ : Stamps) → Sized size n σ → Forest adj σ → r < size → dis σ r ≡ 0 → (q : ℕ) → dis σ q ≡ 0
-      → (0 < dis (starts n adj r σ) q → Reach adj r q) × (Reach adj r q → 0 < dis (starts n adj r σ) q)
+  pub start-exact : (n r : ℕ) (σ : Stamps) → Sized size n σ → Forest adj σ → r < size → discoveryAt σ r ≡ 0 → (q : ℕ) → discoveryAt σ q ≡ 0
+      → (0 < discoveryAt (startWalk n adj r σ) q → Reach adj r q) × (Reach adj r q → 0 < discoveryAt (startWalk n adj r σ) q)
   start-exact n r σ z F lt e q new =
       let w = start-walked n r σ z F lt e in (
         λ k. let o = w .1 .added q (new, k) .reach in subst (λ (x : ℕ). Reach adj x q) (o .1) (o .2),
-        λ k. reach-entered adj (starts n adj r σ) (forest-start adj r σ (starts n adj r σ) F (w .1)) (w .2) k,
+        λ k. reach-entered adj (startWalk n adj r σ) (forest-start adj r σ (startWalk n adj r σ) F (w .1)) (w .2) k,
       )
 
   pub forest-edges : (n : ℕ) (qs : List ℕ) → ((q : ℕ) → List·Memᴰ q qs → q < size) → (σ : Stamps) → Sized size n σ → Forest adj σ
-      → (Less σ (edges (starts n adj) qs σ)) × (Forest adj (edges (starts n adj) qs σ)) × ((q : ℕ) → 0 < dis σ q → 0 < dis (edges (starts n adj) qs σ) q) × ((q : ℕ) → List·Memᴰ q qs → 0 < dis (edges (starts n adj) qs σ) q)
+      → (Less σ (edges (startWalk n adj) qs σ)) × (Forest adj (edges (startWalk n adj) qs σ)) × ((q : ℕ) → 0 < discoveryAt σ q → 0 < discoveryAt (edges (startWalk n adj) qs σ) q) × ((q : ℕ) → List·Memᴰ q qs → 0 < discoveryAt (edges (startWalk n adj) qs σ) q)
   unfolding edges
   forest-edges n [] all σ z F = (less-refl σ, F, λ q e. e, λ q m. absurd (List·Memᴰ·not-nil m))
   forest-edges n (r ∷ rs) all σ z F =
       let lt = all r (List·Memᴰ·head refl) in
-      let τ : Stamps = edge (starts n adj) r σ in
-      let first : (Less σ τ) × (Forest adj τ) × ((q : ℕ) → 0 < dis σ q → 0 < dis τ q) × (0 < dis τ r) =
+      let τ : Stamps = edge (startWalk n adj) r σ in
+      let first : (Less σ τ) × (Forest adj τ) × ((q : ℕ) → 0 < discoveryAt σ q → 0 < discoveryAt τ q) × (0 < discoveryAt τ r) =
       ⊎-elim
-      (λ (e : dis σ r ≡ 0). let w = start-walked n r σ z F lt e in
-      subst (λ (x : Stamps). (Less σ x) × (Forest adj x) × ((q : ℕ) → 0 < dis σ q → 0 < dis x q) × (0 < dis x r)) (sym (edge-new (starts n adj) r σ e))
-      (w .0, forest-start adj r σ (starts n adj r σ) F (w .1), λ q k. omega (arith, k, w .1 .dis-kept q k), w .2))
-      (λ (e : 0 < dis σ r).
-      subst (λ (x : Stamps). (Less σ x) × (Forest adj x) × ((q : ℕ) → 0 < dis σ q → 0 < dis x q) × (0 < dis x r)) (sym (edge-old (starts n adj) r σ (λ o. omega (arith, o, e))))
+      (λ (e : discoveryAt σ r ≡ 0). let w = start-walked n r σ z F lt e in
+      subst (λ (x : Stamps). (Less σ x) × (Forest adj x) × ((q : ℕ) → 0 < discoveryAt σ q → 0 < discoveryAt x q) × (0 < discoveryAt x r)) (sym (edge-new (startWalk n adj) r σ e))
+      (w .0, forest-start adj r σ (startWalk n adj r σ) F (w .1), λ q k. omega (arith, k, w .1 .discovery-kept q k), w .2))
+      (λ (e : 0 < discoveryAt σ r).
+      subst (λ (x : Stamps). (Less σ x) × (Forest adj x) × ((q : ℕ) → 0 < discoveryAt σ q → 0 < discoveryAt x q) × (0 < discoveryAt x r)) (sym (edge-old (startWalk n adj) r σ (λ o. omega (arith, o, e))))
       (less-refl σ, F, λ q k. k, e))
-      (zero-or (dis σ r)) in
+      (zero-or (discoveryAt σ r)) in
       let rest = forest-edges n rs (λ q m. all q (List·Memᴰ·tail m)) τ (sized-less size n σ τ (first .0) z) (first .1) in
-      let ρ : Stamps = edges (starts n adj) rs τ in (
+      let ρ : Stamps = edges (startWalk n adj) rs τ in (
         less-trans σ τ ρ (first .0) (rest .0),
         rest .1,
         λ q k. rest .2 q (first .2 q k),
-        λ q m. ⊎-elim (λ (e : q ≡ r). rest .2 q (subst (λ (k : ℕ). 0 < dis τ k) (sym e) (first .3))) (λ t. rest .3 q t) (List·Memᴰ·cases-cons m),
+        λ q m. ⊎-elim (λ (e : q ≡ r). rest .2 q (subst (λ (k : ℕ). 0 < discoveryAt τ k) (sym e) (first .3))) (λ t. rest .3 q t) (List·Memᴰ·cases-cons m),
       )
 
-  none : {A : Type 0} (f p s : List ℕ) (q : ℕ) → 0 < dis (stamps 0 (replicate size 0) f p s) q → A
+  none : {A : Type 0} (f p s : List ℕ) (q : ℕ) → 0 < discoveryAt (stamps 0 (replicate size 0) f p s) q → A
   none f p s q e = absurd (omega (arith, e, getD-zeros size q))
 
   pub forest-all : (root : ℕ → Bool) (order f p s : List ℕ) → ((q : ℕ) → List·Memᴰ q order → q < size) → length f ≡ size → length p ≡ size → length s ≡ size
       → (Forest adj (stampAll adj root order (stamps 0 (replicate size 0) f p s)))
-      × (((q : ℕ) → List·Memᴰ q order → 0 < dis (stampAll adj root order (stamps 0 (replicate size 0) f p s)) q))
-      × ((stampAll adj root order (stamps 0 (replicate size 0) f p s)) .time + 2 * fresh ((stampAll adj root order (stamps 0 (replicate size 0) f p s)) .disc) ≡ 2 * size)
+      × (((q : ℕ) → List·Memᴰ q order → 0 < discoveryAt (stampAll adj root order (stamps 0 (replicate size 0) f p s)) q))
+      × ((stampAll adj root order (stamps 0 (replicate size 0) f p s)) .time + 2 * fresh ((stampAll adj root order (stamps 0 (replicate size 0) f p s)) .discoveries) ≡ 2 * size)
   unfolding stampAll
   forest-all root order f p s all hf hp hs =
       let σ : Stamps = stamps 0 (replicate size 0) f p s in
@@ -332,7 +332,7 @@ module _ (adj : ℕ → List ℕ) (size : ℕ) (inside : (s q : ℕ) → s < siz
       let z : Sized size n σ = record { discs = length-replicate size 0; fins = hf; pars = hp; starts = hs; few = fresh-le (replicate size 0) } in
       let F : Forest adj σ = record { spans = λ q e. none f p s q e; past = λ q e. none f p s q e; parted = λ q u e d x. none f p s q e; tree = λ q e. none f p s q e; closed = λ q c e m. none f p s q e; seen = λ q c e m. none f p s q e; hit = λ t x y. absurd (omega arith) } in
       let one = forest-edges n (filter root order) (λ q m. all q (mem-filter root order m)) σ z F in
-      let τ : Stamps = edges (starts n adj) (filter root order) σ in
+      let τ : Stamps = edges (startWalk n adj) (filter root order) σ in
       let two = forest-edges n order all τ (sized-less size n σ τ (one .0) z) (one .1) in
       (two .1, two .3, omega (arith, two .0 .spent, one .0 .spent, fresh-all size))
 
@@ -344,19 +344,19 @@ module _ (adj : ℕ → List ℕ) (size : ℕ) (inside : (s q : ℕ) → s < siz
   fresh-none (suc k ∷ l) all = fresh-none l (λ q lt. all (suc q) (omega arith))
 
   pub stamp-theorem : (root : ℕ → Bool) (order f p s : List ℕ) (σ : Stamps) → ((q : ℕ) → List·Memᴰ q order → q < size) → ((q : ℕ) → q < size → List·Memᴰ q order)
-      → length f ≡ size → length p ≡ size → length s ≡ size → length (σ .disc) ≡ size
+      → length f ≡ size → length p ≡ size → length s ≡ size → length (σ .discoveries) ≡ size
       → σ ≡ stampAll adj root order (stamps 0 (replicate size 0) f p s)
       → Stamped adj size σ
   stamp-theorem root order f p s σ below every hf hp hs hd e =
       let t = forest-all root order f p s below hf hp hs in
       let F : Forest adj σ = subst (Forest adj) (sym e) (t .0) in
-      let all : (q : ℕ) → q < size → 0 < dis σ q = λ q lt. subst (λ (x : Stamps). 0 < dis x q) (sym e) (t .1 q (every q lt)) in
-      let sum : σ .time + 2 * fresh (σ .disc) ≡ 2 * size = subst (λ (x : Stamps). x .time + 2 * fresh (x .disc) ≡ 2 * size) (sym e) (t .2) in
-      record { forest = F; all = all; end = omega (arith, sum, fresh-none (σ .disc) (λ q lt. all q (omega (arith, hd, lt)))) }
+      let all : (q : ℕ) → q < size → 0 < discoveryAt σ q = λ q lt. subst (λ (x : Stamps). 0 < discoveryAt x q) (sym e) (t .1 q (every q lt)) in
+      let sum : σ .time + 2 * fresh (σ .discoveries) ≡ 2 * size = subst (λ (x : Stamps). x .time + 2 * fresh (x .discoveries) ≡ 2 * size) (sym e) (t .2) in
+      record { forest = F; all = all; end = omega (arith, sum, fresh-none (σ .discoveries) (λ q lt. all q (omega (arith, hd, lt)))) }
 
   -- a single start on blank columns enters exactly what it reaches
   pub reach-exact : (n r : ℕ) (f p s : List ℕ) → length f ≡ size → length p ≡ size → length s ≡ size → r < size → size ≤ n → (q : ℕ)
-      → (0 < dis (starts n adj r (stamps 0 (replicate size 0) f p s)) q → Reach adj r q) × (Reach adj r q → 0 < dis (starts n adj r (stamps 0 (replicate size 0) f p s)) q)
+      → (0 < discoveryAt (startWalk n adj r (stamps 0 (replicate size 0) f p s)) q → Reach adj r q) × (Reach adj r q → 0 < discoveryAt (startWalk n adj r (stamps 0 (replicate size 0) f p s)) q)
   reach-exact n r f p s hf hp hs lt big q =
       let σ : Stamps = stamps 0 (replicate size 0) f p s in
       let z : Sized size n σ = record { discs = length-replicate size 0; fins = hf; pars = hp; starts = hs; few = omega (arith, fresh-all size) } in

@@ -13,7 +13,7 @@ adjOf offsets targets s = slice (getD offsets s 0) (getD offsets (s + 1) 0) targ
 
 -- the columns of a call, as one value
 abbrev pub stamps : ℕ → List ℕ → List ℕ → List ℕ → List ℕ → Stamps
-stamps t d f p s = record { time = t; disc = d; fin = f; par = p; start = s }
+stamps t d f p s = record { time = t; discoveries = d; finishes = f; parents = p; starts = s }
 
 pub record Graph (offsets targets : List ℕ) (size : ℕ) : Type 0 where
   pub small : size ≤ 2048
@@ -24,8 +24,8 @@ pub record Graph (offsets targets : List ℕ) (size : ℕ) : Type 0 where
 
 -- the columns have an entry for each slot, and the time has room for what is left
 pub record Columns (size : ℕ) (σ : Stamps) : Type 0 where
-  pub discs : length (σ .disc) ≡ size
-  pub fins : length (σ .fin) ≡ size
-  pub pars : length (σ .par) ≡ size
-  pub starts : length (σ .start) ≡ size
-  pub room : σ .time + 2 * fresh (σ .disc) ≤ 8192
+  pub discs : length (σ .discoveries) ≡ size
+  pub fins : length (σ .finishes) ≡ size
+  pub pars : length (σ .parents) ≡ size
+  pub starts : length (σ .starts) ≡ size
+  pub room : σ .time + 2 * fresh (σ .discoveries) ≤ 8192

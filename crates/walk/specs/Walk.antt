@@ -9,20 +9,20 @@ use Rattle.base.specs.Lists.{filter}
 -- the time, and four columns with an entry per slot; a slot is not yet entered while its discovery is 0
 pub record Stamps : Type 0 where
   pub time : ℕ
-  pub disc : List ℕ
-  pub fin : List ℕ
-  pub par : List ℕ
-  pub start : List ℕ
+  pub discoveries : List ℕ
+  pub finishes : List ℕ
+  pub parents : List ℕ
+  pub starts : List ℕ
 
 -- slot s is discovered, coming from p, in the tree that starts at r
 unfoldable pub arrive : ℕ → ℕ → ℕ → Stamps → Stamps
 arrive r p s σ =
     record {
       time = σ .time + 1;
-      disc = set (σ .disc) s (σ .time + 1);
-      fin = σ .fin;
-      par = set (σ .par) s p;
-      start = set (σ .start) s r;
+      discoveries = set (σ .discoveries) s (σ .time + 1);
+      finishes = σ .finishes;
+      parents = set (σ .parents) s p;
+      starts = set (σ .starts) s r;
     }
 
 -- slot s is finished
@@ -30,15 +30,15 @@ unfoldable pub leave : ℕ → Stamps → Stamps
 leave s σ =
     record {
       time = σ .time + 1;
-      disc = σ .disc;
-      fin = set (σ .fin) s (σ .time + 1);
-      par = σ .par;
-      start = σ .start;
+      discoveries = σ .discoveries;
+      finishes = set (σ .finishes) s (σ .time + 1);
+      parents = σ .parents;
+      starts = σ .starts;
     }
 
 -- an edge to q: q is visited if it is not yet entered
 unfoldable pub edge : (ℕ → Stamps → Stamps) → ℕ → Stamps → Stamps
-edge visit q σ = elim (getD (σ .disc) q 0) [ zero ↦ visit q σ | suc k ↦ σ ]
+edge visit q σ = elim (getD (σ .discoveries) q 0) [ zero ↦ visit q σ | suc k ↦ σ ]
 
 -- the edges to each of a list, in order
 unfoldable pub edges : (ℕ → Stamps → Stamps) → List ℕ → Stamps → Stamps
@@ -51,8 +51,8 @@ enters zero adj r p s σ = σ
 enters (suc n) adj r p s σ = leave s (edges (λ q. enters n adj r s q) (adj s) (arrive r p s σ))
 
 -- a starting slot is its own parent and its own start
-unfoldable pub starts : ℕ → (ℕ → List ℕ) → ℕ → Stamps → Stamps
-starts n adj s σ = enters n adj s s s σ
+unfoldable pub startWalk : ℕ → (ℕ → List ℕ) → ℕ → Stamps → Stamps
+startWalk n adj s σ = enters n adj s s s σ
 
 -- how many slots are not yet entered
 unfoldable pub fresh : List ℕ → ℕ
@@ -63,5 +63,5 @@ fresh (suc k ∷ ds) = fresh ds
 -- Stamp, whole: it starts at each root in list order, then at each slot not yet entered, in list order
 unfoldable pub stampAll : (ℕ → List ℕ) → (ℕ → Bool) → List ℕ → Stamps → Stamps
 stampAll adj root order σ =
-    let visit : ℕ → Stamps → Stamps = starts (length (σ .disc)) adj in
+    let visit : ℕ → Stamps → Stamps = startWalk (length (σ .discoveries)) adj in
     edges visit order (edges visit (filter root order) σ)

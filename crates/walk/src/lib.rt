@@ -2,7 +2,7 @@
 ghost use mathlib.Core.Path.{_≡_};
 ghost use Prim.Native.Nat.{ℕ, _+_, _<_, _≤_};
 ghost use lib.ListN.{length, getD, replicate};
-ghost use Rattle.walk.specs.Walk.{enters, starts, edge, edges, fresh};
+ghost use Rattle.walk.specs.Walk.{enters, startWalk, edge, edges, fresh};
 ghost use Rattle.walk.specs.Ready.{adjOf, stamps, Graph, Columns};
 
 // Enters `slot`, coming from `parent`, in the tree that starts at `start`: stamps it, walks its edges, and returns the time.
@@ -13,36 +13,36 @@ pub fn enter(
     time: u32,
     offsets: &[u32],
     targets: &[u32],
-    disc: &mut [u32],
-    fin: &mut [u32],
-    par: &mut [u32],
-    top: &mut [u32],
+    discoveries: &mut [u32],
+    finishes: &mut [u32],
+    parents: &mut [u32],
+    starts: &mut [u32],
 ) -> u32
-    requires { ⌜ Graph (now offsets) (now targets) (length (now disc)) ⌝ }
-    requires { ⌜ Columns (length (now disc)) (stamps time (now disc) (now fin) (now par) (now top)) ⌝ }
-    requires { ⌜ (slot < length (now disc)) × (getD (now disc) slot 0 ≡ 0) ⌝ }
-    ensures { λ t. ⌜ ((n : ℕ) → fresh (now (disc .entry)) ≤ n →
-        stamps t (now (disc .exit)) (now (fin .exit)) (now (par .exit)) (now (top .exit))
+    requires { ⌜ Graph (now offsets) (now targets) (length (now discoveries)) ⌝ }
+    requires { ⌜ Columns (length (now discoveries)) (stamps time (now discoveries) (now finishes) (now parents) (now starts)) ⌝ }
+    requires { ⌜ (slot < length (now discoveries)) × (getD (now discoveries) slot 0 ≡ 0) ⌝ }
+    ensures { λ t. ⌜ ((n : ℕ) → fresh (now (discoveries .entry)) ≤ n →
+        stamps t (now (discoveries .exit)) (now (finishes .exit)) (now (parents .exit)) (now (starts .exit))
         ≡ enters n (adjOf (now (offsets .entry)) (now (targets .entry))) start parent slot
-        (stamps time (now (disc .entry)) (now (fin .entry)) (now (par .entry)) (now (top .entry)))) ⌝ }
+        (stamps time (now (discoveries .entry)) (now (finishes .entry)) (now (parents .entry)) (now (starts .entry)))) ⌝ }
 {
     let discovered = time + 1;
-    disc[slot] = discovered;
-    par[slot] = parent;
-    top[slot] = start;
+    discoveries[slot] = discovered;
+    parents[slot] = parent;
+    starts[slot] = start;
     let finished = walk_edges(
         slot,
         start,
         discovered,
         offsets,
         targets,
-        disc,
-        fin,
-        par,
-        top,
+        discoveries,
+        finishes,
+        parents,
+        starts,
     )
         + 1;
-    fin[slot] = finished;
+    finishes[slot] = finished;
     finished
 }
 
@@ -53,26 +53,26 @@ pub fn walk_edges(
     time: u32,
     offsets: &[u32],
     targets: &[u32],
-    disc: &mut [u32],
-    fin: &mut [u32],
-    par: &mut [u32],
-    top: &mut [u32],
+    discoveries: &mut [u32],
+    finishes: &mut [u32],
+    parents: &mut [u32],
+    starts: &mut [u32],
 ) -> u32
-    requires { ⌜ Graph (now offsets) (now targets) (length (now disc)) ⌝ }
-    requires { ⌜ Columns (length (now disc)) (stamps time (now disc) (now fin) (now par) (now top)) ⌝ }
-    requires { ⌜ slot < length (now disc) ⌝ }
-    ensures { λ t. ⌜ ((n : ℕ) → fresh (now (disc .entry)) ≤ n →
-        stamps t (now (disc .exit)) (now (fin .exit)) (now (par .exit)) (now (top .exit))
+    requires { ⌜ Graph (now offsets) (now targets) (length (now discoveries)) ⌝ }
+    requires { ⌜ Columns (length (now discoveries)) (stamps time (now discoveries) (now finishes) (now parents) (now starts)) ⌝ }
+    requires { ⌜ slot < length (now discoveries) ⌝ }
+    ensures { λ t. ⌜ ((n : ℕ) → fresh (now (discoveries .entry)) ≤ n →
+        stamps t (now (discoveries .exit)) (now (finishes .exit)) (now (parents .exit)) (now (starts .exit))
         ≡ edges (λ q. enters n (adjOf (now (offsets .entry)) (now (targets .entry))) start slot q)
         (adjOf (now (offsets .entry)) (now (targets .entry)) slot)
-        (stamps time (now (disc .entry)) (now (fin .entry)) (now (par .entry)) (now (top .entry)))) ⌝ }
+        (stamps time (now (discoveries .entry)) (now (finishes .entry)) (now (parents .entry)) (now (starts .entry)))) ⌝ }
 {
     let mut t = time;
     let mut at = offsets[slot] as usize;
     let end = offsets[slot + 1] as usize;
     while at < end {
         let q = targets[at] as usize;
-        if disc[q] == 0 {
+        if discoveries[q] == 0 {
             t = enter(
                 q,
                 slot as u32,
@@ -80,10 +80,10 @@ pub fn walk_edges(
                 t,
                 offsets,
                 targets,
-                disc,
-                fin,
-                par,
-                top,
+                discoveries,
+                finishes,
+                parents,
+                starts,
             );
         }
         at += 1;
@@ -97,22 +97,33 @@ pub fn start_at(
     time: u32,
     offsets: &[u32],
     targets: &[u32],
-    disc: &mut [u32],
-    fin: &mut [u32],
-    par: &mut [u32],
-    top: &mut [u32],
+    discoveries: &mut [u32],
+    finishes: &mut [u32],
+    parents: &mut [u32],
+    starts: &mut [u32],
 ) -> u32
-    requires { ⌜ Graph (now offsets) (now targets) (length (now disc)) ⌝ }
-    requires { ⌜ Columns (length (now disc)) (stamps time (now disc) (now fin) (now par) (now top)) ⌝ }
-    requires { ⌜ slot < length (now disc) ⌝ }
-    ensures { λ t. ⌜ ((n : ℕ) → fresh (now (disc .entry)) ≤ n →
-        stamps t (now (disc .exit)) (now (fin .exit)) (now (par .exit)) (now (top .exit))
-        ≡ edge (starts n (adjOf (now (offsets .entry)) (now (targets .entry)))) slot
-        (stamps time (now (disc .entry)) (now (fin .entry)) (now (par .entry)) (now (top .entry)))) ⌝ }
+    requires { ⌜ Graph (now offsets) (now targets) (length (now discoveries)) ⌝ }
+    requires { ⌜ Columns (length (now discoveries)) (stamps time (now discoveries) (now finishes) (now parents) (now starts)) ⌝ }
+    requires { ⌜ slot < length (now discoveries) ⌝ }
+    ensures { λ t. ⌜ ((n : ℕ) → fresh (now (discoveries .entry)) ≤ n →
+        stamps t (now (discoveries .exit)) (now (finishes .exit)) (now (parents .exit)) (now (starts .exit))
+        ≡ edge (startWalk n (adjOf (now (offsets .entry)) (now (targets .entry)))) slot
+        (stamps time (now (discoveries .entry)) (now (finishes .entry)) (now (parents .entry)) (now (starts .entry)))) ⌝ }
 {
     let s = slot as usize;
-    if disc[s] == 0 {
-        enter(s, slot, slot, time, offsets, targets, disc, fin, par, top)
+    if discoveries[s] == 0 {
+        enter(
+            s,
+            slot,
+            slot,
+            time,
+            offsets,
+            targets,
+            discoveries,
+            finishes,
+            parents,
+            starts,
+        )
     } else {
         time
     }
@@ -124,35 +135,44 @@ pub fn start_each(
     time: u32,
     offsets: &[u32],
     targets: &[u32],
-    disc: &mut [u32],
-    fin: &mut [u32],
-    par: &mut [u32],
-    top: &mut [u32],
+    discoveries: &mut [u32],
+    finishes: &mut [u32],
+    parents: &mut [u32],
+    starts: &mut [u32],
 ) -> u32
-    requires { ⌜ Graph (now offsets) (now targets) (length (now disc)) ⌝ }
-    requires { ⌜ Columns (length (now disc)) (stamps time (now disc) (now fin) (now par) (now top)) ⌝ }
-    requires { ⌜ ((i : ℕ) → i < length (now order) → getD (now order) i 0 < length (now disc)) ⌝ }
-    ensures { λ t. ⌜ ((n : ℕ) → fresh (now (disc .entry)) ≤ n →
-        stamps t (now (disc .exit)) (now (fin .exit)) (now (par .exit)) (now (top .exit))
-        ≡ edges (starts n (adjOf (now (offsets .entry)) (now (targets .entry)))) (now (order .entry))
-        (stamps time (now (disc .entry)) (now (fin .entry)) (now (par .entry)) (now (top .entry)))) ⌝ }
+    requires { ⌜ Graph (now offsets) (now targets) (length (now discoveries)) ⌝ }
+    requires { ⌜ Columns (length (now discoveries)) (stamps time (now discoveries) (now finishes) (now parents) (now starts)) ⌝ }
+    requires { ⌜ ((i : ℕ) → i < length (now order) → getD (now order) i 0 < length (now discoveries)) ⌝ }
+    ensures { λ t. ⌜ ((n : ℕ) → fresh (now (discoveries .entry)) ≤ n →
+        stamps t (now (discoveries .exit)) (now (finishes .exit)) (now (parents .exit)) (now (starts .exit))
+        ≡ edges (startWalk n (adjOf (now (offsets .entry)) (now (targets .entry)))) (now (order .entry))
+        (stamps time (now (discoveries .entry)) (now (finishes .entry)) (now (parents .entry)) (now (starts .entry)))) ⌝ }
 {
     let mut t = time;
     let mut k = 0;
     while k < order.len() {
-        t = start_at(order[k], t, offsets, targets, disc, fin, par, top);
+        t = start_at(
+            order[k],
+            t,
+            offsets,
+            targets,
+            discoveries,
+            finishes,
+            parents,
+            starts,
+        );
         k += 1;
     }
     t
 }
 
 // Sets every entry to 0.
-pub fn clear(disc: &mut [u32])
-    ensures { λ _. ⌜ now (disc .exit) ≡ replicate (length (now (disc .entry))) 0 ⌝ }
+pub fn clear(discoveries: &mut [u32])
+    ensures { λ _. ⌜ now (discoveries .exit) ≡ replicate (length (now (discoveries .entry))) 0 ⌝ }
 {
     let mut i = 0;
-    while i < disc.len() {
-        disc[i] = 0;
+    while i < discoveries.len() {
+        discoveries[i] = 0;
         i += 1;
     }
 }

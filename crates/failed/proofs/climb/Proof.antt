@@ -2,7 +2,7 @@
 use native.Mathlib.Omega.{arith}
 use mathlib.Core.Path.{sym, _∙_}
 use borrow.Author.Tests.{not-true, not-false}
-use Rattle.walk.specs.Forest.{dis}
+use Rattle.walk.specs.Forest.{discoveryAt}
 use Rattle.stamps.specs.Columns.{columns}
 use Rattle.failed.proofs.Climbing.{Climbing, climbing-none, climbing-timed, climbing-twin, climbing-child, Onward, climbing-on, climbing-ends}
 use Rattle.failed.proofs.climb.Statement.{statement}
@@ -10,14 +10,14 @@ use Rattle.failed.proofs.climb.Tie as tie
 use Rattle.failed.proofs.climb.Reads as reads
 use Rattle.failed.proofs.climb.Lts as lts
 use Rattle.failed.proofs.holds.Reads as holds-reads
-use Rattle.discovery_order.proofs.parent.Reads as parent-reads
+use Rattle.stamps.proofs.parent.Reads as parent-reads
 use Rattle.literal.proofs.twin_of.Reads as twin-of-reads
 
 abbrev Inv-loop : tie.InvT-loop
 Inv-loop times links s t x₀ x = Climbing times links s t x
 
 abbrev μ-loop : tie.MeasureT-loop
-μ-loop times links s t x₀ x = dis (columns times links) x
+μ-loop times links s t x₀ x = discoveryAt (columns times links) x
 
 -- x does not hold the twin: on to its parent
 on : (c : tie.After-parent Inv-loop μ-loop) → Onward (c .before .before .before .loop .inv)

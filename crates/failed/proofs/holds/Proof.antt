@@ -6,8 +6,8 @@ use Rattle.failed.proofs.holds.Statement.{statement}
 use Rattle.failed.proofs.holds.Tie as tie
 use Rattle.failed.proofs.holds.Reads as reads
 use Rattle.failed.proofs.holds.Lts as lts
-use Rattle.discovery_order.proofs.discovery.Reads as discovery-reads
-use Rattle.discovery_order.proofs.finish.Reads as finish-reads
+use Rattle.stamps.proofs.discovery.Reads as discovery-reads
+use Rattle.stamps.proofs.finish.Reads as finish-reads
 
 discovery-requires : tie.Need-discovery-requires
 discovery-requires c κs = search needs

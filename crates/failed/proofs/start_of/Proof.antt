@@ -6,8 +6,8 @@ use mathlib.Core.List.{[]}
 use Rattle.literal.specs.Literals.{slotOf}
 use Rattle.literal.proofs.Laws.{slot-below}
 use Rattle.literal.proofs.Signed.{read}
-use Rattle.stamps.specs.Fresh.{startOf}
-use Rattle.hidden.proofs.Columns.{column-top}
+use Rattle.stamps.specs.Fresh.{startIn}
+use Rattle.stamps.proofs.Columns.{column-starts}
 use borrow.Author.Needs.{needs}
 use Rattle.failed.proofs.start_of.Statement.{statement}
 use Rattle.failed.proofs.start_of.Tie as tie
@@ -16,7 +16,7 @@ use Rattle.failed.proofs.start_of.Lts as lts
 use Rattle.literal.proofs.slot_of.Reads as slot-of-reads
 
 -- the call's result, of the literal that was read
-slot : (c : tie.After-slot-of) → c .slot-of .result ≡ slotOf (startOf (c .before .before .args .links .now) (c .before .before .args .s))
+slot : (c : tie.After-slot-of) → c .slot-of .result ≡ slotOf (startIn (c .before .before .args .links .now) (c .before .before .args .s))
 slot c = rw (read (c .before .before .args .links .now) (2 * c .before .before .args .s + 1) (c .before .slot-of-arg .given)) at (c .slot-of .ensures)
 
 mul-slot-of : tie.Need-mul-slot-of
@@ -35,10 +35,10 @@ slot-of-requires : tie.Need-slot-of-requires
 slot-of-requires c κs = rw (read (c .before .args .links .now) (2 * c .before .args .s + 1) (c .slot-of-arg .given)) (c .before .pre .start .above, record { small = let h = c .before .pre .start .within in omega arith })
 
 cast-result : tie.Need-cast-result
-cast-result c = let h = slot-below (startOf (c .before .before .args .links .now) (c .before .before .args .s)) 1024 (c .before .before .pre .start .above) (c .before .before .pre .start .within) in omega (arith, h, slot c)
+cast-result c = let h = slot-below (startIn (c .before .before .args .links .now) (c .before .before .args .s)) 1024 (c .before .before .pre .start .above) (c .before .before .pre .start .within) in omega (arith, h, slot c)
 
 returns : tie.Need-returns
-returns c = slot c ∙ sym (column-top [] (c .before .before .args .links .now) (c .before .before .args .s))
+returns c = slot c ∙ sym (column-starts [] (c .before .before .args .links .now) (c .before .before .args .s))
 
 pub start-of-spec : {M : Type 1} → statement M
 start-of-spec =

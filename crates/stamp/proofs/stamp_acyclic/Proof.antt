@@ -27,26 +27,26 @@ array-borrow-prefix-slots c = search needs
 slice-aggregate-write-stamps : tie.Need-slice-aggregate-write-stamps
 slice-aggregate-write-stamps c = sym (front-zeros (2 * c .before .before .before .before .before .args .st .v) 2048 (omega (arith, c .before .before .before .before .before .pre .0 .0 .listed .few)))
 
-array-borrow-prefix-disc : tie.Need-array-borrow-prefix-disc
-array-borrow-prefix-disc c = search needs
+array-borrow-prefix-discoveries : tie.Need-array-borrow-prefix-discoveries
+array-borrow-prefix-discoveries c = search needs
 
 slice-aggregate-write-stamps-2 : tie.Need-slice-aggregate-write-stamps-2
 slice-aggregate-write-stamps-2 c = sym (front-zeros (2 * c .before .before .before .before .before .before .args .st .v) 2048 (omega (arith, c .before .before .before .before .before .before .pre .0 .0 .listed .few)))
 
-array-borrow-prefix-fin : tie.Need-array-borrow-prefix-fin
-array-borrow-prefix-fin c = search needs
+array-borrow-prefix-finishes : tie.Need-array-borrow-prefix-finishes
+array-borrow-prefix-finishes c = search needs
 
 slice-aggregate-write-stamps-3 : tie.Need-slice-aggregate-write-stamps-3
 slice-aggregate-write-stamps-3 c = sym (front-zeros (2 * c .before .before .before .before .before .before .before .args .st .v) 2048 (omega (arith, c .before .before .before .before .before .before .before .pre .0 .0 .listed .few)))
 
-array-borrow-prefix-par : tie.Need-array-borrow-prefix-par
-array-borrow-prefix-par c = search needs
+array-borrow-prefix-parents : tie.Need-array-borrow-prefix-parents
+array-borrow-prefix-parents c = search needs
 
 slice-aggregate-write-stamps-4 : tie.Need-slice-aggregate-write-stamps-4
 slice-aggregate-write-stamps-4 c = sym (front-zeros (2 * c .before .before .before .before .before .before .before .before .args .st .v) 2048 (omega (arith, c .before .before .before .before .before .before .before .before .pre .0 .0 .listed .few)))
 
-array-borrow-prefix-top : tie.Need-array-borrow-prefix-top
-array-borrow-prefix-top c = search needs
+array-borrow-prefix-starts : tie.Need-array-borrow-prefix-starts
+array-borrow-prefix-starts c = search needs
 
 slice-aggregate-write-stamps-5 : tie.Need-slice-aggregate-write-stamps-5
 slice-aggregate-write-stamps-5 c = sym (front-zeros (2 * c .before .before .before .before .before .before .before .before .before .args .st .v) 2048 (omega (arith, c .before .before .before .before .before .before .before .before .before .pre .0 .0 .listed .few)))
@@ -78,13 +78,13 @@ stamp-acyclic-spec =
     mul-size
     array-borrow-prefix-slots
     slice-aggregate-write-stamps
-    array-borrow-prefix-disc
+    array-borrow-prefix-discoveries
     slice-aggregate-write-stamps-2
-    array-borrow-prefix-fin
+    array-borrow-prefix-finishes
     slice-aggregate-write-stamps-3
-    array-borrow-prefix-par
+    array-borrow-prefix-parents
     slice-aggregate-write-stamps-4
-    array-borrow-prefix-top
+    array-borrow-prefix-starts
     slice-aggregate-write-stamps-5
     write-stamps-requires
     answer-requires

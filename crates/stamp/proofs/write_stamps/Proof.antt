@@ -24,32 +24,32 @@ module _ (l : tie.After-list-slots) where
 
 -- once they are stamped
 module _ (w : tie.After-stamp-columns) where
-  abbrev disc′ : List ℕ
-  disc′ = w .stamp-columns .last .1 .1 .1 .1 .1 .0
+  abbrev discoveries′ : List ℕ
+  discoveries′ = w .stamp-columns .last .1 .1 .1 .1 .1 .0
 
-  abbrev fin′ : List ℕ
-  fin′ = w .stamp-columns .last .1 .1 .1 .1 .1 .1 .0
+  abbrev finishes′ : List ℕ
+  finishes′ = w .stamp-columns .last .1 .1 .1 .1 .1 .1 .0
 
-  abbrev par′ : List ℕ
-  par′ = w .stamp-columns .last .1 .1 .1 .1 .1 .1 .1 .0
+  abbrev parents′ : List ℕ
+  parents′ = w .stamp-columns .last .1 .1 .1 .1 .1 .1 .1 .0
 
-  abbrev top′ : List ℕ
-  top′ = w .stamp-columns .last .1 .1 .1 .1 .1 .1 .1 .1 .0
+  abbrev starts′ : List ℕ
+  starts′ = w .stamp-columns .last .1 .1 .1 .1 .1 .1 .1 .1 .0
 
-  disc-long : length disc′ ≡ 2 * w .before .before .before .before .before .before .before .before .before .before .before .before .before .before .before .before .before .args .v
-  disc-long = w .stamp-columns .kept .1 .1 .1 .1 .1 .0 ∙ blank-columned (w .before .before .before .before .before .before .before .before .before .before .before .before .before .before .before .before .before .pre .1 .0) .discs
+  discoveries-long : length discoveries′ ≡ 2 * w .before .before .before .before .before .before .before .before .before .before .before .before .before .before .before .before .before .args .v
+  discoveries-long = w .stamp-columns .kept .1 .1 .1 .1 .1 .0 ∙ blank-columned (w .before .before .before .before .before .before .before .before .before .before .before .before .before .before .before .before .before .pre .1 .0) .discs
 
-  fin-long : length fin′ ≡ 2 * w .before .before .before .before .before .before .before .before .before .before .before .before .before .before .before .before .before .args .v
-  fin-long = w .stamp-columns .kept .1 .1 .1 .1 .1 .1 .0 ∙ blank-columned (w .before .before .before .before .before .before .before .before .before .before .before .before .before .before .before .before .before .pre .1 .0) .fins
+  finishes-long : length finishes′ ≡ 2 * w .before .before .before .before .before .before .before .before .before .before .before .before .before .before .before .before .before .args .v
+  finishes-long = w .stamp-columns .kept .1 .1 .1 .1 .1 .1 .0 ∙ blank-columned (w .before .before .before .before .before .before .before .before .before .before .before .before .before .before .before .before .before .pre .1 .0) .fins
 
-  par-long : length par′ ≡ 2 * w .before .before .before .before .before .before .before .before .before .before .before .before .before .before .before .before .before .args .v
-  par-long = w .stamp-columns .kept .1 .1 .1 .1 .1 .1 .1 .0 ∙ blank-columned (w .before .before .before .before .before .before .before .before .before .before .before .before .before .before .before .before .before .pre .1 .0) .pars
+  parents-long : length parents′ ≡ 2 * w .before .before .before .before .before .before .before .before .before .before .before .before .before .before .before .before .before .args .v
+  parents-long = w .stamp-columns .kept .1 .1 .1 .1 .1 .1 .1 .0 ∙ blank-columned (w .before .before .before .before .before .before .before .before .before .before .before .before .before .before .before .before .before .pre .1 .0) .pars
 
-  top-long : length top′ ≡ 2 * w .before .before .before .before .before .before .before .before .before .before .before .before .before .before .before .before .before .args .v
-  top-long = w .stamp-columns .kept .1 .1 .1 .1 .1 .1 .1 .1 .0 ∙ blank-columned (w .before .before .before .before .before .before .before .before .before .before .before .before .before .before .before .before .before .pre .1 .0) .tops
+  starts-long : length starts′ ≡ 2 * w .before .before .before .before .before .before .before .before .before .before .before .before .before .before .before .before .before .args .v
+  starts-long = w .stamp-columns .kept .1 .1 .1 .1 .1 .1 .1 .1 .0 ∙ blank-columned (w .before .before .before .before .before .before .before .before .before .before .before .before .before .before .before .before .before .pre .1 .0) .tops
 
-  held : Holding (stampsOf (slotsFrom (w .before .before .before .before .before .before .before .before .before .before .before .before .before .before .before .before .before .args .clauses .now) (w .before .before .before .before .before .before .before .before .before .before .before .before .before .before .before .before .before .args .literals .now) (w .before .before .before .before .before .before .before .before .before .before .before .before .before .before .before .before .before .args .n) 0) (2 * w .before .before .before .before .before .before .before .before .before .before .before .before .before .before .before .before .before .args .v) (map slotOf (w .before .before .before .before .before .before .before .before .before .before .before .before .before .before .before .before .before .args .order .now))) disc′ fin′ par′ top′
-  held = blank-walk (w .before .before .before .before .before .before .before .before .before .before .before .before .before .before .before .before .before .pre .0 .0) (w .before .before .before .before .before .before .before .before .before .before .before .before .before .before .before .before .before .pre .0 .1) (w .before .before .before .before .before .before .before .before .before .before .before .before .before .before .before .before .before .pre .1 .0) (slots′ (w .before .before .before .before .before .before .before .before)) disc′ fin′ par′ top′ (w .before .before .before .before .before .before .before .before .list-slots .ensures) (w .stamp-columns .ensures .stamps-are)
+  held : Holding (stampsOf (slotsFrom (w .before .before .before .before .before .before .before .before .before .before .before .before .before .before .before .before .before .args .clauses .now) (w .before .before .before .before .before .before .before .before .before .before .before .before .before .before .before .before .before .args .literals .now) (w .before .before .before .before .before .before .before .before .before .before .before .before .before .before .before .before .before .args .n) 0) (2 * w .before .before .before .before .before .before .before .before .before .before .before .before .before .before .before .before .before .args .v) (map slotOf (w .before .before .before .before .before .before .before .before .before .before .before .before .before .before .before .before .before .args .order .now))) discoveries′ finishes′ parents′ starts′
+  held = blank-walk (w .before .before .before .before .before .before .before .before .before .before .before .before .before .before .before .before .before .pre .0 .0) (w .before .before .before .before .before .before .before .before .before .before .before .before .before .before .before .before .before .pre .0 .1) (w .before .before .before .before .before .before .before .before .before .before .before .before .before .before .before .before .before .pre .1 .0) (slots′ (w .before .before .before .before .before .before .before .before)) discoveries′ finishes′ parents′ starts′ (w .before .before .before .before .before .before .before .before .list-slots .ensures) (w .stamp-columns .ensures .stamps-are)
 
 list-slots-requires : tie.Need-list-slots-requires
 list-slots-requires c κs = (full-literals (c .before .before .before .before .before .before .before .before .pre .0 .1) (c .before .before .before .before .before .before .before .before .pre .0 .0 .listed .few), c .before .before .before .before .before .before .before .before .pre .1 .0 .lists ∙ sym (c .before .before .before .before .before .before .before .before .pre .0 .1 .many))
@@ -76,11 +76,11 @@ returns : tie.Need-returns
 returns c = (sym (c .if1 .taken) ∙ c .before .before .before .before .before .before .before .before .before .stamp-columns .ensures .cyclic-is, λ variables. refl)
 
 copy-times-requires : tie.Need-copy-times-requires
-copy-times-requires c κs = (fin-long (c .before .before .before .before .before .before .before .before .before .before .before .before) ∙ sym (disc-long (c .before .before .before .before .before .before .before .before .before .before .before .before)), omega (arith, disc-long (c .before .before .before .before .before .before .before .before .before .before .before .before), c .before .before .before .before .before .before .before .before .before .before .before .before .before .before .before .before .before .before .before .before .before .before .before .before .before .before .before .before .before .pre .1 .1 .first))
+copy-times-requires c κs = (finishes-long (c .before .before .before .before .before .before .before .before .before .before .before .before) ∙ sym (discoveries-long (c .before .before .before .before .before .before .before .before .before .before .before .before)), omega (arith, discoveries-long (c .before .before .before .before .before .before .before .before .before .before .before .before), c .before .before .before .before .before .before .before .before .before .before .before .before .before .before .before .before .before .before .before .before .before .before .before .before .before .before .before .before .before .pre .1 .1 .first))
 
 copy-links-requires : tie.Need-copy-links-requires
 copy-links-requires c κs = let s = c .before .before .before .before .before .before .before .before .before .before .before .before .before .before .before .before .before .before .before .before .before .before .before .before .before .before .before .before .before .before .before .before .before .before .before in let w = c .before .before .before .before .before .before .before .before .before .before .before .before .before .before .before .before .before .before in
-    ((top-long w ∙ sym (par-long w), omega (arith, par-long w, s .pre .1 .1 .second)), λ q lt. entries-below (s .pre .0 .0) (s .pre .0 .1) (held w) q (omega (arith, lt, par-long w)))
+    ((starts-long w ∙ sym (parents-long w), omega (arith, parents-long w, s .pre .1 .1 .second)), λ q lt. entries-below (s .pre .0 .0) (s .pre .0 .1) (held w) q (omega (arith, lt, parents-long w)))
 
 same-length-6 : tie.Need-same-length-6
 same-length-6 c = search needs
@@ -106,7 +106,7 @@ same-length-12 c = search needs
 returns-2 : tie.Need-returns-2
 returns-2 c = let s = c .before .before .before .before .before .before .before .before .before .before .before .before .before .before .before .before .before .before .before .before .before .before .before .before .before .before .before .before .before .before .before .before .before .before .before .before .before in let w = c .before .before .before .before .before .before .before .before .before .before .before .before .before .before .before .before .before .before .before .before in (
   sym (c .before .before .before .before .before .before .before .before .before .before .before .if1 .left) ∙ w .stamp-columns .ensures .cyclic-is,
-  λ variables. records-are (s .pre .0 .0) (s .pre .0 .1) (s .pre .1 .0) (held w) (disc-long w) (par-long w) variables (s .args .times .now) (c .before .before .before .before .before .before .before .copy-times .last .1 .1 .0) (s .args .links .now) (c .before .copy-links .last .1 .1 .0)
+  λ variables. records-are (s .pre .0 .0) (s .pre .0 .1) (s .pre .1 .0) (held w) (discoveries-long w) (parents-long w) variables (s .args .times .now) (c .before .before .before .before .before .before .before .copy-times .last .1 .1 .0) (s .args .links .now) (c .before .copy-links .last .1 .1 .0)
       (c .before .before .before .before .before .before .before .copy-times .ensures) (c .before .copy-links .ensures),
 )
 

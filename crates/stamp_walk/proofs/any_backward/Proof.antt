@@ -13,10 +13,10 @@ use Rattle.stamp_walk.proofs.any_backward.Statement.{statement}
 use Rattle.stamp_walk.proofs.any_backward.Tie as tie
 
 abbrev Inv-loop : tie.InvT-loop
-Inv-loop from to fin i₀ i = (i ≤ length from) × ((t : ℕ) (d p s : List ℕ) → forward (stamps t d fin p s) (drop i from) (drop i to) ≡ forward (stamps t d fin p s) from to)
+Inv-loop from to finishes i₀ i = (i ≤ length from) × ((t : ℕ) (d p s : List ℕ) → forward (stamps t d finishes p s) (drop i from) (drop i to) ≡ forward (stamps t d finishes p s) from to)
 
 abbrev μ-loop : tie.MeasureT-loop
-μ-loop from to fin i₀ i = length from - i
+μ-loop from to finishes i₀ i = length from - i
 
 loop-holds : tie.Need-loop-holds Inv-loop μ-loop
 loop-holds c = (omega arith, λ t d p s. refl)
@@ -56,18 +56,18 @@ shared-slice-read-if1-2 c = c .before .before .before .before .before .before .p
 
 returns : tie.Need-returns Inv-loop μ-loop
 returns c = λ t d p s. let a = c .before .before .before .before .before .before .before .args in let l = c .before .before .before .before .before .before .loop in
-    sym (ap not (sym (l .inv .1 t d p s) ∙ forward-stops (stamps t d (a .fin .now) p s) (a .from .now) (a .to .now) (l .i) (c .before .before .before .before .before .loop-test .taken) (c .before .before .before .before .before .before .before .pre .pairs) (c .if1 .taken)))
+    sym (ap not (sym (l .inv .1 t d p s) ∙ forward-stops (stamps t d (a .finishes .now) p s) (a .from .now) (a .to .now) (l .i) (c .before .before .before .before .before .loop-test .taken) (c .before .before .before .before .before .before .before .pre .pairs) (c .if1 .taken)))
 
 loop-less : tie.Need-loop-less Inv-loop μ-loop
 loop-less c = search needs
 
 loop-again : tie.Need-loop-again Inv-loop μ-loop
 loop-again c = let a = c .before .before .before .before .before .before .before .args in let l = c .before .before .before .before .before .before .loop in
-    (omega arith, λ t d p s. sym (forward-on (stamps t d (a .fin .now) p s) (a .from .now) (a .to .now) (l .i) (c .before .before .before .before .before .loop-test .taken) (c .before .before .before .before .before .before .before .pre .pairs) (c .if1 .left)) ∙ l .inv .1 t d p s)
+    (omega arith, λ t d p s. sym (forward-on (stamps t d (a .finishes .now) p s) (a .from .now) (a .to .now) (l .i) (c .before .before .before .before .before .loop-test .taken) (c .before .before .before .before .before .before .before .pre .pairs) (c .if1 .left)) ∙ l .inv .1 t d p s)
 
 returns-2 : tie.Need-returns-2 Inv-loop μ-loop
 returns-2 c = λ t d p s. let a = c .before .before .args in let l = c .before .loop in
-    sym (ap not (sym (l .inv .1 t d p s) ∙ forward-end (stamps t d (a .fin .now) p s) (a .from .now) (a .to .now) (l .i) (l .inv .0) (c .loop-test .left)))
+    sym (ap not (sym (l .inv .1 t d p s) ∙ forward-end (stamps t d (a .finishes .now) p s) (a .from .now) (a .to .now) (l .i) (l .inv .0) (c .loop-test .left)))
 
 pub any-backward-spec : {M : Type 1} → statement M
 any-backward-spec =

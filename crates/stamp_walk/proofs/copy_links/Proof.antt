@@ -12,10 +12,10 @@ use Rattle.stamp_walk.proofs.copy_links.Statement.{statement}
 use Rattle.stamp_walk.proofs.copy_links.Tie as tie
 
 abbrev Inv-loop : tie.InvT-loop
-Inv-loop par top links₀ s₀ links s = Copying (map litAt par) (map litAt top) links₀ links s
+Inv-loop parents starts links₀ s₀ links s = Copying (map litAt parents) (map litAt starts) links₀ links s
 
 abbrev μ-loop : tie.MeasureT-loop
-μ-loop par top links₀ s₀ links s = length par - s
+μ-loop parents starts links₀ s₀ links s = length parents - s
 
 loop-holds : tie.Need-loop-holds Inv-loop μ-loop
 loop-holds c = copying-none _ _ _
@@ -71,19 +71,19 @@ loop-less c = search needs
 loop-again : tie.Need-loop-again Inv-loop μ-loop
 loop-again c = let a = c .before .before .before .before .before .before .before .before .args in let l = c .before .before .before .before .before .loop in
     let lt = c .before .before .before .before .loop-test .taken in
-    copying-as (map litAt (a .par .now)) (map litAt (a .top .now)) (a .links .now) (l .links) (l .s) (litAt 0) (litAt 0) _ _
-    (lit-stored (getD (a .par .now) (l .s) 0) _ (c .before .before .before .before .before .before .before .before .pre .1 (l .s) lt .0) (c .before .before .lit-at .ensures) ∙ sym (List·getD-map litAt (a .par .now) (l .s) 0))
-    (lit-stored (getD (a .top .now) (l .s) 0) _ (c .before .before .before .before .before .before .before .before .pre .1 (l .s) lt .1) (c .lit-at2 .ensures) ∙ sym (List·getD-map litAt (a .top .now) (l .s) 0))
-    (omega (arith, lt, length-map (a .par .now) litAt)) (omega (arith, c .before .before .before .before .before .before .before .before .pre .0 .0, length-map (a .par .now) litAt, length-map (a .top .now) litAt)) (l .inv)
+    copying-as (map litAt (a .parents .now)) (map litAt (a .starts .now)) (a .links .now) (l .links) (l .s) (litAt 0) (litAt 0) _ _
+    (lit-stored (getD (a .parents .now) (l .s) 0) _ (c .before .before .before .before .before .before .before .before .pre .1 (l .s) lt .0) (c .before .before .lit-at .ensures) ∙ sym (List·getD-map litAt (a .parents .now) (l .s) 0))
+    (lit-stored (getD (a .starts .now) (l .s) 0) _ (c .before .before .before .before .before .before .before .before .pre .1 (l .s) lt .1) (c .lit-at2 .ensures) ∙ sym (List·getD-map litAt (a .starts .now) (l .s) 0))
+    (omega (arith, lt, length-map (a .parents .now) litAt)) (omega (arith, c .before .before .before .before .before .before .before .before .pre .0 .0, length-map (a .parents .now) litAt, length-map (a .starts .now) litAt)) (l .inv)
 
 same-length : tie.Need-same-length Inv-loop μ-loop
 same-length c = search needs
 
 returns : tie.Need-returns Inv-loop μ-loop
 returns c = let a = c .before .before .before .before .args in let l = c .before .loop in
-    let many = length-map (a .par .now) litAt in
-    copying-done (map litAt (a .par .now)) (map litAt (a .top .now)) (a .links .now) (l .links) (l .s) (omega (arith, c .loop-test .left, many)) (omega (arith, c .before .before .before .before .pre .0 .0, many, length-map (a .top .now) litAt)) (omega (arith, c .before .before .before .before .pre .0 .1, many)) (l .inv)
-    ∙ ap (λ (k : ℕ). interleave (map litAt (a .par .now)) (map litAt (a .top .now)) ++ drop (2 * k) (a .links .now)) many
+    let many = length-map (a .parents .now) litAt in
+    copying-done (map litAt (a .parents .now)) (map litAt (a .starts .now)) (a .links .now) (l .links) (l .s) (omega (arith, c .loop-test .left, many)) (omega (arith, c .before .before .before .before .pre .0 .0, many, length-map (a .starts .now) litAt)) (omega (arith, c .before .before .before .before .pre .0 .1, many)) (l .inv)
+    ∙ ap (λ (k : ℕ). interleave (map litAt (a .parents .now)) (map litAt (a .starts .now)) ++ drop (2 * k) (a .links .now)) many
 
 pub copy-links-spec : {M : Type 1} → statement M
 copy-links-spec =

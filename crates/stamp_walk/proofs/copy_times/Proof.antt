@@ -8,10 +8,10 @@ use Rattle.stamp_walk.proofs.copy_times.Statement.{statement}
 use Rattle.stamp_walk.proofs.copy_times.Tie as tie
 
 abbrev Inv-loop : tie.InvT-loop
-Inv-loop disc fin times₀ s₀ times s = Copying disc fin times₀ times s
+Inv-loop discoveries finishes times₀ s₀ times s = Copying discoveries finishes times₀ times s
 
 abbrev μ-loop : tie.MeasureT-loop
-μ-loop disc fin times₀ s₀ times s = length disc - s
+μ-loop discoveries finishes times₀ s₀ times s = length discoveries - s
 
 loop-holds : tie.Need-loop-holds Inv-loop μ-loop
 loop-holds c = copying-none _ _ _
@@ -54,14 +54,14 @@ loop-less c = search needs
 
 loop-again : tie.Need-loop-again Inv-loop μ-loop
 loop-again c = let a = c .before .before .before .before .args in let l = c .before .before .before .loop in
-    copying-step (a .disc .now) (a .fin .now) (a .times .now) (l .times) (l .s) 0 0 (c .before .before .loop-test .taken) (c .before .before .before .before .pre .0) (l .inv)
+    copying-step (a .discoveries .now) (a .finishes .now) (a .times .now) (l .times) (l .s) 0 0 (c .before .before .loop-test .taken) (c .before .before .before .before .pre .0) (l .inv)
 
 same-length : tie.Need-same-length Inv-loop μ-loop
 same-length c = search needs
 
 returns : tie.Need-returns Inv-loop μ-loop
 returns c = let a = c .before .before .args in let l = c .before .loop in
-    copying-done (a .disc .now) (a .fin .now) (a .times .now) (l .times) (l .s) (c .loop-test .left) (c .before .before .pre .0) (c .before .before .pre .1) (l .inv)
+    copying-done (a .discoveries .now) (a .finishes .now) (a .times .now) (l .times) (l .s) (c .loop-test .left) (c .before .before .pre .0) (c .before .before .pre .1) (l .inv)
 
 pub copy-times-spec : {M : Type 1} → statement M
 copy-times-spec =

@@ -21,7 +21,7 @@ module _ (b : tie.After-build) where
   T = b .build .last .1 .1 .1 .0
 
   abbrev size : ℕ
-  size = length (b .before .before .before .before .before .before .before .before .before .before .before .before .before .before .args .disc .now)
+  size = length (b .before .before .before .before .before .before .before .before .before .before .before .before .before .before .args .discoveries .now)
 
   long : length O ≡ size + 1
   long = b .build .kept .1 .1 .0 ∙ b .before .before .before .before .before .before .before .before .before .before .before .before .before .before .pre .0 .marks
@@ -75,7 +75,7 @@ same-length-8 c = search needs
 returns : tie.Need-returns
 returns c = let b = c .before .before .before .before .before .before .before .before .before .before .before .before .before .before .before .before .before .before .before .before .before .before .before .before .before .before .before in
     let a = c .before .before .before .before .before .before .before .before .before .before .before .before .before .before .before .before .before .before .before .before .before .before .before .before .before .before .before .before .before .before .before .before .before .before .before .before .before .before .before .before .before .args in
-    columns-of _ _ (c .before .before .before .before .before .before .before .before .before .before .stamp-order .ensures ∙ stamps-as (c .before .before .before .before .before .before .before .before .before .before .before .before .before .before .before .before .before .before .before .before .before .before .before .before .before .before .before .before .before .before .before .before .before .before .before .before .before .before .before .before .before .pre .0) (O b) (T b) (long b) (built b) (c .before .before .before .before .before .before .before .before .before .before .before .before .before .before .before .before .before .before .before .before .before .mark-roots .last .1 .0) (a .fin .now) (a .par .now) (a .top .now)
+    columns-of _ _ (c .before .before .before .before .before .before .before .before .before .before .stamp-order .ensures ∙ stamps-as (c .before .before .before .before .before .before .before .before .before .before .before .before .before .before .before .before .before .before .before .before .before .before .before .before .before .before .before .before .before .before .before .before .before .before .before .before .before .before .before .before .before .pre .0) (O b) (T b) (long b) (built b) (c .before .before .before .before .before .before .before .before .before .before .before .before .before .before .before .before .before .before .before .before .before .mark-roots .last .1 .0) (a .finishes .now) (a .parents .now) (a .starts .now)
     (λ q lt. c .before .before .before .before .before .before .before .before .before .before .before .before .before .before .before .before .before .before .before .before .before .mark-roots .ensures q (omega (arith, lt, c .before .before .before .before .before .before .before .before .before .before .before .before .before .before .before .before .before .before .before .before .before .before .before .before .before .before .before .before .before .before .before .before .before .before .before .before .before .before .before .before .before .pre .0 .flags))))
 
 pub stamp-edges-spec : {M : Type 1} → statement M

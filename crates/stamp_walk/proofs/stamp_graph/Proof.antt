@@ -59,29 +59,29 @@ module _ (l : tie.After-list-pairs) where
 
 -- once the slots are stamped
 module _ (e : tie.After-stamp-edges) where
-  abbrev disc′ : List ℕ
-  disc′ = e .stamp-edges .last .1 .1 .1 .1 .1 .1 .1 .0
+  abbrev discoveries′ : List ℕ
+  discoveries′ = e .stamp-edges .last .1 .1 .1 .1 .1 .1 .1 .0
 
-  abbrev fin′ : List ℕ
-  fin′ = e .stamp-edges .last .1 .1 .1 .1 .1 .1 .1 .1 .0
+  abbrev finishes′ : List ℕ
+  finishes′ = e .stamp-edges .last .1 .1 .1 .1 .1 .1 .1 .1 .0
 
-  abbrev par′ : List ℕ
-  par′ = e .stamp-edges .last .1 .1 .1 .1 .1 .1 .1 .1 .1 .0
+  abbrev parents′ : List ℕ
+  parents′ = e .stamp-edges .last .1 .1 .1 .1 .1 .1 .1 .1 .1 .0
 
-  abbrev top′ : List ℕ
-  top′ = e .stamp-edges .last .1 .1 .1 .1 .1 .1 .1 .1 .1 .1 .0
+  abbrev starts′ : List ℕ
+  starts′ = e .stamp-edges .last .1 .1 .1 .1 .1 .1 .1 .1 .1 .1 .0
 
-  disc-long : length disc′ ≡ 2 * e .before .before .before .before .before .before .before .before .before .before .before .before .before .before .before .before .before .before .before .before .before .before .before .before .before .before .before .before .before .before .args .v
-  disc-long = e .stamp-edges .kept .1 .1 .1 .1 .1 .1 .1 .0 ∙ e .before .before .before .before .before .before .before .before .before .before .before .before .before .before .before .before .before .before .before .before .before .before .before .before .before .before .before .before .before .before .pre .1 .1 .discs
+  discoveries-long : length discoveries′ ≡ 2 * e .before .before .before .before .before .before .before .before .before .before .before .before .before .before .before .before .before .before .before .before .before .before .before .before .before .before .before .before .before .before .args .v
+  discoveries-long = e .stamp-edges .kept .1 .1 .1 .1 .1 .1 .1 .0 ∙ e .before .before .before .before .before .before .before .before .before .before .before .before .before .before .before .before .before .before .before .before .before .before .before .before .before .before .before .before .before .before .pre .1 .1 .discs
 
-  fin-long : length fin′ ≡ 2 * e .before .before .before .before .before .before .before .before .before .before .before .before .before .before .before .before .before .before .before .before .before .before .before .before .before .before .before .before .before .before .args .v
-  fin-long = e .stamp-edges .kept .1 .1 .1 .1 .1 .1 .1 .1 .0 ∙ e .before .before .before .before .before .before .before .before .before .before .before .before .before .before .before .before .before .before .before .before .before .before .before .before .before .before .before .before .before .before .pre .1 .1 .fins
+  finishes-long : length finishes′ ≡ 2 * e .before .before .before .before .before .before .before .before .before .before .before .before .before .before .before .before .before .before .before .before .before .before .before .before .before .before .before .before .before .before .args .v
+  finishes-long = e .stamp-edges .kept .1 .1 .1 .1 .1 .1 .1 .1 .0 ∙ e .before .before .before .before .before .before .before .before .before .before .before .before .before .before .before .before .before .before .before .before .before .before .before .before .before .before .before .before .before .before .pre .1 .1 .fins
 
-  held : Holding (stampAll (implications (clauses (e .before .before .before .before .before .before .before .before .before .before .before .before .before .before .before))) (λ q. absent q (tos (clauses (e .before .before .before .before .before .before .before .before .before .before .before .before .before .before .before)))) (e .before .before .before .before .before .before .before .before .before .before .before .before .before .before .before .before .before .before .before .before .before .before .before .before .before .before .before .before .before .before .args .order .now) (blank (2 * e .before .before .before .before .before .before .before .before .before .before .before .before .before .before .before .before .before .before .before .before .before .before .before .before .before .before .before .before .before .before .args .v) (e .before .before .before .before .before .before .before .before .before .before .before .before .before .before .before .before .before .before .before .before .before .before .before .before .before .before .before .before .before .before .args .fin .now) (e .before .before .before .before .before .before .before .before .before .before .before .before .before .before .before .before .before .before .before .before .before .before .before .before .before .before .before .before .before .before .args .par .now) (e .before .before .before .before .before .before .before .before .before .before .before .before .before .before .before .before .before .before .before .before .before .before .before .before .before .before .before .before .before .before .args .top .now))) disc′ fin′ par′ top′
+  held : Holding (stampAll (implications (clauses (e .before .before .before .before .before .before .before .before .before .before .before .before .before .before .before))) (λ q. absent q (tos (clauses (e .before .before .before .before .before .before .before .before .before .before .before .before .before .before .before)))) (e .before .before .before .before .before .before .before .before .before .before .before .before .before .before .before .before .before .before .before .before .before .before .before .before .before .before .before .before .before .before .args .order .now) (blank (2 * e .before .before .before .before .before .before .before .before .before .before .before .before .before .before .before .before .before .before .before .before .before .before .before .before .before .before .before .before .before .before .args .v) (e .before .before .before .before .before .before .before .before .before .before .before .before .before .before .before .before .before .before .before .before .before .before .before .before .before .before .before .before .before .before .args .finishes .now) (e .before .before .before .before .before .before .before .before .before .before .before .before .before .before .before .before .before .before .before .before .before .before .before .before .before .before .before .before .before .before .args .parents .now) (e .before .before .before .before .before .before .before .before .before .before .before .before .before .before .before .before .before .before .before .before .before .before .before .before .before .before .before .before .before .before .args .starts .now))) discoveries′ finishes′ parents′ starts′
   held =
       let a = e .before .before .before .before .before .before .before .before .before .before .before .before .before .before .before .before .before .before .before .before .before .before .before .before .before .before .before .before .before .before .args in
-      as-clauses (e .before .before .before .before .before .before .before .before .before .before .before .before .before .before .before) (λ f t. Holding (stampAll (outs f t) (λ q. absent q t) (a .order .now) (blank (2 * a .v) (a .fin .now) (a .par .now) (a .top .now))) disc′ fin′ par′ top′)
-      (subst (λ (n : ℕ). Holding (stampAll (outs (take (count (e .before .before .before .before .before .before .before .before .before .before .before .before .before .before .before)) (from′ (e .before .before .before .before .before .before .before .before .before .before .before .before .before .before .before))) (take (count (e .before .before .before .before .before .before .before .before .before .before .before .before .before .before .before)) (to′ (e .before .before .before .before .before .before .before .before .before .before .before .before .before .before .before)))) (λ q. absent q (take (count (e .before .before .before .before .before .before .before .before .before .before .before .before .before .before .before)) (to′ (e .before .before .before .before .before .before .before .before .before .before .before .before .before .before .before)))) (a .order .now) (blank n (a .fin .now) (a .par .now) (a .top .now))) disc′ fin′ par′ top′)
+      as-clauses (e .before .before .before .before .before .before .before .before .before .before .before .before .before .before .before) (λ f t. Holding (stampAll (outs f t) (λ q. absent q t) (a .order .now) (blank (2 * a .v) (a .finishes .now) (a .parents .now) (a .starts .now))) discoveries′ finishes′ parents′ starts′)
+      (subst (λ (n : ℕ). Holding (stampAll (outs (take (count (e .before .before .before .before .before .before .before .before .before .before .before .before .before .before .before)) (from′ (e .before .before .before .before .before .before .before .before .before .before .before .before .before .before .before))) (take (count (e .before .before .before .before .before .before .before .before .before .before .before .before .before .before .before)) (to′ (e .before .before .before .before .before .before .before .before .before .before .before .before .before .before .before)))) (λ q. absent q (take (count (e .before .before .before .before .before .before .before .before .before .before .before .before .before .before .before)) (to′ (e .before .before .before .before .before .before .before .before .before .before .before .before .before .before .before)))) (a .order .now) (blank n (a .finishes .now) (a .parents .now) (a .starts .now))) discoveries′ finishes′ parents′ starts′)
       (e .before .before .before .before .before .before .before .before .before .before .before .before .before .before .before .before .before .before .before .before .before .before .before .before .before .before .before .before .before .before .pre .1 .1 .discs) (e .stamp-edges .ensures))
 
 list-pairs-requires : tie.Need-list-pairs-requires
@@ -101,7 +101,7 @@ slice-aggregate-stamp-edges-2 c = sym (length-take-le (count (c .before .before 
 
 stamp-edges-requires : tie.Need-stamp-edges-requires
 stamp-edges-requires c κs = let a = c .before .before .before .before .before .before .before .before .before .before .before .before .before .before .before .before .before .before .before .before .before .before .before .before .before .before .before .before .before .args in let C = c .before .before .before .before .before .before .before .before .before .before .before .before .before .before .before .before .before .before .before .before .before .before .before .before .before .before .before .before .before .pre .1 .1 in (
-  as-listed (c .before .before .before .before .before .before .before .before .before .before .before .before .before .before) (λ f t. Walkable (length (a .disc .now)) f t (a .order .now) (a .offsets .now) (a .targets .now) (a .root .now) (a .roots .now))
+  as-listed (c .before .before .before .before .before .before .before .before .before .before .before .before .before .before) (λ f t. Walkable (length (a .discoveries .now)) f t (a .order .now) (a .offsets .now) (a .targets .now) (a .root .now) (a .roots .now))
       (subst (λ (n : ℕ). Walkable n (froms (clauses (c .before .before .before .before .before .before .before .before .before .before .before .before .before .before))) (tos (clauses (c .before .before .before .before .before .before .before .before .before .before .before .before .before .before))) (a .order .now) (a .offsets .now) (a .targets .now) (a .root .now) (a .roots .now)) (sym (C .discs)) (walkable (c .before .before .before .before .before .before .before .before .before .before .before .before .before .before .before .before .before .before .before .before .before .before .before .before .before .before .before .before .before .pre .0 .0) (c .before .before .before .before .before .before .before .before .before .before .before .before .before .before .before .before .before .before .before .before .before .before .before .before .before .before .before .before .before .pre .0 .1) (c .before .before .before .before .before .before .before .before .before .before .before .before .before .before .before .before .before .before .before .before .before .before .before .before .before .before .before .before .before .pre .1 .0))),
   record { discs = refl; fins = C .fins ∙ sym (C .discs); pars = C .pars ∙ sym (C .discs); tops = C .tops ∙ sym (C .discs) },
 )
@@ -119,7 +119,7 @@ slice-aggregate-any-backward-2 : tie.Need-slice-aggregate-any-backward-2
 slice-aggregate-any-backward-2 c = sym (length-take-le (count (c .before .before .before .before .before .before .before .before .before .before .before .before .before .before .before .before .before .before .before .before .before .before .before .before .before .before .before .before .before .before .before .before .before)) (to′ (c .before .before .before .before .before .before .before .before .before .before .before .before .before .before .before .before .before .before .before .before .before .before .before .before .before .before .before .before .before .before .before .before .before)) (to-long (c .before .before .before .before .before .before .before .before .before .before .before .before .before .before .before .before .before .before .before .before .before .before .before .before .before .before .before .before .before .before .before .before .before)))
 
 any-backward-requires : tie.Need-any-backward-requires
-any-backward-requires c κs = as-listed (c .before .before .before .before .before .before .before .before .before .before .before .before .before .before .before .before .before .before .before .before .before .before .before .before .before .before .before .before .before .before .before .before .before .before) (λ f t. Finished f t (fin′ (c .before .before .before .before .before .before .before .before .before .before .before .before .before .before .before .before .before .before .before))) (finished (c .before .before .before .before .before .before .before .before .before .before .before .before .before .before .before .before .before .before .before .before .before .before .before .before .before .before .before .before .before .before .before .before .before .before .before .before .before .before .before .before .before .before .before .before .before .before .before .before .before .pre .0 .0) (c .before .before .before .before .before .before .before .before .before .before .before .before .before .before .before .before .before .before .before .before .before .before .before .before .before .before .before .before .before .before .before .before .before .before .before .before .before .before .before .before .before .before .before .before .before .before .before .before .before .pre .0 .1) (c .before .before .before .before .before .before .before .before .before .before .before .before .before .before .before .before .before .before .before .before .before .before .before .before .before .before .before .before .before .before .before .before .before .before .before .before .before .before .before .before .before .before .before .before .before .before .before .before .before .pre .1 .0) (fin′ (c .before .before .before .before .before .before .before .before .before .before .before .before .before .before .before .before .before .before .before)) (fin-long (c .before .before .before .before .before .before .before .before .before .before .before .before .before .before .before .before .before .before .before)))
+any-backward-requires c κs = as-listed (c .before .before .before .before .before .before .before .before .before .before .before .before .before .before .before .before .before .before .before .before .before .before .before .before .before .before .before .before .before .before .before .before .before .before) (λ f t. Finished f t (finishes′ (c .before .before .before .before .before .before .before .before .before .before .before .before .before .before .before .before .before .before .before))) (finished (c .before .before .before .before .before .before .before .before .before .before .before .before .before .before .before .before .before .before .before .before .before .before .before .before .before .before .before .before .before .before .before .before .before .before .before .before .before .before .before .before .before .before .before .before .before .before .before .before .before .pre .0 .0) (c .before .before .before .before .before .before .before .before .before .before .before .before .before .before .before .before .before .before .before .before .before .before .before .before .before .before .before .before .before .before .before .before .before .before .before .before .before .before .before .before .before .before .before .before .before .before .before .before .before .pre .0 .1) (c .before .before .before .before .before .before .before .before .before .before .before .before .before .before .before .before .before .before .before .before .before .before .before .before .before .before .before .before .before .before .before .before .before .before .before .before .before .before .before .before .before .before .before .before .before .before .before .before .before .pre .1 .0) (finishes′ (c .before .before .before .before .before .before .before .before .before .before .before .before .before .before .before .before .before .before .before)) (finishes-long (c .before .before .before .before .before .before .before .before .before .before .before .before .before .before .before .before .before .before .before)))
 
 same-length : tie.Need-same-length
 same-length c = search needs
@@ -153,8 +153,8 @@ same-length-10 c = search needs
 
 returns : tie.Need-returns
 returns c = let s = c .before .before .before .before .before .before .before .before .before .before .before .before .before .before .before .before .before .before .before .before .before .before .before .before .before .before .before .before .before .before .before .before .before .before .before .before .before .before .before .before .before .before .before .before .before .before .before .before .before .before in let e = c .before .before .before .before .before .before .before .before .before .before .before .before .before .before .before .before .before .before .before .before in record {
-  cyclic-is = cyclic-is (s .pre .0 .0) (s .pre .0 .1) (s .pre .1 .1) (held e) (disc-long e) (c .any-backward .result)
-      (λ t d p x. as-clauses (c .before .before .before .before .before .before .before .before .before .before .before .before .before .before .before .before .before .before .before .before .before .before .before .before .before .before .before .before .before .before .before .before .before .before .before) (λ f h. c .any-backward .result ≡ not (forward (stamps t d (fin′ e) p x) f h)) (c .any-backward .ensures t d p x));
+  cyclic-is = cyclic-is (s .pre .0 .0) (s .pre .0 .1) (s .pre .1 .1) (held e) (discoveries-long e) (c .any-backward .result)
+      (λ t d p x. as-clauses (c .before .before .before .before .before .before .before .before .before .before .before .before .before .before .before .before .before .before .before .before .before .before .before .before .before .before .before .before .before .before .before .before .before .before .before) (λ f h. c .any-backward .result ≡ not (forward (stamps t d (finishes′ e) p x) f h)) (c .any-backward .ensures t d p x));
   stamps-are = held e;
 }
 

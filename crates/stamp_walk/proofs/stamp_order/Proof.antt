@@ -23,7 +23,7 @@ module _ (c : tie.After-clear) where
   D = c .clear .last .0
 
   abbrev size : ℕ
-  size = length (c .before .before .before .before .before .before .before .before .before .before .before .before .before .before .before .args .disc .now)
+  size = length (c .before .before .before .before .before .before .before .before .before .before .before .before .before .before .before .args .discoveries .now)
 
   abbrev marked : ℕ → Bool
   marked q = getD (c .before .before .before .before .before .before .before .before .before .before .before .before .before .before .before .args .root .now) q false
@@ -32,11 +32,11 @@ module _ (c : tie.After-clear) where
   abbrev front : List ℕ
   front = take (c .before .before .before .before .list-roots .result) (c .before .before .before .before .list-roots .last .1 .1 .0)
 
-  blank : (length D ≡ size) × (Columns size (stamps 0 D (c .before .before .before .before .before .before .before .before .before .before .before .before .before .before .before .args .fin .now) (c .before .before .before .before .before .before .before .before .before .before .before .before .before .before .before .args .par .now) (c .before .before .before .before .before .before .before .before .before .before .before .before .before .before .before .args .top .now)))
+  blank : (length D ≡ size) × (Columns size (stamps 0 D (c .before .before .before .before .before .before .before .before .before .before .before .before .before .before .before .args .finishes .now) (c .before .before .before .before .before .before .before .before .before .before .before .before .before .before .before .args .parents .now) (c .before .before .before .before .before .before .before .before .before .before .before .before .before .before .before .args .starts .now)))
   blank =
       let s = c .before .before .before .before .before .before .before .before .before .before .before .before .before .before .before in
       let a = s .args in
-      begun (a .offsets .now) (a .targets .now) D (a .disc .now) (a .fin .now) (a .par .now) (a .top .now) (c .clear .ensures) (s .pre .0) (s .pre .1 .0 .0) (s .pre .1 .0 .1 .0) (s .pre .1 .0 .1 .1)
+      begun (a .offsets .now) (a .targets .now) D (a .discoveries .now) (a .finishes .now) (a .parents .now) (a .starts .now) (c .clear .ensures) (s .pre .0) (s .pre .1 .0 .0) (s .pre .1 .0 .1 .0) (s .pre .1 .0 .1 .1)
 
   front-in : (q : ℕ) → List·Memᴰ q front → q < size
   front-in q m = mem-below (c .before .before .before .before .before .before .before .before .before .before .before .before .before .before .before .args .order .now) size (c .before .before .before .before .before .before .before .before .before .before .before .before .before .before .before .pre .1 .1 .1) (mem-filter marked (c .before .before .before .before .before .before .before .before .before .before .before .before .before .before .before .args .order .now) (subst (List·Memᴰ q) (c .before .before .before .before .list-roots .ensures .1) m))
@@ -49,7 +49,7 @@ module _ (c : tie.After-start-each) where
   columns₁ : Columns (size (c .before .before .before .before .before .before .before .before)) σ₁
   columns₁ =
       let a = c .before .before .before .before .before .before .before .before .before .before .before .before .before .before .before .before .before .before .before .before .before .before .before .args in
-      starts-columns (a .offsets .now) (a .targets .now) (front (c .before .before .before .before .before .before .before .before)) (size (c .before .before .before .before .before .before .before .before)) (fresh (D (c .before .before .before .before .before .before .before .before))) (stamps 0 (D (c .before .before .before .before .before .before .before .before)) (a .fin .now) (a .par .now) (a .top .now)) σ₁ (c .before .before .before .before .before .before .before .before .before .before .before .before .before .before .before .before .before .before .before .before .before .before .before .pre .0) (front-in (c .before .before .before .before .before .before .before .before)) (blank (c .before .before .before .before .before .before .before .before) .1) (c .start-each .ensures (fresh (D (c .before .before .before .before .before .before .before .before))) (le-refl _))
+      starts-columns (a .offsets .now) (a .targets .now) (front (c .before .before .before .before .before .before .before .before)) (size (c .before .before .before .before .before .before .before .before)) (fresh (D (c .before .before .before .before .before .before .before .before))) (stamps 0 (D (c .before .before .before .before .before .before .before .before)) (a .finishes .now) (a .parents .now) (a .starts .now)) σ₁ (c .before .before .before .before .before .before .before .before .before .before .before .before .before .before .before .before .before .before .before .before .before .before .before .pre .0) (front-in (c .before .before .before .before .before .before .before .before)) (blank (c .before .before .before .before .before .before .before .before) .1) (c .start-each .ensures (fresh (D (c .before .before .before .before .before .before .before .before))) (le-refl _))
 
 list-roots-requires : tie.Need-list-roots-requires
 list-roots-requires c κs = (c .before .before .before .before .before .before .before .before .before .before .pre .1 .1 .0 .1, λ i lt. omega (arith, c .before .before .before .before .before .before .before .before .before .before .pre .1 .1 .1 i lt, c .before .before .before .before .before .before .before .before .before .before .pre .1 .1 .0 .0))
@@ -69,7 +69,7 @@ start-each-requires c κs =
     let a = c .before .before .before .before .before .before .before .before .before .before .before .before .before .before .before .before .before .before .before .before .before .before .args in (
       subst (Graph (a .offsets .now) (a .targets .now)) (sym (blank k .0)) (c .before .before .before .before .before .before .before .before .before .before .before .before .before .before .before .before .before .before .before .before .before .before .pre .0),
       (
-        subst (λ (n : ℕ). Columns n (stamps 0 (D k) (a .fin .now) (a .par .now) (a .top .now))) (sym (blank k .0)) (blank k .1),
+        subst (λ (n : ℕ). Columns n (stamps 0 (D k) (a .finishes .now) (a .parents .now) (a .starts .now))) (sym (blank k .0)) (blank k .1),
         λ i lt. subst (λ (n : ℕ). getD (front k) i 0 < n) (sym (blank k .0)) (front-in k (getD (front k) i 0) (getD-mem (front k) i 0 lt)),
       ),
     )
@@ -106,7 +106,7 @@ returns c =
     let w = c .before .before .before .before .before .before .before .before .before .before .before .before .before .before .before .before .before .before .before .before .before in
     let k = c .before .before .before .before .before .before .before .before .before .before .before .before .before .before .before .before .before .before .before .before .before .before .before .before .before .before .before .before .before in
     let a = c .before .before .before .before .before .before .before .before .before .before .before .before .before .before .before .before .before .before .before .before .before .before .before .before .before .before .before .before .before .before .before .before .before .before .before .before .before .before .before .before .before .before .before .before .args in
-    stamped _ (marked k) (a .order .now) (front k) (D k) (a .disc .now) (a .fin .now) (a .par .now) (a .top .now) (σ₁ w) _ (k .clear .ensures) (blank k .0) (columns₁ w .discs) (c .before .before .before .before .before .before .before .before .before .before .before .before .before .before .before .before .before .before .before .before .before .before .before .before .before .before .before .before .before .before .before .before .before .list-roots .ensures .1) (w .start-each .ensures) (c .before .before .before .before .before .before .before .before .start-each2 .ensures)
+    stamped _ (marked k) (a .order .now) (front k) (D k) (a .discoveries .now) (a .finishes .now) (a .parents .now) (a .starts .now) (σ₁ w) _ (k .clear .ensures) (blank k .0) (columns₁ w .discs) (c .before .before .before .before .before .before .before .before .before .before .before .before .before .before .before .before .before .before .before .before .before .before .before .before .before .before .before .before .before .before .before .before .before .list-roots .ensures .1) (w .start-each .ensures) (c .before .before .before .before .before .before .before .before .start-each2 .ensures)
 
 pub stamp-order-spec : {M : Type 1} → statement M
 stamp-order-spec =

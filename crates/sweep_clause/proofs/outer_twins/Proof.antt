@@ -1,7 +1,7 @@
 -- `sweep_clause::outer_twins` meets its contract. Assumes nothing.
 use Rattle.sweep_clause.proofs.Shortened.{inside-small, inside-twins, twins-given}
 use Rattle.discovery_order.proofs.Sorting.{sorted-slots}
-use Rattle.discovery_order.specs.Slots.{Slots}
+use Rattle.stamps.specs.Slots.{Slots}
 use mathlib.Core.List.{[]}
 use mathlib.Core.Path.{sym, subst}
 use borrow.Author.Needs.{needs}

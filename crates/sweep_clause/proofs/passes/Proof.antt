@@ -7,8 +7,8 @@ use Rattle.sweep_clause.proofs.passes.Statement.{statement}
 use Rattle.sweep_clause.proofs.passes.Tie as tie
 use Rattle.sweep_clause.proofs.passes.Reads as reads
 use Rattle.sweep_clause.proofs.passes.Lts as lts
-use Rattle.discovery_order.proofs.finish.Reads as finish-reads
-use Rattle.discovery_order.proofs.parent.Reads as parent-reads
+use Rattle.stamps.proofs.finish.Reads as finish-reads
+use Rattle.stamps.proofs.parent.Reads as parent-reads
 use Rattle.literal.proofs.twin_of.Reads as twin-of-reads
 
 finish-requires : tie.Need-finish-requires

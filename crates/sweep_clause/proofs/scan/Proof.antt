@@ -12,7 +12,7 @@ use Rattle.sweep_clause.proofs.scan.Tie as tie
 use Rattle.sweep_clause.proofs.scan.Reads as reads
 use Rattle.sweep_clause.proofs.scan.Lts as lts
 use Rattle.sweep_clause.proofs.passes.Reads as passes-reads
-use Rattle.discovery_order.proofs.discovery.Reads as discovery-reads
+use Rattle.stamps.proofs.discovery.Reads as discovery-reads
 
 abbrev Inv-loop : tie.InvT-loop
 Inv-loop times links two pos neg i₀ j₀ i j = Scanning (columns times links) two pos neg i j

@@ -4,7 +4,7 @@ use Rattle.sweep_clause.proofs.Shortened.{clause-slots, clause-inside, 
 use Rattle.sweep_clause.specs.Stamped.{Inside, Sorted}
 use Rattle.stamps.specs.Columns.{columns}
 use Rattle.discovery_order.proofs.Sorting.{rest-part}
-use Rattle.discovery_order.specs.Slots.{Slots}
+use Rattle.stamps.specs.Slots.{Slots}
 use lib.Seq.{length-take-le}
 use lib.ListN.{length, take, length-append}
 use mathlib.Core.List.{List, [], _++_}

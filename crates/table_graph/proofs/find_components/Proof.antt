@@ -32,7 +32,7 @@ module _ (c : tie.After-build-graph) where
   long : length offsets′ ≡ 2 * c .before .before .before .before .before .before .before .before .before .before .before .before .before .before .before .before .args .v + 1
   long = c .build-graph .kept .1 .1 .1 .1 .1 .1 .0 ∙ c .before .before .before .before .before .before .before .before .before .before .before .before .before .before .before .before .pre .0 .marks
 
-  fit : Ready offsets′ (take count targets′) (c .before .before .before .before .before .before .before .before .before .before .before .before .before .before .before .before .args .disc .now) (c .before .before .before .before .before .before .before .before .before .before .before .before .before .before .before .before .args .fin .now) (c .before .before .before .before .before .before .before .before .before .before .before .before .before .before .before .before .args .par .now) (c .before .before .before .before .before .before .before .before .before .before .before .before .before .before .before .before .args .top .now) (c .before .before .before .before .before .before .before .before .before .before .before .before .before .before .before .before .args .order .now) (c .before .before .before .before .before .before .before .before .before .before .before .before .before .before .before .before .args .rep .now)
+  fit : Ready offsets′ (take count targets′) (c .before .before .before .before .before .before .before .before .before .before .before .before .before .before .before .before .args .discoveries .now) (c .before .before .before .before .before .before .before .before .before .before .before .before .before .before .before .before .args .finishes .now) (c .before .before .before .before .before .before .before .before .before .before .before .before .before .before .before .before .args .parents .now) (c .before .before .before .before .before .before .before .before .before .before .before .before .before .before .before .before .args .starts .now) (c .before .before .before .before .before .before .before .before .before .before .before .before .before .before .before .before .args .order .now) (c .before .before .before .before .before .before .before .before .before .before .before .before .before .before .before .before .args .rep .now)
   fit = ready (c .before .before .before .before .before .before .before .before .before .before .before .before .before .before .before .before .pre .0 .listed) (c .before .before .before .before .before .before .before .before .before .before .before .before .before .before .before .before .pre .1) offsets′ targets′ count long (c .build-graph .ensures)
 
   least : (q : ℕ) → q < 2 * c .before .before .before .before .before .before .before .before .before .before .before .before .before .before .before .before .args .v → leastMutual (adjOf offsets′ (take count targets′)) (length (c .before .before .before .before .before .before .before .before .before .before .before .before .before .before .before .before .args .rep .now)) q

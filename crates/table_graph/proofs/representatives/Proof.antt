@@ -32,26 +32,26 @@ slice-aggregate-find-components-3 c = sym (front-zeros (2 * c .before .before .b
 slice-aggregate-find-components-4 : tie.Need-slice-aggregate-find-components-4
 slice-aggregate-find-components-4 c = search needs
 
-array-borrow-prefix-disc : tie.Need-array-borrow-prefix-disc
-array-borrow-prefix-disc c = search needs
+array-borrow-prefix-discoveries : tie.Need-array-borrow-prefix-discoveries
+array-borrow-prefix-discoveries c = search needs
 
 slice-aggregate-find-components-5 : tie.Need-slice-aggregate-find-components-5
 slice-aggregate-find-components-5 c = sym (front-zeros (2 * c .before .before .before .before .before .before .before .args .v) 2048 (omega (arith, c .before .before .before .before .before .before .before .pre .0 .few)))
 
-array-borrow-prefix-fin : tie.Need-array-borrow-prefix-fin
-array-borrow-prefix-fin c = search needs
+array-borrow-prefix-finishes : tie.Need-array-borrow-prefix-finishes
+array-borrow-prefix-finishes c = search needs
 
 slice-aggregate-find-components-6 : tie.Need-slice-aggregate-find-components-6
 slice-aggregate-find-components-6 c = sym (front-zeros (2 * c .before .before .before .before .before .before .before .before .args .v) 2048 (omega (arith, c .before .before .before .before .before .before .before .before .pre .0 .few)))
 
-array-borrow-prefix-par : tie.Need-array-borrow-prefix-par
-array-borrow-prefix-par c = search needs
+array-borrow-prefix-parents : tie.Need-array-borrow-prefix-parents
+array-borrow-prefix-parents c = search needs
 
 slice-aggregate-find-components-7 : tie.Need-slice-aggregate-find-components-7
 slice-aggregate-find-components-7 c = sym (front-zeros (2 * c .before .before .before .before .before .before .before .before .before .args .v) 2048 (omega (arith, c .before .before .before .before .before .before .before .before .before .pre .0 .few)))
 
-array-borrow-prefix-top : tie.Need-array-borrow-prefix-top
-array-borrow-prefix-top c = search needs
+array-borrow-prefix-starts : tie.Need-array-borrow-prefix-starts
+array-borrow-prefix-starts c = search needs
 
 slice-aggregate-find-components-8 : tie.Need-slice-aggregate-find-components-8
 slice-aggregate-find-components-8 c = sym (front-zeros (2 * c .before .before .before .before .before .before .before .before .before .before .args .v) 2048 (omega (arith, c .before .before .before .before .before .before .before .before .before .before .pre .0 .few)))
@@ -84,13 +84,13 @@ representatives-spec =
     array-borrow-prefix-offsets
     slice-aggregate-find-components-3
     slice-aggregate-find-components-4
-    array-borrow-prefix-disc
+    array-borrow-prefix-discoveries
     slice-aggregate-find-components-5
-    array-borrow-prefix-fin
+    array-borrow-prefix-finishes
     slice-aggregate-find-components-6
-    array-borrow-prefix-par
+    array-borrow-prefix-parents
     slice-aggregate-find-components-7
-    array-borrow-prefix-top
+    array-borrow-prefix-starts
     slice-aggregate-find-components-8
     array-borrow-prefix-order
     slice-aggregate-find-components-9

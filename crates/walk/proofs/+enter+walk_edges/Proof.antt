@@ -45,36 +45,36 @@ enter-add-discovered :
     enter-lts.Need-add-discovered (walk-edges-below t, walk-edges.Post) (enter-at t) enter.Post
 enter-add-discovered t c = search needs
 
-enter-mul-disc :
+enter-mul-discoveries :
     (t : ℕ) →
-    enter-lts.Need-mul-disc (walk-edges-below t, walk-edges.Post) (enter-at t) enter.Post
-enter-mul-disc t c = search needs
+    enter-lts.Need-mul-discoveries (walk-edges-below t, walk-edges.Post) (enter-at t) enter.Post
+enter-mul-discoveries t c = search needs
 
-enter-slice-write-disc : (t : ℕ) → enter-lts.Need-slice-write-disc (
+enter-slice-write-discoveries : (t : ℕ) → enter-lts.Need-slice-write-discoveries (
   walk-edges-below t,
   walk-edges.Post,
 ) (enter-at t) enter.Post
-enter-slice-write-disc t c = search needs
+enter-slice-write-discoveries t c = search needs
 
-enter-mul-par :
-    (t : ℕ) → enter-lts.Need-mul-par (walk-edges-below t, walk-edges.Post) (enter-at t) enter.Post
-enter-mul-par t c = search needs
+enter-mul-parents :
+    (t : ℕ) → enter-lts.Need-mul-parents (walk-edges-below t, walk-edges.Post) (enter-at t) enter.Post
+enter-mul-parents t c = search needs
 
-enter-slice-write-par : (t : ℕ) → enter-lts.Need-slice-write-par (
+enter-slice-write-parents : (t : ℕ) → enter-lts.Need-slice-write-parents (
   walk-edges-below t,
   walk-edges.Post,
 ) (enter-at t) enter.Post
-enter-slice-write-par t c = search needs
+enter-slice-write-parents t c = search needs
 
-enter-mul-top :
-    (t : ℕ) → enter-lts.Need-mul-top (walk-edges-below t, walk-edges.Post) (enter-at t) enter.Post
-enter-mul-top t c = search needs
+enter-mul-starts :
+    (t : ℕ) → enter-lts.Need-mul-starts (walk-edges-below t, walk-edges.Post) (enter-at t) enter.Post
+enter-mul-starts t c = search needs
 
-enter-slice-write-top : (t : ℕ) → enter-lts.Need-slice-write-top (
+enter-slice-write-starts : (t : ℕ) → enter-lts.Need-slice-write-starts (
   walk-edges-below t,
   walk-edges.Post,
 ) (enter-at t) enter.Post
-enter-slice-write-top t c = search needs
+enter-slice-write-starts t c = search needs
 
 enter-walk-edges-requires : (t : ℕ) → enter-lts.Need-walk-edges-requires (
   walk-edges-below t,
@@ -84,8 +84,8 @@ enter-walk-edges-requires t c κs =
     let s = c .before .before .before .before .before .before .before .before .before .before in
     let a = s .args in
     let pre = s .pre .1 in (
-      omega (arith, s .pre .0, fresh-set (a .disc .now) (a .slot) (a .time) (pre .1 .1 .0) (pre .1 .1 .1)),
-      arrived (a .offsets .now) (a .targets .now) (a .disc .now) (a .fin .now) (a .par .now) (a .top .now) (a .time) (a .slot) (a .parent) (a .start) (pre .0) (pre .1 .0) (pre .1 .1 .0) (pre .1 .1 .1),
+      omega (arith, s .pre .0, fresh-set (a .discoveries .now) (a .slot) (a .time) (pre .1 .1 .0) (pre .1 .1 .1)),
+      arrived (a .offsets .now) (a .targets .now) (a .discoveries .now) (a .finishes .now) (a .parents .now) (a .starts .now) (a .time) (a .slot) (a .parent) (a .start) (pre .0) (pre .1 .0) (pre .1 .1 .0) (pre .1 .1 .1),
     )
 
 enter-add-finished :
@@ -96,25 +96,25 @@ enter-add-finished t c =
     let a = s .args in
     let pre = s .pre .1 in
     let w = c .before .before .before .before .before .before .before .before .walk-edges in
-    let α = arrived (a .offsets .now) (a .targets .now) (a .disc .now) (a .fin .now) (a .par .now) (a .top .now) (a .time) (a .slot) (a .parent) (a .start) (pre .0) (pre .1 .0) (pre .1 .1 .0) (pre .1 .1 .1) in
-    let done = walked (a .offsets .now) (a .targets .now) _ (fresh (set (a .disc .now) (a .slot) (a .time + 1))) (a .slot) (a .start) _ _ (α .0) (α .1 .0) (α .1 .1) (w .ensures (fresh (set (a .disc .now) (a .slot) (a .time + 1))) (le-refl _)) in
+    let α = arrived (a .offsets .now) (a .targets .now) (a .discoveries .now) (a .finishes .now) (a .parents .now) (a .starts .now) (a .time) (a .slot) (a .parent) (a .start) (pre .0) (pre .1 .0) (pre .1 .1 .0) (pre .1 .1 .1) in
+    let done = walked (a .offsets .now) (a .targets .now) _ (fresh (set (a .discoveries .now) (a .slot) (a .time + 1))) (a .slot) (a .start) _ _ (α .0) (α .1 .0) (α .1 .1) (w .ensures (fresh (set (a .discoveries .now) (a .slot) (a .time + 1))) (le-refl _)) in
     omega (arith, done .room)
 
-enter-mul-fin :
-    (t : ℕ) → enter-lts.Need-mul-fin (walk-edges-below t, walk-edges.Post) (enter-at t) enter.Post
-enter-mul-fin t c = search needs
+enter-mul-finishes :
+    (t : ℕ) → enter-lts.Need-mul-finishes (walk-edges-below t, walk-edges.Post) (enter-at t) enter.Post
+enter-mul-finishes t c = search needs
 
-enter-slice-write-fin : (t : ℕ) → enter-lts.Need-slice-write-fin (
+enter-slice-write-finishes : (t : ℕ) → enter-lts.Need-slice-write-finishes (
   walk-edges-below t,
   walk-edges.Post,
 ) (enter-at t) enter.Post
-enter-slice-write-fin t c = search needs
+enter-slice-write-finishes t c = search needs
 
 enter-same-length :
     (t : ℕ) →
     enter-lts.Need-same-length (walk-edges-below t, walk-edges.Post) (enter-at t) enter.Post
 enter-same-length t c =
-    c .before .before .before .before .before .before .before .before .walk-edges .kept .1 .1 .1 .1 .1 .0 ∙ length-set (c .before .before .before .before .before .before .before .before .before .before .before .before .before .before .before .before .before .before .before .args .disc .now) (c .before .before .before .before .before .before .before .before .before .before .before .before .before .before .before .before .before .before .before .args .slot) (c .before .before .before .before .before .before .before .before .before .before .before .before .before .before .before .before .before .before .before .args .time + 1)
+    c .before .before .before .before .before .before .before .before .walk-edges .kept .1 .1 .1 .1 .1 .0 ∙ length-set (c .before .before .before .before .before .before .before .before .before .before .before .before .before .before .before .before .before .before .before .args .discoveries .now) (c .before .before .before .before .before .before .before .before .before .before .before .before .before .before .before .before .before .before .before .args .slot) (c .before .before .before .before .before .before .before .before .before .before .before .before .before .before .before .before .before .before .before .args .time + 1)
 
 enter-same-length-2 :
     (t : ℕ) →
@@ -125,13 +125,13 @@ enter-same-length-3 :
     (t : ℕ) →
     enter-lts.Need-same-length-3 (walk-edges-below t, walk-edges.Post) (enter-at t) enter.Post
 enter-same-length-3 t c =
-    c .before .before .before .before .before .before .before .before .walk-edges .kept .1 .1 .1 .1 .1 .1 .1 .0 ∙ length-set (c .before .before .before .before .before .before .before .before .before .before .before .before .before .before .before .before .before .before .before .args .par .now) (c .before .before .before .before .before .before .before .before .before .before .before .before .before .before .before .before .before .before .before .args .slot) (c .before .before .before .before .before .before .before .before .before .before .before .before .before .before .before .before .before .before .before .args .parent)
+    c .before .before .before .before .before .before .before .before .walk-edges .kept .1 .1 .1 .1 .1 .1 .1 .0 ∙ length-set (c .before .before .before .before .before .before .before .before .before .before .before .before .before .before .before .before .before .before .before .args .parents .now) (c .before .before .before .before .before .before .before .before .before .before .before .before .before .before .before .before .before .before .before .args .slot) (c .before .before .before .before .before .before .before .before .before .before .before .before .before .before .before .before .before .before .before .args .parent)
 
 enter-same-length-4 :
     (t : ℕ) →
     enter-lts.Need-same-length-4 (walk-edges-below t, walk-edges.Post) (enter-at t) enter.Post
 enter-same-length-4 t c =
-    c .before .before .before .before .before .before .before .before .walk-edges .kept .1 .1 .1 .1 .1 .1 .1 .1 .0 ∙ length-set (c .before .before .before .before .before .before .before .before .before .before .before .before .before .before .before .before .before .before .before .args .top .now) (c .before .before .before .before .before .before .before .before .before .before .before .before .before .before .before .before .before .before .before .args .slot) (c .before .before .before .before .before .before .before .before .before .before .before .before .before .before .before .before .before .before .before .args .start)
+    c .before .before .before .before .before .before .before .before .walk-edges .kept .1 .1 .1 .1 .1 .1 .1 .1 .0 ∙ length-set (c .before .before .before .before .before .before .before .before .before .before .before .before .before .before .before .before .before .before .before .args .starts .now) (c .before .before .before .before .before .before .before .before .before .before .before .before .before .before .before .before .before .before .before .args .slot) (c .before .before .before .before .before .before .before .before .before .before .before .before .before .before .before .before .before .before .before .args .start)
 
 enter-returns :
     (t : ℕ) → enter-lts.Need-returns (walk-edges-below t, walk-edges.Post) (enter-at t) enter.Post
@@ -140,15 +140,15 @@ enter-returns t c =
     let a = s .args in
     let pre = s .pre .1 in
     let w = c .before .before .before .before .before .before .before .before .walk-edges in
-    λ n le. finished (adjOf (a .offsets .now) (a .targets .now)) n (a .slot) (a .parent) (a .start) (a .time) (w .result) (a .disc .now) (a .fin .now) (a .par .now) (a .top .now)
+    λ n le. finished (adjOf (a .offsets .now) (a .targets .now)) n (a .slot) (a .parent) (a .start) (a .time) (w .result) (a .discoveries .now) (a .finishes .now) (a .parents .now) (a .starts .now)
     (w .last .1 .1 .1 .1 .1 .0) (w .last .1 .1 .1 .1 .1 .1 .0) (w .last .1 .1 .1 .1 .1 .1 .1 .0) (w .last .1 .1 .1 .1 .1 .1 .1 .1 .0) (pre .1 .1 .0) (pre .1 .1 .1) le (w .ensures)
 
 abbrev walk-edges-Inv-loop : walk-edges-lts.InvT-loop
-walk-edges-Inv-loop slot start time offsets targets disc₀ fin₀ par₀ top₀ t₀ at₀ end disc fin par top t at =
-    Going offsets targets (length disc₀) slot start at₀ end at (stamps t₀ disc₀ fin₀ par₀ top₀) (stamps t disc fin par top)
+walk-edges-Inv-loop slot start time offsets targets discoveries₀ finishes₀ parents₀ starts₀ t₀ at₀ end discoveries finishes parents starts t at =
+    Going offsets targets (length discoveries₀) slot start at₀ end at (stamps t₀ discoveries₀ finishes₀ parents₀ starts₀) (stamps t discoveries finishes parents starts)
 
 abbrev walk-edges-μ-loop : walk-edges-lts.MeasureT-loop
-walk-edges-μ-loop slot start time offsets targets disc₀ fin₀ par₀ top₀ t₀ at₀ end disc fin par top t at =
+walk-edges-μ-loop slot start time offsets targets discoveries₀ finishes₀ parents₀ starts₀ t₀ at₀ end discoveries finishes parents starts t at =
     end - at
 
 walk-edges-mul-at :
@@ -297,7 +297,7 @@ walk-edges-enter-requires t c κs =
       (
         subst (Graph (s .args .offsets .now) (s .args .targets .now)) (sym (l .inv .cols .discs)) (pre .0),
         (
-          subst (λ (k : ℕ). Columns k (stamps (l .t) (l .disc) (l .fin) (l .par) (l .top))) (sym (l .inv .cols .discs)) (l .inv .cols),
+          subst (λ (k : ℕ). Columns k (stamps (l .t) (l .discoveries) (l .finishes) (l .parents) (l .starts))) (sym (l .inv .cols .discs)) (l .inv .cols),
           (subst (λ (k : ℕ). getD (s .args .targets .now) (l .at) 0 < k) (sym (l .inv .cols .discs)) below, c .before .before .before .before .if1 .taken),
         ),
       ),
@@ -338,13 +338,13 @@ walk-edges-loop-again t c =
     let pre = s .pre .1 in
     let a = s .args in
     let l = c .before .before .before .before .loop in
-    going-step (a .offsets .now) (a .targets .now) (length (a .disc .now)) (a .slot) (a .start) (getD (a .offsets .now) (a .slot) 0) (getD (a .offsets .now) (a .slot + 1) 0) (l .at)
-    (stamps (a .time) (a .disc .now) (a .fin .now) (a .par .now) (a .top .now)) (stamps (l .t) (l .disc) (l .fin) (l .par) (l .top)) (stamps (c .if1 .t) (c .if1 .disc) (c .if1 .fin) (c .if1 .par) (c .if1 .top))
+    going-step (a .offsets .now) (a .targets .now) (length (a .discoveries .now)) (a .slot) (a .start) (getD (a .offsets .now) (a .slot) 0) (getD (a .offsets .now) (a .slot + 1) 0) (l .at)
+    (stamps (a .time) (a .discoveries .now) (a .finishes .now) (a .parents .now) (a .starts .now)) (stamps (l .t) (l .discoveries) (l .finishes) (l .parents) (l .starts)) (stamps (c .if1 .t) (c .if1 .discoveries) (c .if1 .finishes) (c .if1 .parents) (c .if1 .starts))
     (pre .0) (pre .1 .1) (pre .0 .inside (a .slot) (pre .1 .1)) (c .before .before .before .loop-test .taken) (l .inv)
     (λ n le. ⊎-elim (λ w. stamps-eq (w .14) (w .15) (w .16) (w .17) (w .18)
     ∙ w .5 .ensures n (le-trans (l .inv .fewer) le)
-    ∙ sym (edge-new (λ q. enters n (adjOf (a .offsets .now) (a .targets .now)) (a .start) (a .slot) q) (getD (a .targets .now) (l .at) 0) (stamps (l .t) (l .disc) (l .fin) (l .par) (l .top)) (w .0 .taken))) (λ w. stamps-eq (w .1) (w .2) (w .3) (w .4) (w .5)
-    ∙ sym (edge-old (λ q. enters n (adjOf (a .offsets .now) (a .targets .now)) (a .start) (a .slot) q) (getD (a .targets .now) (l .at) 0) (stamps (l .t) (l .disc) (l .fin) (l .par) (l .top)) (w .0 .left))) (c .if1 .came))
+    ∙ sym (edge-new (λ q. enters n (adjOf (a .offsets .now) (a .targets .now)) (a .start) (a .slot) q) (getD (a .targets .now) (l .at) 0) (stamps (l .t) (l .discoveries) (l .finishes) (l .parents) (l .starts)) (w .0 .taken))) (λ w. stamps-eq (w .1) (w .2) (w .3) (w .4) (w .5)
+    ∙ sym (edge-old (λ q. enters n (adjOf (a .offsets .now) (a .targets .now)) (a .start) (a .slot) q) (getD (a .targets .now) (l .at) 0) (stamps (l .t) (l .discoveries) (l .finishes) (l .parents) (l .starts)) (w .0 .left))) (c .if1 .came))
 
 walk-edges-same-length :
     (t : ℕ) →
@@ -398,8 +398,8 @@ walk-edges-returns t c =
     let s = c .before .before .before .before .before .before .before .before .before .before in
     let a = s .args in
     let l = c .before .loop in
-    going-done (a .offsets .now) (a .targets .now) (length (a .disc .now)) (a .slot) (a .start) (getD (a .offsets .now) (a .slot + 1) 0) (l .at)
-    (stamps (a .time) (a .disc .now) (a .fin .now) (a .par .now) (a .top .now)) (stamps (l .t) (l .disc) (l .fin) (l .par) (l .top)) (c .loop-test .left) refl (l .inv)
+    going-done (a .offsets .now) (a .targets .now) (length (a .discoveries .now)) (a .slot) (a .start) (getD (a .offsets .now) (a .slot + 1) 0) (l .at)
+    (stamps (a .time) (a .discoveries .now) (a .finishes .now) (a .parents .now) (a .starts .now)) (stamps (l .t) (l .discoveries) (l .finishes) (l .parents) (l .starts)) (c .loop-test .left) refl (l .inv)
 
 pub +enter+walk-edges-spec : {M : Type 1} → statement M
 +enter+walk-edges-spec = close μ-enter μ-walk-edges (λ t. enter-lts.spec (
@@ -409,16 +409,16 @@ pub +enter+walk-edges-spec : {M : Type 1} → statement M
     (enter-at t)
     enter.Post
     (enter-add-discovered t)
-    (enter-mul-disc t)
-    (enter-slice-write-disc t)
-    (enter-mul-par t)
-    (enter-slice-write-par t)
-    (enter-mul-top t)
-    (enter-slice-write-top t)
+    (enter-mul-discoveries t)
+    (enter-slice-write-discoveries t)
+    (enter-mul-parents t)
+    (enter-slice-write-parents t)
+    (enter-mul-starts t)
+    (enter-slice-write-starts t)
     (enter-walk-edges-requires t)
     (enter-add-finished t)
-    (enter-mul-fin t)
-    (enter-slice-write-fin t)
+    (enter-mul-finishes t)
+    (enter-slice-write-finishes t)
     (enter-same-length t)
     (enter-same-length-2 t)
     (enter-same-length-3 t)

@@ -13,19 +13,19 @@ use Rattle.walk.proofs.clear.Reads as reads
 use Rattle.walk.proofs.clear.Lts as lts
 
 abbrev Inv-loop : tie.InvT-loop
-Inv-loop disc₀ i₀ disc i = (i ≤ length disc₀) × (length disc ≡ length disc₀) × (disc ≡ replicate i 0 ++ drop i disc₀)
+Inv-loop discoveries₀ i₀ discoveries i = (i ≤ length discoveries₀) × (length discoveries ≡ length discoveries₀) × (discoveries ≡ replicate i 0 ++ drop i discoveries₀)
 
 abbrev μ-loop : tie.MeasureT-loop
-μ-loop disc₀ i₀ disc i = length disc₀ - i
+μ-loop discoveries₀ i₀ discoveries i = length discoveries₀ - i
 
 loop-holds : tie.Need-loop-holds Inv-loop μ-loop
 loop-holds c = search needs
 
-mul-disc : tie.Need-mul-disc Inv-loop μ-loop
-mul-disc c = search needs
+mul-discoveries : tie.Need-mul-discoveries Inv-loop μ-loop
+mul-discoveries c = search needs
 
-slice-write-disc : tie.Need-slice-write-disc Inv-loop μ-loop
-slice-write-disc c = search needs
+slice-write-discoveries : tie.Need-slice-write-discoveries Inv-loop μ-loop
+slice-write-discoveries c = search needs
 
 add-i : tie.Need-add-i Inv-loop μ-loop
 add-i c = search needs
@@ -36,15 +36,15 @@ loop-less c = search needs
 loop-again : tie.Need-loop-again Inv-loop μ-loop
 loop-again c = (
   omega arith,
-  length-set (c .before .loop .disc) (c .before .loop .i) 0 ∙ c .before .loop .inv .1,
-  ap (λ (l : List ℕ). set l (c .before .loop .i) 0) (c .before .loop .inv .2) ∙ fill-more (c .before .loop .i) 0 (c .before .before .args .disc .now) (omega arith),
+  length-set (c .before .loop .discoveries) (c .before .loop .i) 0 ∙ c .before .loop .inv .1,
+  ap (λ (l : List ℕ). set l (c .before .loop .i) 0) (c .before .loop .inv .2) ∙ fill-more (c .before .loop .i) 0 (c .before .before .args .discoveries .now) (omega arith),
 )
 
 same-length : tie.Need-same-length Inv-loop μ-loop
 same-length c = search needs
 
 returns : tie.Need-returns Inv-loop μ-loop
-returns c = cleared (c .before .before .args .disc .now) (c .before .loop .disc) (c .before .loop .i) (omega arith) (omega arith) (c .before .loop .inv .2)
+returns c = cleared (c .before .before .args .discoveries .now) (c .before .loop .discoveries) (c .before .loop .i) (omega arith) (omega arith) (c .before .loop .inv .2)
 
 pub clear-spec : {M : Type 1} → statement M
 clear-spec =
@@ -53,8 +53,8 @@ clear-spec =
     Inv-loop
     μ-loop
     loop-holds
-    mul-disc
-    slice-write-disc
+    mul-discoveries
+    slice-write-discoveries
     add-i
     loop-less
     loop-again

@@ -1,7 +1,7 @@
 -- `walk::start_at` meets its contract. Assumes nothing.
 use Prim.Native.Nat.{_-_}
 use mathlib.Core.Path.{sym, _∙_}
-use Rattle.walk.specs.Walk.{starts}
+use Rattle.walk.specs.Walk.{startWalk}
 use Rattle.walk.specs.Ready.{adjOf, stamps}
 use Rattle.walk.proofs.Run.{edge-new, edge-old}
 use borrow.Author.Needs.{needs}
@@ -33,16 +33,16 @@ same-length-4 : tie.Need-same-length-4
 same-length-4 c = search needs
 
 returns : tie.Need-returns
-unfolding starts
+unfolding startWalk
 returns c =
     let a = c .before .before .before .before .before .before .before .before .before .before .before .before .before .before .before .before .before .before .before .before .before .args in
     λ n le. c .before .before .before .before .before .before .before .before .enter .ensures n le
-    ∙ sym (edge-new (starts n (adjOf (a .offsets .now) (a .targets .now))) (a .slot) (stamps (a .time) (a .disc .now) (a .fin .now) (a .par .now) (a .top .now)) (c .before .before .before .before .before .before .before .before .before .before .before .before .before .if1 .taken))
+    ∙ sym (edge-new (startWalk n (adjOf (a .offsets .now) (a .targets .now))) (a .slot) (stamps (a .time) (a .discoveries .now) (a .finishes .now) (a .parents .now) (a .starts .now)) (c .before .before .before .before .before .before .before .before .before .before .before .before .before .if1 .taken))
 
 returns-2 : tie.Need-returns-2
 returns-2 c =
     let a = c .before .before .before .before .before .before .before .before .args in
-    λ n le. sym (edge-old (starts n (adjOf (a .offsets .now) (a .targets .now))) (a .slot) (stamps (a .time) (a .disc .now) (a .fin .now) (a .par .now) (a .top .now)) (c .if1 .left))
+    λ n le. sym (edge-old (startWalk n (adjOf (a .offsets .now) (a .targets .now))) (a .slot) (stamps (a .time) (a .discoveries .now) (a .finishes .now) (a .parents .now) (a .starts .now)) (c .if1 .left))
 
 pub start-at-spec : {M : Type 1} → statement M
 start-at-spec =

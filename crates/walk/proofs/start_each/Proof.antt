@@ -14,10 +14,10 @@ use Rattle.walk.proofs.start_each.Lts as lts
 use Rattle.walk.proofs.start_at.Reads as start-at-reads
 
 abbrev Inv-loop : tie.InvT-loop
-Inv-loop order time offsets targets disc₀ fin₀ par₀ top₀ t₀ k₀ disc fin par top t k = (k ≤ length order) × Starting offsets targets (drop k order) order (length disc₀) (stamps t₀ disc₀ fin₀ par₀ top₀) (stamps t disc fin par top)
+Inv-loop order time offsets targets discoveries₀ finishes₀ parents₀ starts₀ t₀ k₀ discoveries finishes parents starts t k = (k ≤ length order) × Starting offsets targets (drop k order) order (length discoveries₀) (stamps t₀ discoveries₀ finishes₀ parents₀ starts₀) (stamps t discoveries finishes parents starts)
 
 abbrev μ-loop : tie.MeasureT-loop
-μ-loop order time offsets targets disc₀ fin₀ par₀ top₀ t₀ k₀ disc fin par top t k = length order - k
+μ-loop order time offsets targets discoveries₀ finishes₀ parents₀ starts₀ t₀ k₀ discoveries finishes parents starts t k = length order - k
 
 loop-holds : tie.Need-loop-holds Inv-loop μ-loop
 loop-holds c = search needs
@@ -34,7 +34,7 @@ start-at-requires c κs =
     let l = c .before .before .before .before .before .before .loop in (
       subst (Graph (s .args .offsets .now) (s .args .targets .now)) (sym (l .inv .1 .cols .discs)) (s .pre .0),
       (
-        subst (λ (k : ℕ). Columns k (stamps (l .t) (l .disc) (l .fin) (l .par) (l .top))) (sym (l .inv .1 .cols .discs)) (l .inv .1 .cols),
+        subst (λ (k : ℕ). Columns k (stamps (l .t) (l .discoveries) (l .finishes) (l .parents) (l .starts))) (sym (l .inv .1 .cols .discs)) (l .inv .1 .cols),
         subst (λ (k : ℕ). getD (s .args .order .now) (l .k) 0 < k) (sym (l .inv .1 .cols .discs)) (s .pre .1 .1 (l .k) (omega arith)),
       ),
     )
@@ -53,11 +53,11 @@ loop-again c =
     let w = c .before .before .before .before .before .before .before .before .start-at in
     let lt : l .k < length (a .order .now) = c .before .before .before .before .before .before .before .before .before .before .before .before .before .before .loop-test .taken in (
       omega (arith, lt),
-      starting-step (a .offsets .now) (a .targets .now) (drop (l .k + 1) (a .order .now)) (a .order .now) (length (a .disc .now)) (getD (a .order .now) (l .k) 0)
-          (stamps (a .time) (a .disc .now) (a .fin .now) (a .par .now) (a .top .now)) (stamps (l .t) (l .disc) (l .fin) (l .par) (l .top))
+      starting-step (a .offsets .now) (a .targets .now) (drop (l .k + 1) (a .order .now)) (a .order .now) (length (a .discoveries .now)) (getD (a .order .now) (l .k) 0)
+          (stamps (a .time) (a .discoveries .now) (a .finishes .now) (a .parents .now) (a .starts .now)) (stamps (l .t) (l .discoveries) (l .finishes) (l .parents) (l .starts))
           (stamps (w .result) (w .last .1 .1 .1 .1 .0) (w .last .1 .1 .1 .1 .1 .0) (w .last .1 .1 .1 .1 .1 .1 .0) (w .last .1 .1 .1 .1 .1 .1 .1 .0))
           (s .pre .0) (s .pre .1 .1 (l .k) lt)
-          (starting-as (a .offsets .now) (a .targets .now) _ _ (a .order .now) (length (a .disc .now)) _ _ (drop-step (a .order .now) (l .k) lt) (l .inv .1))
+          (starting-as (a .offsets .now) (a .targets .now) _ _ (a .order .now) (length (a .discoveries .now)) _ _ (drop-step (a .order .now) (l .k) lt) (l .inv .1))
           (w .ensures),
     )
 
@@ -77,8 +77,8 @@ returns : tie.Need-returns Inv-loop μ-loop
 returns c =
     let a = c .before .before .before .before .before .before .before .before .before .args in
     let l = c .before .loop in
-    starting-done (a .offsets .now) (a .targets .now) (a .order .now) (length (a .disc .now)) _ _
-    (starting-as (a .offsets .now) (a .targets .now) _ _ (a .order .now) (length (a .disc .now)) _ _ (drop-done (a .order .now) (l .k) (omega arith) (omega arith)) (l .inv .1))
+    starting-done (a .offsets .now) (a .targets .now) (a .order .now) (length (a .discoveries .now)) _ _
+    (starting-as (a .offsets .now) (a .targets .now) _ _ (a .order .now) (length (a .discoveries .now)) _ _ (drop-done (a .order .now) (l .k) (omega arith) (omega arith)) (l .inv .1))
 
 pub start-each-spec : {M : Type 1} → statement M
 start-each-spec =

@@ -1,12 +1,12 @@
--- `discovery_order::discovery` meets its contract. Assumes nothing.
-use Rattle.hidden.proofs.Columns.{column-dis}
+-- `stamps::discovery` meets its contract. Assumes nothing.
+use Rattle.stamps.proofs.Columns.{column-discovery}
 use mathlib.Core.List.{[]}
 use mathlib.Core.Path.{sym}
 use borrow.Author.Needs.{needs}
-use Rattle.discovery_order.proofs.discovery.Statement.{statement}
-use Rattle.discovery_order.proofs.discovery.Tie as tie
-use Rattle.discovery_order.proofs.discovery.Reads as reads
-use Rattle.discovery_order.proofs.discovery.Lts as lts
+use Rattle.stamps.proofs.discovery.Statement.{statement}
+use Rattle.stamps.proofs.discovery.Tie as tie
+use Rattle.stamps.proofs.discovery.Reads as reads
+use Rattle.stamps.proofs.discovery.Lts as lts
 
 mul-result : tie.Need-mul-result
 mul-result c = search needs
@@ -18,7 +18,7 @@ shared-slice-read-result : tie.Need-shared-slice-read-result
 shared-slice-read-result c = search needs
 
 returns : tie.Need-returns
-returns c = sym (column-dis (c .before .args .times .now) [] (c .before .args .s))
+returns c = sym (column-discovery (c .before .args .times .now) [] (c .before .args .s))
 
 pub discovery-spec : {M : Type 1} → statement M
 discovery-spec = tie.close (tie.spec mul-result mul-result-2 shared-slice-read-result returns)

@@ -1,22 +1,10 @@
 -- What the functions on slots ask of the stamp tables. Assumes nothing: these are definitions.
 use Prim.Native.Nat.{ℕ, _+_, _*_, _≤_, _<_}
-use mathlib.Core.List.{List, [], List·Memᴰ}
+use mathlib.Core.List.{List, List·Memᴰ}
 use lib.ListN.{length}
 use lib.IntN.{ℤ}
 use Rattle.literal.specs.Literals.{Literal}
-use Rattle.walk.specs.Forest.{dis, fin, par}
-use Rattle.stamps.specs.Fresh.{parentOf}
-use Rattle.stamps.specs.Columns.{columns}
-
--- discovery and finish are in the times alone, and the parent in the links alone
-abbrev pub began : List ℕ → ℕ → ℕ
-began times s = dis (columns times []) s
-
-abbrev pub ended : List ℕ → ℕ → ℕ
-ended times s = fin (columns times []) s
-
-abbrev pub above : List ℤ → ℕ → ℕ
-above links s = par (columns [] links) s
+use Rattle.stamps.specs.Fresh.{parentIn}
 
 -- slots below a number, all of which have times
 pub record Slots (times : List ℕ) (xs : List ℕ) : Type 0 where
@@ -28,4 +16,4 @@ pub record Slots (times : List ℕ) (xs : List ℕ) : Type 0 where
 -- a slot whose parent is a literal in the links
 pub record Child (links : List ℤ) (s : ℕ) : Type 0 where
   pub room : 2 * s + 1 < length links
-  pub parent : Literal 1024 (parentOf links s)
+  pub parent : Literal 1024 (parentIn links s)

@@ -1,12 +1,12 @@
--- `discovery_order::finish` meets its contract. Assumes nothing.
-use Rattle.hidden.proofs.Columns.{column-fin}
+-- `stamps::finish` meets its contract. Assumes nothing.
+use Rattle.stamps.proofs.Columns.{column-finishes}
 use mathlib.Core.List.{[]}
 use mathlib.Core.Path.{sym}
 use borrow.Author.Needs.{needs}
-use Rattle.discovery_order.proofs.finish.Statement.{statement}
-use Rattle.discovery_order.proofs.finish.Tie as tie
-use Rattle.discovery_order.proofs.finish.Reads as reads
-use Rattle.discovery_order.proofs.finish.Lts as lts
+use Rattle.stamps.proofs.finish.Statement.{statement}
+use Rattle.stamps.proofs.finish.Tie as tie
+use Rattle.stamps.proofs.finish.Reads as reads
+use Rattle.stamps.proofs.finish.Lts as lts
 
 mul-result : tie.Need-mul-result
 mul-result c = search needs
@@ -21,7 +21,7 @@ shared-slice-read-result : tie.Need-shared-slice-read-result
 shared-slice-read-result c = search needs
 
 returns : tie.Need-returns
-returns c = sym (column-fin (c .before .args .times .now) [] (c .before .args .s))
+returns c = sym (column-finishes (c .before .args .times .now) [] (c .before .args .s))
 
 pub finish-spec : {M : Type 1} → statement M
 finish-spec =
