@@ -27,8 +27,14 @@ ghost use Rattle.run.specs.Run.{orderOf, programme, follow, round, uncha
 ghost use Rattle.settle.specs.Steps.{standingIn};
 ghost use Rattle.run.specs.Steps.{Runs, Inside, Places, Saves, Saved, Comparable};
 
-// The pass codes that each round follows: settle, stamp, failed, sweep.
-const PROGRAMME: [u8; 4] = [1, 2, 3, 4];
+// The pass codes.
+const SETTLE: u8 = 1;
+const STAMP: u8 = 2;
+const FAILED: u8 = 3;
+const SWEEP: u8 = 4;
+
+// The codes that each round follows.
+const PROGRAMME: [u8; 4] = [SETTLE, STAMP, FAILED, SWEEP];
 
 // What a round leaves, and whether the run stops after it.
 pub struct Turn {
@@ -251,7 +257,7 @@ fn stamp_turned(
     )
 }
 
-// Code 2.
+// STAMP.
 fn follow_stamp(
     k: u32,
     clauses: &[u32],
@@ -278,7 +284,7 @@ fn follow_stamp(
     )
 }
 
-// Code 3.
+// FAILED.
 fn follow_failed(variables: &mut [i32], times: &[u32], links: &[i32], st: State) -> State
     requires { ⌜ Callable st (now variables) (now times) (now links) ⌝ }
     ensures { λ r. ⌜ ((clauses : List ℕ) (literals : List ℤ) → standingIn (returned (unlent clauses) (unlent literals) variables times links) r
@@ -288,7 +294,7 @@ fn follow_failed(variables: &mut [i32], times: &[u32], links: &[i32], st: State)
     outcome.state
 }
 
-// Code 4: a whole Sweep.
+// SWEEP: a whole one.
 fn follow_sweep(
     clauses: &mut [u32],
     literals: &mut [i32],
@@ -319,16 +325,16 @@ fn follow(
     requires { ⌜ Runs (standingIn (handed clauses literals variables times links) st) ⌝ }
     ensures { λ r. ⌜ standingIn (returned clauses literals variables times links) r ≡ follow k code (standingIn (lent clauses literals variables times links) st) ⌝ }
 {
-    if code == 1 {
+    if code == SETTLE {
         return settle::settle(clauses, literals, variables, st);
     }
-    if code == 2 {
+    if code == STAMP {
         return follow_stamp(k, clauses, literals, variables, times, links, st);
     }
-    if code == 3 {
+    if code == FAILED {
         return follow_failed(variables, times, links, st);
     }
-    if code == 4 {
+    if code == SWEEP {
         return follow_sweep(clauses, literals, times, links, st);
     }
     st

@@ -12,8 +12,6 @@ ghost use Rattle.settle.specs.Settle.{propagated, merged, settle};
 ghost use Rattle.settle.specs.Own.{owns};
 ghost use Rattle.settle.specs.Steps.{standingIn, passed, bothPasses};
 
-pub const SETTLE: u8 = 1;
-
 // The state after a Propagate and a Merge, and whether they are to be repeated.
 pub struct Step {
     pub state: State,
