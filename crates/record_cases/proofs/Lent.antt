@@ -1,4 +1,4 @@
--- The records of `record_cases`, an array of 2,049 by value, of which the first m are lent for one call: what the walks of its calls say of them (crate `records`, `First.antt`, at this array). Assumes nothing.
+-- The records of `record_cases`, an array of 2,049 by value, of which the first m are lent for one call: what the walks of its calls say of them (crate `stamp_records`, `First.antt`, at this array). Assumes nothing.
 use mathlib.Core.Path.{_≡_, refl, sym, _∙_, ap, subst}
 use Prim.Native.Nat.{ℕ, _≤_, _<_}
 use native.Mathlib.Omega.{arith}
