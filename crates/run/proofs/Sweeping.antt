@@ -17,7 +17,7 @@ use Rattle.shape.specs.Shape.{Shape}
 use Rattle.visits.proofs.Visiting.{visits-beside}
 use Rattle.visits.proofs.Keeping.{FormedIn, formed-shape-as}
 use Rattle.visits.proofs.Advancing.{advance-whole}
-use Rattle.sweep_clause.specs.Stamped.{Stamped}
+use Rattle.hidden_literals.specs.Stamped.{Stamped}
 use Rattle.sweep.specs.Sweep.{sweepClause, sweepFrom}
 use Rattle.sweep.proofs.Visiting.{sweep-shrinks}
 use Rattle.sweep.proofs.Keeping.{formed-visits}

@@ -29,8 +29,11 @@ ghost use Rattle.run.specs.Steps.{Runs, Inside, Places, Saves, Saved, Co
 
 // The pass codes.
 const SETTLE: u8 = 1;
+
 const STAMP: u8 = 2;
+
 const FAILED: u8 = 3;
+
 const SWEEP: u8 = 4;
 
 // The codes that each round follows.

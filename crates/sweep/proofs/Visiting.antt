@@ -15,7 +15,7 @@ use Rattle.tables.specs.Fates.{Fate, kept, left, dropped, store, visit, shorten
 use Rattle.visits.proofs.Forming.{clause-fits}
 use Rattle.visits.proofs.Placing.{replaced, put-holding, put-same}
 use Rattle.visits.proofs.Visiting.{visit-standing, Shrinks, stays, leaves, drops}
-use Rattle.sweep_clause.specs.Stamped.{Judged}
+use Rattle.hidden_tautologies.specs.Judged.{Judged}
 use Rattle.sweep.specs.Sweep.{sweepClause}
 use Rattle.sweep.specs.Visits.{Part, partOf, partAfter, recordAfter, Ready}
 use Rattle.sweep.specs.declared.Visited.{Visited}

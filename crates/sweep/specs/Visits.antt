@@ -15,7 +15,7 @@ use Rattle.tables.specs.Fates.{Fate, kept, left, dropped, unit, conflict}
 use Rattle.tables.specs.Calls.{After, answered}
 use Rattle.visits.specs.Formed.{Formed}
 use Rattle.visits.specs.Holding.{holding}
-use Rattle.sweep_clause.specs.Stamped.{Stamped}
+use Rattle.hidden_literals.specs.Stamped.{Stamped}
 use Rattle.sweep.specs.declared.Visited.{Visited}
 use Rattle.sweep.specs.declared.Visited.the-variants.{Kept, Left, Dropped}
 

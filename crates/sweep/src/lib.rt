@@ -20,7 +20,7 @@ ghost use Rattle.tables.specs.Calls.{after};
 ghost use Rattle.tables.specs.Fates.{visit, visits};
 ghost use Rattle.sweep.specs.Sweep.{sweepClause, sweepFrom, unlessStale, sweepCall};
 ghost use Rattle.sweep.specs.Visits.{partOf, partAfter, recordAfter, Ready, Sweepable, standsBefore};
-ghost use Rattle.sweep_clause.specs.Stamped.{Judged};
+ghost use Rattle.hidden_tautologies.specs.Judged.{Judged};
 
 // What a visit makes of a clause: nothing changes; so many literals are left; it is dropped.
 pub enum Visited {
@@ -43,11 +43,11 @@ fn visit_part(
     if part.len() < 2 {
         return Visited::Kept;
     }
-    if sweep_clause::hidden_tautology(part, times, links, slots, twins) {
+    if hidden_tautologies::hidden_tautology(part, times, links, slots, twins) {
         literal::zero_from(part, 0);
         return Visited::Dropped;
     }
-    let n = sweep_clause::shorten_part(part, slots, twins, times);
+    let n = hidden_literals::shorten_part(part, slots, twins, times);
     Visited::Left(n as u32)
 }
 

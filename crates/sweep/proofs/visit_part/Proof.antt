@@ -1,6 +1,6 @@
 -- `sweep::visit_part` meets its contract. Assumes nothing.
 use Rattle.sweep.proofs.Parting.{part-short, part-dropped, part-left, shorten-shorter}
-use Rattle.sweep_clause.proofs.Judging.{judged-clause}
+use Rattle.hidden_tautologies.proofs.Judging.{judged-clause}
 use Rattle.stamps.specs.Columns.{columns}
 use mathlib.Core.List.{[]}
 use mathlib.Core.Path.{sym, _∙_}
@@ -10,8 +10,8 @@ use Rattle.sweep.proofs.visit_part.Statement.{statement}
 use Rattle.sweep.proofs.visit_part.Tie as tie
 use Rattle.sweep.proofs.visit_part.Reads as reads
 use Rattle.sweep.proofs.visit_part.Lts as lts
-use Rattle.sweep_clause.proofs.hidden_tautology.Reads as hidden-tautology-reads
-use Rattle.sweep_clause.proofs.shorten_part.Reads as shorten-part-reads
+use Rattle.hidden_tautologies.proofs.hidden_tautology.Reads as hidden-tautology-reads
+use Rattle.hidden_literals.proofs.shorten_part.Reads as shorten-part-reads
 use Rattle.literal.proofs.zero_from.Reads as zero-from-reads
 
 returns : tie.Need-returns

@@ -1,0 +1,4 @@
+pub mod Keeping
+pub mod Hiding
+pub mod Shortening
+pub mod Shortened

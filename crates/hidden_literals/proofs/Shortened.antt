@@ -1,0 +1,167 @@
+-- What a clause with nested intervals gives the calls of figure 5. Assumes nothing.
+use Prim.Native.Nat.{ℕ, zero, suc, _*_, _-_, _≤_, _<_}
+use native.Mathlib.Omega.{arith}
+use mathlib.Core.Path.{_≡_, sym, ap, subst, _∙_}
+use mathlib.Core.Bool.{Bool, true, false, not}
+use mathlib.Core.Logic.{inl, inr, ⊎-elim}
+use mathlib.Core.List.{List, [], _∷_, _++_, map, List·Memᴰ, Memᴰ·of-map}
+use lib.ListN.{length, take, drop, getD, length-map, length-drop, replicate}
+use lib.Seq.{take-append-le}
+use lib.Dec.{ltb}
+use lib.IntN.{ℤ, pos, negℤ}
+use Rattle.base.specs.Decide.{same-or}
+use Rattle.base.specs.Lists.{filter}
+use Rattle.base.proofs.Lists.{mem-filter, getD-mem, each-mem}
+use Rattle.literal.specs.Literals.{Literal, slotOf, twin}
+use Rattle.literal.proofs.Laws.{slot-below, slot-twin}
+use Rattle.literal.proofs.Twins.{twin-below}
+use Rattle.walk.specs.Walk.{Stamps}
+use Rattle.walk.specs.Forest.{discoveryAt, finishAt, Parted}
+use Rattle.stamps.specs.Columns.{columns}
+use Rattle.hidden.specs.Hidden.{byDiscovery, shorten}
+use Rattle.hidden.proofs.Intervals.{Nested, Within}
+use Rattle.hidden.proofs.Sorted.{Rising, sorted-out, sorted-rising}
+use Rattle.stamps.specs.Slots.{Slots}
+use Rattle.discovery_order.proofs.Sorting.{length-sorted}
+use Rattle.hidden_literals.specs.Stamped.{Lits, Sorted, Inside, Clause}
+use Rattle.hidden_literals.specs.Figures.{least, inner, outer, keptBy}
+use Rattle.hidden_literals.proofs.Hiding.{heldByOne, outer-filter}
+use Rattle.hidden_literals.proofs.Shortening.{innerSlots, outerTwins, inner-mem, twins-below, kept-shortened}
+
+-- ---- slots and their complements
+
+module _ {times xs : List ℕ} (I : Inside times xs) where
+  pub inside-small : (k : ℕ) → k < length xs → getD xs k 0 < 65536
+  inside-small k lt = omega (arith, I .each (getD xs k 0) (getD-mem xs k 0 lt), I .few)
+
+  pub inside-twins : Slots times (map twin xs)
+  inside-twins = record {
+    size = 2 * I .vars;
+    few = omega (arith, I .few);
+    room = omega (arith, I .few, I .long);
+    each = λ x m. let r = Memᴰ·of-map twin xs m in subst (λ (y : ℕ). y < 2 * I .vars) (r .2) (twin-below (I .vars) (r .0) (I .each (r .0) (r .1)));
+  }
+
+-- what the three calls have given
+pub twins-given : (times xs t₁ t₂ : List ℕ) {n : ℕ} → t₁ ≡ map twin xs → ((links : List ℤ) → t₂ ≡ byDiscovery (columns times links) t₁)
+    → (t₃ : List ℕ) → (n ≤ length t₂) × ((links : List ℤ) → take n t₃ ≡ outer (columns times links) 0 t₂)
+    → (n ≤ length xs) × (take n t₃ ≡ outer (columns times []) 0 (byDiscovery (columns times []) (map twin xs)))
+twins-given times xs t₁ t₂ {n} e h t₃ r = (
+  omega (arith, r .0, ap length (h []), length-sorted (columns times []) t₁, ap length e, length-map xs twin),
+  r .1 [] ∙ ap (outer (columns times []) 0) (h [] ∙ ap (byDiscovery (columns times [])) e),
+)
+
+-- ---- lists that rise
+
+filter-rising : (σ : Stamps) (p : ℕ → Bool) (xs : List ℕ) → Rising σ xs → Rising σ (filter p xs)
+unfolding filter
+filter-rising σ p [] r = tt
+filter-rising σ p (x ∷ xs) r = go (filter-rising σ p xs (r .1)) (p x)
+  where
+    go : Rising σ (filter p xs) → (b : Bool) → Rising σ (elim b [ true ↦ x ∷ filter p xs | false ↦ filter p xs ])
+    go rest true = (λ y m. r .0 y (mem-filter p xs m), rest)
+    go rest false = rest
+
+rising-at : (σ : Stamps) (xs : List ℕ) → Rising σ xs → (j k : ℕ) → j < k → k < length xs → discoveryAt σ (getD xs j 0) ≤ discoveryAt σ (getD xs k 0)
+rising-at σ [] r j k lt h = absurd (omega arith)
+rising-at σ (x ∷ xs) r j zero lt h = absurd (omega arith)
+rising-at σ (x ∷ xs) r zero (suc k) lt h = r .0 (getD xs k 0) (getD-mem xs k 0 (omega arith))
+rising-at σ (x ∷ xs) r (suc j) (suc k) lt h = rising-at σ xs (r .1) j k (omega arith) (omega arith)
+
+-- slots that are discovered together are one
+same-discovery : (size : ℕ) (σ : Stamps) → Nested size σ → (a b : ℕ) → a < size → b < size → discoveryAt σ a ≡ discoveryAt σ b → a ≡ b
+same-discovery size σ N a b la lb e = ⊎-elim (λ q. q) (λ d. absurd (go (N .parted a b la lb d))) (same-or a b)
+  where
+    go : Parted σ a b → ⊥
+    go (inl h) = omega (arith, h, e, N .spans a la)
+    go (inr (inl h)) = omega (arith, h, e, N .spans b lb)
+    go (inr (inr (inl h))) = omega (arith, h .0, e)
+    go (inr (inr (inr h))) = omega (arith, h .0, e)
+
+-- ---- a clause
+
+inner-shorter : (σ : Stamps) (xs : List ℕ) → length (inner σ xs) ≤ length xs
+unfolding inner
+inner-shorter σ [] = omega arith
+inner-shorter σ (x ∷ xs) = go (ltb (least σ xs) (finishAt σ x)) (inner-shorter σ xs)
+  where
+    go : (b : Bool) → length (inner σ xs) ≤ length xs → length {A = ℕ} (elim b [ true ↦ inner σ xs | false ↦ x ∷ inner σ xs ]) ≤ suc (length xs)
+    go true h = omega arith
+    go false h = omega arith
+
+module _ {times : List ℕ} {C : List ℤ} (K : Clause times C) where
+  abbrev σ : Stamps
+  σ = columns times []
+
+  literals : (l : ℤ) → List·Memᴰ l C → Literal (K .vars) l
+  literals = each-mem (Literal (K .vars)) C (pos 0) (K .each)
+
+  pub clause-within : Within (2 * K .vars) (map slotOf C)
+  clause-within s m =
+      let r = Memᴰ·of-map slotOf C m in
+      let L = literals (r .0) (r .1) in
+      let h = subst (λ (x : ℕ). x < 2 * K .vars) (r .2) (slot-below (r .0) (K .vars) (L .above) (L .within)) in
+      (h, twin-below (K .vars) s h)
+
+  clause-small : (q : ℕ) → q < 2 * K .vars → finishAt (columns times []) q ≤ 4294967295
+  clause-small q lt = omega (arith, K .small q lt)
+
+  pub clause-lits : Lits C
+  clause-lits = record { each = λ k lt. record { above = K .each k lt .above; within = omega (arith, K .each k lt .within, K .few) } }
+
+  pub clause-slots : Slots times (byDiscovery σ (map slotOf C))
+  clause-slots = record { size = 2 * K .vars; few = omega (arith, K .few); room = omega (arith, K .few, K .long); each = λ x m. clause-within x (sorted-out σ (map slotOf C) m) .0 }
+
+  pub clause-inside : Inside times (innerSlots σ C)
+  clause-inside = record { vars = K .vars; few = K .few; long = K .long; each = λ x m. clause-within x (inner-mem (2 * K .vars) σ (K .nested) C clause-within clause-small m) .0 }
+
+  pub inner-length : length (innerSlots σ C) ≤ length C
+  inner-length = omega (arith, inner-shorter σ (byDiscovery σ (map slotOf C)), length-sorted σ (map slotOf C), length-map C slotOf)
+
+  outer-is : outerTwins σ C ≡ filter (λ y. not (heldByOne σ (byDiscovery σ (map twin (innerSlots σ C))) y)) (byDiscovery σ (map twin (innerSlots σ C)))
+  outer-is = outer-filter (2 * K .vars) σ (K .nested) (byDiscovery σ (map twin (innerSlots σ C))) (twins-below (2 * K .vars) σ (K .nested) C clause-within clause-small) (sorted-rising σ (map twin (innerSlots σ C)))
+
+  outer-below : (x : ℕ) → List·Memᴰ x (outerTwins σ C) → x < 2 * K .vars
+  outer-below x m = twins-below (2 * K .vars) σ (K .nested) C clause-within clause-small x (mem-filter _ (byDiscovery σ (map twin (innerSlots σ C))) (subst (List·Memᴰ x) outer-is m))
+
+  pub clause-sorted : Sorted times (outerTwins σ C) C
+  clause-sorted = record {
+    slots = record { size = 2 * K .vars; few = omega (arith, K .few); room = omega (arith, K .few, K .long); each = outer-below };
+    long = K .long;
+    lits = clause-lits;
+    searched = λ k lt. record {
+      rises = rising-at σ (outerTwins σ C) (subst (Rising σ) (sym outer-is) (filter-rising σ _ (byDiscovery σ (map twin (innerSlots σ C))) (sorted-rising σ (map twin (innerSlots σ C)))));
+      alone = λ j lj e. same-discovery (2 * K .vars) σ (K .nested) (getD (outerTwins σ C) j 0) (slotOf (negℤ (getD C k (pos 0)))) (outer-below (getD (outerTwins σ C) j 0) (getD-mem (outerTwins σ C) j 0 lj)) (complement k lt) e;
+    };
+  }
+    where
+      complement : (k : ℕ) → k < length C → slotOf (negℤ (getD C k (pos 0))) < 2 * K .vars
+      complement k lt =
+          let L = K .each k lt in
+          subst (λ (x : ℕ). x < 2 * K .vars) (sym (slot-twin (getD C k (pos 0)) (L .above))) (twin-below (K .vars) (slotOf (getD C k (pos 0))) (slot-below (getD C k (pos 0)) (K .vars) (L .above) (L .within)))
+
+  pub clause-shortened : keptBy (outerTwins σ C) C ≡ shorten slotOf σ C
+  clause-shortened = kept-shortened (2 * K .vars) σ (K .nested) C clause-within clause-small (λ l m. literals l m .above)
+
+-- ---- what the calls of `shorten_part` have given
+
+module _ {times : List ℕ} {C : List ℤ} (K : Clause times C) {slots : List ℕ} (sorted : slots ≡ byDiscovery (columns times []) (map slotOf C)) (s₁ : List ℕ) (first : ℕ)
+    (inners : (links : List ℤ) → drop first s₁ ≡ inner (columns times links) slots) where
+  pub inner-given : drop first s₁ ≡ innerSlots (columns times []) C
+  inner-given = inners [] ∙ ap (inner (columns times [])) sorted
+
+  pub inner-many : length s₁ - first ≡ length (drop first s₁)
+  inner-many = sym (length-drop first s₁)
+
+  pub inner-few : length s₁ - first ≤ length C
+  inner-few = omega (arith, inner-many, ap length inner-given, inner-length K)
+
+  -- the complements that stay, in a table of which t₁ is the front
+  module _ (n : ℕ) (t₁ t₂ : List ℕ) (few : n ≤ length t₁) (outers : take n t₁ ≡ outer (columns times []) 0 (byDiscovery (columns times []) (map twin (drop first s₁)))) where
+    pub outer-given : take n (t₁ ++ t₂) ≡ outerTwins (columns times []) C
+    outer-given = take-append-le n t₁ t₂ few ∙ outers ∙ ap (λ (l : List ℕ). outer (columns times []) 0 (byDiscovery (columns times []) (map twin l))) inner-given
+
+  pub part-given : {K′ : List ℕ} {r : ℕ} {q : List ℤ} → K′ ≡ outerTwins (columns times []) C
+      → (r ≡ length (keptBy K′ C)) × (q ≡ keptBy K′ C ++ replicate (length C - length (keptBy K′ C)) (pos 0))
+      → (r ≡ length (shorten slotOf (columns times []) C)) × (q ≡ shorten slotOf (columns times []) C ++ replicate (length C - length (shorten slotOf (columns times []) C)) (pos 0))
+  part-given {K′} {r} {q} e h = subst (λ (D : List ℤ). (r ≡ length D) × (q ≡ D ++ replicate (length C - length D) (pos 0))) (ap (λ (l : List ℕ). keptBy l C) e ∙ clause-shortened K) h

@@ -1,0 +1,85 @@
+-- `hidden_literals::has_slot` meets its contract. Assumes nothing.
+use Rattle.discovery_order.proofs.Sorting.{slot-at}
+use Rattle.hidden_literals.proofs.Keeping.{Halving, halving-done, halving-up, halving-down, among-at}
+use mathlib.Core.Path.{sym}
+use native.Mathlib.Omega.{arith}
+use Prim.Native.Nat.{_+_, _-_, _/_, _≤_, _<_}
+use borrow.Author.Needs.{needs}
+use Rattle.hidden_literals.proofs.has_slot.Statement.{statement}
+use Rattle.hidden_literals.proofs.has_slot.Tie as tie
+use Rattle.hidden_literals.proofs.has_slot.Reads as reads
+use Rattle.hidden_literals.proofs.has_slot.Lts as lts
+use Rattle.stamps.proofs.discovery.Reads as discovery-reads
+
+abbrev Inv-loop : tie.InvT-loop
+Inv-loop slots times s d low₀ high₀ low high = Halving slots s low high
+
+abbrev μ-loop : tie.MeasureT-loop
+μ-loop slots times s d low₀ high₀ low high = high - low
+
+-- the middle lies between
+middle : (c : tie.In-loop Inv-loop μ-loop) → (c .before .loop .low ≤ c .before .loop .low + (c .before .loop .high - c .before .loop .low) / 2) × (c .before .loop .low + (c .before .loop .high - c .before .loop .low) / 2 < c .before .loop .high)
+middle c = let h = c .loop-test .taken in (omega arith, omega arith)
+
+discovery-requires : tie.Need-discovery-requires Inv-loop μ-loop
+discovery-requires c κs = search needs
+
+loop-holds : tie.Need-loop-holds Inv-loop μ-loop
+loop-holds c = search needs
+
+sub-mid : tie.Need-sub-mid Inv-loop μ-loop
+sub-mid c = search needs
+
+add-mid : tie.Need-add-mid Inv-loop μ-loop
+add-mid c = search needs
+
+mul-m : tie.Need-mul-m Inv-loop μ-loop
+mul-m c = search needs
+
+shared-slice-read-m : tie.Need-shared-slice-read-m Inv-loop μ-loop
+shared-slice-read-m c = search needs
+
+returns : tie.Need-returns Inv-loop μ-loop
+returns c = let m = middle (c .before .before) in sym (among-at (c .before .before .before .before .before .before .before .args .s) (c .before .before .before .before .before .before .before .args .slots .now) _ (omega (arith, m .1, c .before .before .before .loop .inv .within)) (c .if1 .taken))
+
+discovery-requires-2 : tie.Need-discovery-requires-2 Inv-loop μ-loop
+discovery-requires-2 c κs = let m = middle (c .before .before) in slot-at (c .before .before .before .before .before .before .before .pre .0) _ (omega (arith, m .1, c .before .before .before .loop .inv .within))
+
+add-low : tie.Need-add-low Inv-loop μ-loop
+add-low c = search needs
+
+loop-less : tie.Need-loop-less Inv-loop μ-loop
+loop-less c = search needs
+
+loop-again : tie.Need-loop-again Inv-loop μ-loop
+loop-again c = let m = middle (c .before .before .before .before) in halving-up (c .before .before .before .before .before .loop .inv) (c .before .before .before .before .before .before .before .before .before .pre .2) _ (m .0) (m .1) (c .before .before .if1 .left) (omega (arith, c .if2 .taken, c .before .discovery2 .ensures, c .before .before .before .before .before .before .discovery .ensures))
+
+loop-less-2 : tie.Need-loop-less-2 Inv-loop μ-loop
+loop-less-2 c = search needs
+
+loop-again-2 : tie.Need-loop-again-2 Inv-loop μ-loop
+loop-again-2 c = let m = middle (c .before .before .before .before) in halving-down (c .before .before .before .before .before .loop .inv) (c .before .before .before .before .before .before .before .before .before .pre .2) _ (m .0) (m .1) (c .before .before .if1 .left) (omega (arith, c .if2 .left, c .before .discovery2 .ensures, c .before .before .before .before .before .before .discovery .ensures))
+
+returns-2 : tie.Need-returns-2 Inv-loop μ-loop
+returns-2 c = sym (halving-done (c .before .loop .inv) (c .loop-test .left))
+
+pub has-slot-spec : {M : Type 1} → statement M
+has-slot-spec =
+    tie.close
+    (tie.spec
+    Inv-loop
+    μ-loop
+    discovery-requires
+    loop-holds
+    sub-mid
+    add-mid
+    mul-m
+    shared-slice-read-m
+    returns
+    discovery-requires-2
+    add-low
+    loop-less
+    loop-again
+    loop-less-2
+    loop-again-2
+    returns-2)

@@ -1,0 +1,51 @@
+-- What the functions on one clause ask of the stamp tables and of its slots. Assumes nothing: these are definitions.
+use Prim.Native.Nat.{ℕ, _*_, _≤_, _<_}
+use mathlib.Core.Path.{_≡_}
+use mathlib.Core.List.{List, [], List·Memᴰ}
+use lib.ListN.{length, getD}
+use lib.IntN.{ℤ, pos, negℤ}
+use Rattle.literal.specs.Literals.{Literal, slotOf}
+use Rattle.walk.specs.Forest.{discoveryAt, finishAt}
+use Rattle.stamps.specs.Fresh.{FreshStamps}
+use Rattle.stamps.specs.Slots.{Slots}
+use Rattle.stamps.specs.Columns.{columns}
+use Rattle.hidden.proofs.Intervals.{Nested}
+
+-- fresh stamps of v variables
+pub record Stamped (v : ℕ) (times : List ℕ) (links : List ℤ) : Type 0 where
+  pub few : v ≤ 1024
+  pub timed : 4 * v ≤ length times
+  pub linked : 4 * v ≤ length links
+  pub fresh : FreshStamps v times links
+
+-- discoveries never fall along the list, and one that is discovered with s is s
+pub record Searched (times xs : List ℕ) (s : ℕ) : Type 0 where
+  pub rises : (j k : ℕ) → j < k → k < length xs → discoveryAt (columns times []) (getD xs j 0) ≤ discoveryAt (columns times []) (getD xs k 0)
+  pub alone : (k : ℕ) → k < length xs → discoveryAt (columns times []) (getD xs k 0) ≡ discoveryAt (columns times []) s → getD xs k 0 ≡ s
+
+-- literals, each of one of 1,024 variables
+pub record Lits (C : List ℤ) : Type 0 where
+  pub each : (k : ℕ) → k < length C → Literal 1024 (getD C k (pos 0))
+
+-- slots that can be searched for the complement of any literal of C
+pub record Sorted (times xs : List ℕ) (C : List ℤ) : Type 0 where
+  pub slots : Slots times xs
+  pub long : 4096 ≤ length times
+  pub lits : Lits C
+  pub searched : (k : ℕ) → k < length C → Searched times xs (slotOf (negℤ (getD C k (pos 0))))
+
+-- slots of some variables' literals, and of their complements
+pub record Inside (times xs : List ℕ) : Type 0 where
+  pub vars : ℕ
+  pub few : vars ≤ 1024
+  pub long : 4096 ≤ length times
+  pub each : (x : ℕ) → List·Memᴰ x xs → x < 2 * vars
+
+-- literals of a clause whose slots have nested intervals
+pub record Clause (times : List ℕ) (C : List ℤ) : Type 0 where
+  pub vars : ℕ
+  pub few : vars ≤ 1024
+  pub long : 4096 ≤ length times
+  pub nested : Nested (2 * vars) (columns times [])
+  pub small : (q : ℕ) → q < 2 * vars → finishAt (columns times []) q ≤ 4096
+  pub each : (k : ℕ) → k < length C → Literal vars (getD C k (pos 0))

@@ -1,6 +1,0 @@
-pub mod Scanning
-pub mod Keeping
-pub mod Hiding
-pub mod Shortening
-pub mod Shortened
-pub mod Judging
