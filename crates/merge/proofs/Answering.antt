@@ -13,21 +13,22 @@ use Rattle.tables.specs.Clauses.{gone}
 use Rattle.tables.specs.Fates.{visits}
 use Rattle.tables.specs.Calls.{After}
 use Rattle.visits.specs.Formed.{Counted}
+use Rattle.visits.specs.Visited.{standsAt}
 use Rattle.visits.proofs.Counting.{formed-counted}
 use Rattle.visits.proofs.Keeping.{FormedTo}
 use Rattle.visits.proofs.Advancing.{advanced}
 use Rattle.merge.specs.Merge.{mergeClause, mergeFrom}
-use Rattle.merge.specs.Visits.{Visitable}
-use Rattle.merge.specs.Steps.{repliedAt, Ready}
+use Rattle.merge.specs.Visits.{Mergeable}
+use Rattle.merge.specs.Steps.{Resumable}
 use Rattle.merge.proofs.Keeping.{formed-visits}
 
 -- a call goes from clause k to clause k + m
-module _ {st : State} {k : ℕ} {c : List ℕ} {l w : List ℤ} (R : Ready st k c l w) (m : ℕ) (few : m ≤ st .n - k) where
+module _ {st : State} {k : ℕ} {c : List ℕ} {l w : List ℤ} (R : Resumable st k c l w) (m : ℕ) (few : m ≤ st .n - k) where
   ends-within : k + m ≤ st .n
   ends-within = omega (arith, few, R .within)
 
-  pub ready-visitable : Visitable k (k + m) c l w
-  ready-visitable = record { vars = st .v; number = st .n; formed = R .formed; onward = omega arith; within = ends-within }
+  pub resumable-mergeable : Mergeable k (k + m) c l w
+  resumable-mergeable = record { vars = st .v; number = st .n; formed = R .formed; onward = omega arith; within = ends-within }
 
   module _ (c′ : List ℕ) (l′ : List ℤ) (made : (times : List ℕ) (links : List ℤ) → tables c′ l′ w times links ≡ visits (mergeClause w) (k + m - k) k (tables c l w times links)) where
     pub made-counted : Counted (st .n) c′
@@ -36,7 +37,7 @@ module _ {st : State} {k : ℕ} {c : List ℕ} {l w : List ℤ} (R : Ready st k 
         (subst (FormedTo (st .v) (st .n) (k + m)) (sym (made [] []))
         (formed-visits (st .v) (st .n) (k + m - k) k (k + m) w (tables c l w [] []) refl (omega arith) ends-within (R .formed)))
 
-    pub advanced-by : (steps : ℕ) → m ≡ min steps (st .n - k) → (fresh : Bool) (times : List ℕ) (links : List ℤ) (x : Counts) → x ≡ gone m (st .n) c c′ → (a : After) → a ≡ repliedAt fresh x (k + m) st (tables c′ l′ w times links)
+    pub advanced-by : (steps : ℕ) → m ≡ min steps (st .n - k) → (fresh : Bool) (times : List ℕ) (links : List ℤ) (x : Counts) → x ≡ gone m (st .n) c c′ → (a : After) → a ≡ standsAt (Merge (k + m)) fresh fresh x (k + m) st (tables c′ l′ w times links)
         → a ≡ mergeFrom fresh steps k (tables c l w times links) st
     advanced-by steps is fresh times links x e a h =
         h

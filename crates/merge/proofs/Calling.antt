@@ -29,7 +29,7 @@ use Rattle.visits.proofs.Counting.{none-gone}
 use Rattle.visits.proofs.Entered.{entered-to, entered-formed, entered-cursor}
 use Rattle.merge.specs.Merge.{edgesOf, clashes, representative, regrouped, mergedClasses, mergeFrom, mergeOpen, mergeSettled, mergeBy, mergeCall}
 use Rattle.merge.specs.Opening.{openedClasses}
-use Rattle.merge.specs.Steps.{Ready}
+use Rattle.merge.specs.Steps.{Resumable}
 use Rattle.merge.proofs.Merged.{merged-formed}
 
 -- ---- the opening
@@ -81,8 +81,8 @@ module _ (steps : ℕ) (st : State) (t : Tables) where
         ap (λ (x : List ℤ). mergeFrom false steps 0 (tables (t .clauses) (t .literals) x (t .times) (t .links)) st) (new-classes e)
         ∙ sym (open-none (sym is ∙ e))
 
-    pub opens-ready : r ≡ false → Formed (st .v) (st .n) (st .n) false (t .clauses) (t .literals) (t .variables) → firstUnsettled t (st .n) ≡ st .n → Ready st 0 (t .clauses) (t .literals) w
-    opens-ready e F settled = record {
+    pub opens-resumable : r ≡ false → Formed (st .v) (st .n) (st .n) false (t .clauses) (t .literals) (t .variables) → firstUnsettled t (st .n) ≡ st .n → Resumable st 0 (t .clauses) (t .literals) w
+    opens-resumable e F settled = record {
       formed = subst (Formed (st .v) (st .n) 0 false (t .clauses) (t .literals)) (sym (new-classes e)) (merged-formed t F (sym is ∙ e) settled);
       within = omega arith;
     }
@@ -145,5 +145,5 @@ module _ (steps : ℕ) (t : Tables) (st : State) where
   opens-formed e = entered-formed (opens-entered own.Merge t st e) tt
 
 -- an open Merge has visited the clauses before its cursor
-pub resumes-ready : (t : Tables) (st : State) (k : ℕ) (changed : Bool) → entryOf own.Merge t st ≡ Resumes k changed → Ready st k (t .clauses) (t .literals) (t .variables)
-resumes-ready t st k changed e = let E = resumes-entered own.Merge t st k changed e in record { formed = entered-to E; within = omega (arith, entered-cursor E .0) }
+pub resumes-resumable : (t : Tables) (st : State) (k : ℕ) (changed : Bool) → entryOf own.Merge t st ≡ Resumes k changed → Resumable st k (t .clauses) (t .literals) (t .variables)
+resumes-resumable t st k changed e = let E = resumes-entered own.Merge t st k changed e in record { formed = entered-to E; within = omega (arith, entered-cursor E .0) }

@@ -3,18 +3,21 @@ use Prim.Native.Nat.{ℕ, _-_, _≤_}
 use native.Mathlib.Omega.{arith}
 use mathlib.Core.Path.{_≡_, sym, ap, subst, _∙_}
 use mathlib.Core.Bool.{Bool, true, false}
-use mathlib.Core.List.{List, [], _++_, map}
+use mathlib.Core.List.{List, _++_, map}
 use lib.ListN.{length, take, replicate, length-map, length-append, length-replicate}
 use lib.Seq.{take-at}
 use lib.IntN.{ℤ, pos}
 use Rattle.literal.specs.Literals.{Small}
 use Rattle.literal.specs.Clauses.{distinct, tautology}
 use Rattle.tables.specs.Values.{classLiteral}
+use Rattle.tables.specs.Fates.{left, dropped}
 use Rattle.visits.specs.Formed.{EachKnown}
 use Rattle.visits.specs.Holding.{holding}
 use Rattle.visits.proofs.Known.{known-small, known-class}
-use Rattle.merge.specs.Visits.{EachSmall, substituted, Part, partOf, partAfter}
-use Rattle.merge.specs.declared.Visited.the-variants.{Left, Dropped}
+use Rattle.visits.specs.Visited.{Part, partOf, partAfter}
+use Rattle.visits.specs.declared.Visited.the-variants.{Left, Dropped}
+use Rattle.merge.specs.Merge.{mergeClause}
+use Rattle.merge.specs.Visits.{EachSmall, substituted}
 use Rattle.merge.proofs.Repeats.{distinct-short, distinct-all, all-at, all-map}
 
 -- class literals are small
@@ -53,12 +56,12 @@ module _ (w p p₁ q : List ℤ) (r : ℕ) (sub : p₁ ≡ map (classLiteral w) 
   part-small K = subst EachSmall (sym front) (small-substituted w p K)
 
   by-test : Bool → Part
-  by-test b = elim b [ true ↦ partOf Dropped (holding [] p) | false ↦ partOf (Left (length (substituted w p))) (holding (substituted w p) p) ]
+  by-test b = partAfter (elim b [ true ↦ dropped | false ↦ left (substituted w p) ]) p
 
-  pub part-dropped : (q′ : List ℤ) → tautology (take r q) ≡ true → q′ ≡ take 0 q ++ replicate (length q - 0) (pos 0) → partOf Dropped q′ ≡ partAfter (substituted w p) p
-  unfolding by-test
+  pub part-dropped : (q′ : List ℤ) → tautology (take r q) ≡ true → q′ ≡ take 0 q ++ replicate (length q - 0) (pos 0) → partOf Dropped q′ ≡ partAfter (mergeClause w p) p
+  unfolding by-test mergeClause
   part-dropped q′ e h = ap (partOf Dropped) (h ∙ ap (λ (m : ℕ). replicate (m - 0) (pos 0)) long) ∙ ap by-test (sym (sym (ap tautology front) ∙ e))
 
-  pub part-left : tautology (take r q) ≡ false → partOf (Left r) q ≡ partAfter (substituted w p) p
-  unfolding by-test
+  pub part-left : tautology (take r q) ≡ false → partOf (Left r) q ≡ partAfter (mergeClause w p) p
+  unfolding by-test mergeClause
   part-left e = (λ j. partOf (Left ((count ∙ ap length kept) j)) (holds j)) ∙ ap by-test (sym (sym (ap tautology front) ∙ e))

@@ -8,7 +8,7 @@ use lib.ListN.{length}
 use Rattle.stamps.specs.Fresh.{FreshStamps}
 use Rattle.state.specs.States.{opened, closed, marked}
 use Rattle.state.specs.declared.State.{State}
-use Rattle.state.specs.declared.Pass.the-variants.{Idle, Merge}
+use Rattle.state.specs.declared.Pass.the-variants.{Merge}
 use Rattle.tables.specs.Tables.{Tables, tables}
 use Rattle.tables.specs.Fates.{visits}
 use Rattle.tables.specs.Passes.{firstUnsettled}
@@ -26,7 +26,7 @@ use Rattle.merge.specs.Merge.{mergedClasses, mergeClause, mergeFrom, mer
 use Rattle.merge.proofs.Merged.{classes-formed}
 use Rattle.merge.proofs.Visiting.{merge-shrinks}
 use Rattle.merge.proofs.Keeping.{formed-visits}
-use Rattle.merge.proofs.Calling.{open-cases, settled-cases, opens-formed, resumes-ready}
+use Rattle.merge.proofs.Calling.{open-cases, settled-cases, opens-formed, resumes-resumable}
 
 abbrev pub Shaped : After → Type 0
 Shaped a = Shape (a .tables) (a .state)
@@ -76,4 +76,4 @@ module _ (steps : ℕ) (t : Tables) (st : State) (S : Shape t st) where
       go : (x : Entry) → entryOf own.Merge t st ≡ x → Shaped (mergeBy x steps t st)
       go (No r) e = S
       go Opens e = settled-cases steps st t Shaped S (open-shaped (opens-formed steps t st e))
-      go (Resumes k changed) e = let R = resumes-ready t st k changed e in from-shaped (st .fresh) steps k t st (R .formed) (R .within) (S .long .times) (S .long .links) (S .stamps)
+      go (Resumes k changed) e = let R = resumes-resumable t st k changed e in from-shaped (st .fresh) steps k t st (R .formed) (R .within) (S .long .times) (S .long .links) (S .stamps)

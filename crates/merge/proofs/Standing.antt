@@ -42,7 +42,7 @@ use Rattle.merge.proofs.Equal.{opening-keeps, opening-adds-none, clash-
 use Rattle.merge.proofs.Repeats.{distinct-short}
 use Rattle.merge.proofs.Visiting.{merge-shrinks}
 use Rattle.merge.proofs.Keeping.{formed-visit, mapped}
-use Rattle.merge.proofs.Calling.{open-cases, settled-cases, opens-formed, resumes-ready}
+use Rattle.merge.proofs.Calling.{open-cases, settled-cases, opens-formed, resumes-resumable}
 use Rattle.merge.proofs.Truth.{Classed, substituted-true, dropped-true}
 
 -- clause i has a true literal if it stands
@@ -203,4 +203,4 @@ merge-keeps steps t st τ = go (entryOf own.Merge t st) refl
     go : (x : Entry) → entryOf own.Merge t st ≡ x → Kept τ (mergeBy x steps t st) t st
     go (No r) e = Iff·rfl
     go Opens e = settled-cases steps st t (λ (a : After). Kept τ a t st) Iff·rfl (open-keeps st (opens-entered own.Merge t st e .unmarked) τ steps t (opens-formed steps t st e))
-    go (Resumes k changed) e = let R = resumes-ready t st k changed e in from-keeps st (resumes-entered own.Merge t st k changed e .unmarked) τ (st .fresh) steps k t (R .formed) (R .within)
+    go (Resumes k changed) e = let R = resumes-resumable t st k changed e in from-keeps st (resumes-entered own.Merge t st k changed e .unmarked) τ (st .fresh) steps k t (R .formed) (R .within)

@@ -8,33 +8,28 @@ use state::Outcome;
 use state::Pass;
 use state::Refusal;
 use state::State;
+use visits::Visited;
 ghost use mathlib.Core.Path.{_≡_};
 ghost use mathlib.Core.Bool.{false};
 ghost use mathlib.Core.List.{List, map};
-ghost use Prim.Native.Nat.{ℕ, _+_, _*_, _-_, _≤_, _<_};
+ghost use Prim.Native.Nat.{ℕ, _*_, _-_, _≤_};
 ghost use lib.ListN.{length};
 ghost use lib.IntN.{ℤ};
 ghost use Rattle.literal.specs.Clauses.{distinct, tautology};
-ghost use Rattle.tables.specs.Tables.{Tables};
 ghost use Rattle.tables.specs.Lent.{lent, returned, unlent};
 ghost use Rattle.tables.specs.Values.{classLiteral};
-ghost use Rattle.tables.specs.Fates.{visit, visits};
+ghost use Rattle.tables.specs.Fates.{visits};
 ghost use Rattle.tables.specs.Calls.{after};
 ghost use Rattle.visits.specs.Formed.{EachKnown};
 ghost use Rattle.implications.specs.Clauses.{implications};
 ghost use Rattle.tables.specs.Clauses.{slotsFrom};
 ghost use Rattle.visits.specs.Formed.{Formed};
 ghost use Rattle.visits.specs.Holding.{holding};
+ghost use Rattle.visits.specs.Visited.{Visitable, partOf, partAfter, visitOf, visitAt};
 ghost use Rattle.merge.specs.Merge.{clashes, regrouped, mergeClause, mergeFrom, mergeOpen, mergeSettled, mergeCall};
 ghost use Rattle.merge.specs.Opening.{openedClasses, through, Regroups};
-ghost use Rattle.merge.specs.Visits.{EachSmall, substituted, partOf, partAfter, recordAfter, Visitable};
-ghost use Rattle.merge.specs.Steps.{repliedAt, Ready, Openable};
-
-// What a visit makes of a standing clause: so many literals are left, or it is dropped.
-pub enum Visited {
-    Left(u32),
-    Dropped,
-}
+ghost use Rattle.merge.specs.Visits.{EachSmall, Mergeable};
+ghost use Rattle.merge.specs.Steps.{Resumable, Openable};
 
 // ---- the opening
 
@@ -151,7 +146,7 @@ fn has_both(part: &[i32]) -> bool
 // A visit to the part of a standing clause. Repeats go first, so that what is searched for both signs is what would stay.
 fn visit_part(part: &mut [i32], variables: &[i32]) -> Visited
     requires { ⌜ EachKnown (now variables) (now part) × (length (now part) ≤ 16384) ⌝ }
-    ensures { λ r. ⌜ partOf r (now (part .exit)) ≡ partAfter (substituted (now (variables .entry)) (now (part .entry))) (now (part .entry)) ⌝ }
+    ensures { λ r. ⌜ partOf r (now (part .exit)) ≡ partAfter (mergeClause (now (variables .entry)) (now (part .entry))) (now (part .entry)) ⌝ }
 {
     substitute(part, variables);
     let n = remove_repeats(part);
@@ -162,41 +157,26 @@ fn visit_part(part: &mut [i32], variables: &[i32]) -> Visited
     Visited::Left(n as u32)
 }
 
-// The record of clause k after a visit.
-fn put_record(clauses: &mut [u32], k: usize, seen: Visited)
-    requires { ⌜ (3 * k + 2 < length (now clauses)) × (k ≤ 4096) ⌝ }
-    ensures { λ _. ⌜ now (clauses .exit) ≡ recordAfter k seen (now (clauses .entry)) ⌝ }
-{
-    match seen {
-        Visited::Left(n) => {
-            clauses[3 * k + 1] = n;
-        }
-        Visited::Dropped => {
-            clauses[3 * k + 1] = 0;
-            clauses[3 * k + 2] = 0;
-        }
-    }
-}
-
 // A visit to clause k. Its part of the literal table is lent on; a dropped clause has none, and its visit changes nothing.
-fn visit_clause(clauses: &mut [u32], literals: &mut [i32], variables: &[i32], k: usize)
-    requires { ⌜ Visitable k (k + 1) (now clauses) (now literals) (now variables) ⌝ }
-    ensures { λ _. ⌜ ((times : List ℕ) (links : List ℤ) → returned clauses literals variables (unlent times) (unlent links)
-        ≡ visit (mergeClause (now (variables .entry))) k (lent clauses literals variables (unlent times) (unlent links))) ⌝ }
+fn visit_clause(clauses: &mut [u32], literals: &mut [i32], variables: &[i32], k: usize) -> Visited
+    requires { ⌜ Visitable k (now clauses) (now literals) (now variables) ⌝ }
+    ensures { λ r. ⌜ ((times : List ℕ) (links : List ℤ) → visitOf r (returned clauses literals variables (unlent times) (unlent links))
+        ≡ visitAt (mergeClause (now (variables .entry))) k (lent clauses literals variables (unlent times) (unlent links))) ⌝ }
 {
-    let flag = clauses[3 * k + 2];
+    let flag = visits::flag_of(clauses, k);
     if flag == 0 {
-        return;
+        return Visited::Kept;
     }
-    let start = clauses[3 * k] as usize;
-    let end = start + clauses[3 * k + 1] as usize;
+    let start = visits::part_start(clauses, k);
+    let end = visits::part_end(clauses, k);
     let seen = visit_part(&mut literals[start..end], variables);
-    put_record(clauses, k, seen);
+    visits::put_record(clauses, k, seen);
+    seen
 }
 
 // The visits to the clauses from `k` on, up to clause `end`.
 pub fn visit_some(clauses: &mut [u32], literals: &mut [i32], variables: &[i32], k: u32, end: u32)
-    requires { ⌜ Visitable k end (now clauses) (now literals) (now variables) ⌝ }
+    requires { ⌜ Mergeable k end (now clauses) (now literals) (now variables) ⌝ }
     ensures { λ _. ⌜ ((times : List ℕ) (links : List ℤ) → returned clauses literals variables (unlent times) (unlent links)
         ≡ visits (mergeClause (now (variables .entry))) (end - k) k (lent clauses literals variables (unlent times) (unlent links))) ⌝ }
 {
@@ -209,22 +189,6 @@ pub fn visit_some(clauses: &mut [u32], literals: &mut [i32], variables: &[i32], 
 
 // ---- the call
 
-// The answer of a call that stands before clause k: Open exactly if visits are left.
-fn answer(st: State, fresh: bool, counts: Counts, k: u32) -> Outcome
-    ensures { λ r. ⌜ ((t : Tables) → after r t ≡ repliedAt fresh counts k st t) ⌝ }
-{
-    if k < st.n {
-        return Outcome {
-            answer: Answer::Open(counts),
-            state: st.opened(Pass::Merge(k), fresh),
-        };
-    }
-    Outcome {
-        answer: Answer::Done(counts),
-        state: st.closed(fresh),
-    }
-}
-
 // The visits of a call that stands before clause `cursor`, and its answer.
 pub fn merge_from(
     clauses: &mut [u32],
@@ -235,7 +199,7 @@ pub fn merge_from(
     steps: u32,
     cursor: u32,
 ) -> Outcome
-    requires { ⌜ Ready st cursor (now clauses) (now literals) (now variables) ⌝ }
+    requires { ⌜ Resumable st cursor (now clauses) (now literals) (now variables) ⌝ }
     ensures { λ r. ⌜ ((times : List ℕ) (links : List ℤ) → after r (returned clauses literals variables (unlent times) (unlent links))
         ≡ mergeFrom fresh steps cursor (lent clauses literals variables (unlent times) (unlent links)) st) ⌝ }
 {
@@ -246,7 +210,7 @@ pub fn merge_from(
     visit_some(clauses, literals, variables, cursor, end);
     let left = visits::count_standing(clauses, n as usize);
     let counts = visits::counts_of(visits, before, left);
-    answer(st, fresh, counts, end)
+    visits::answer_at(st, Pass::Merge(end), fresh, fresh, counts, end)
 }
 
 // Opens the pass: the mark where v and −v share a component, else the new classes and the visits from the first clause on. Opening spends the stamps.

@@ -12,7 +12,7 @@ use Rattle.tables.specs.Calls.{After}
 use Rattle.visits.specs.Formed.{Counted}
 use Rattle.visits.proofs.Counting.{formed-counted}
 use Rattle.propagate.specs.Propagate.{Progress, going, Reached, propagateVisits, propagateFrom, replied}
-use Rattle.propagate.specs.Steps.{progressOf, reachedAs, repliedWith, Ready}
+use Rattle.propagate.specs.Steps.{progressOf, reachedAs, repliedWith, StandsBefore}
 use Rattle.propagate.specs.declared.Stand.{Stand}
 use Rattle.propagate.specs.declared.Stand.the-variants.{Going, Settled, Contradicted}
 use Rattle.propagate.specs.declared.Reach.{Reach}
@@ -33,7 +33,7 @@ module _ (fresh : Bool) (steps : ℕ) (st : State) (r : Reach) (p : Progress) (t
       ∙ ap (λ (x : Reached). replied fresh (t .clauses) st (x .visits) (x .progress)) made
 
 -- the tables that the visits leave can be counted
-pub reach-counted : (n steps k : ℕ) (changed : Bool) (c : List ℕ) (l w : List ℤ) (r : Reach) (c′ : List ℕ) (l′ w′ : List ℤ) → Ready n k c l w
+pub reach-counted : (n steps k : ℕ) (changed : Bool) (c : List ℕ) (l w : List ℤ) (r : Reach) (c′ : List ℕ) (l′ w′ : List ℤ) → StandsBefore n k c l w
     → ((times : List ℕ) (links : List ℤ) → reachedAs r (tables c′ l′ w′ times links) ≡ propagateVisits n steps 0 (going k changed (tables c l w times links))) → Counted n c′
 reach-counted n steps k changed c l w r c′ l′ w′ R made = by-stand (r .stand) (subst (Good (R .vars) n) (ap (λ (x : Reached). x .progress) (sym (made [] []))) (visits-good (R .vars) n steps 0 (going k changed (tables c l w [] [])) (R .formed, R .below)))
   where

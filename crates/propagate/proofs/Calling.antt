@@ -16,7 +16,7 @@ use Rattle.visits.specs.Formed.{Formed}
 use Rattle.visits.proofs.Counting.{none-gone}
 use Rattle.visits.proofs.Entered.{entered-formed, entered-cursor}
 use Rattle.propagate.specs.Propagate.{Progress, going, settled, begin, Reached, replied, propagateVisits, propagateFrom, propagateBy, propagateCall}
-use Rattle.propagate.specs.Steps.{repliedWith, Ready}
+use Rattle.propagate.specs.Steps.{repliedWith, StandsBefore}
 use Rattle.propagate.specs.declared.Stand.the-variants.{Settled}
 
 -- ---- with no clause
@@ -55,5 +55,5 @@ module _ (steps : ℕ) (t : Tables) (st : State) where
   pub opens-formed : entryOf own.Propagate t st ≡ Opens → Formed (st .v) (st .n) (st .n) false (t .clauses) (t .literals) (t .variables)
   opens-formed e = entered-formed (opens-entered own.Propagate t st e) tt
 
-  pub resumes-ready : (k : ℕ) (changed : Bool) → entryOf own.Propagate t st ≡ Resumes k changed → Ready (st .n) k (t .clauses) (t .literals) (t .variables)
-  resumes-ready k changed e = let E = resumes-entered own.Propagate t st k changed e in record { vars = st .v; formed = entered-formed E tt; below = entered-cursor E .0 }
+  pub resumes-before : (k : ℕ) (changed : Bool) → entryOf own.Propagate t st ≡ Resumes k changed → StandsBefore (st .n) k (t .clauses) (t .literals) (t .variables)
+  resumes-before k changed e = let E = resumes-entered own.Propagate t st k changed e in record { vars = st .v; formed = entered-formed E tt; below = entered-cursor E .0 }

@@ -1,36 +1,35 @@
 -- Which clauses are pending: after a visit to a pending clause, a clause that is not pending is still settled; and with every clause pending it is so at the start. Assumes nothing.
-use Prim.Native.Nat.{ℕ, zero, suc, _+_, _*_, _/_, _≤_, _<_}
+use Prim.Native.Nat.{ℕ, _+_, _*_, _/_, _≤_, _<_}
 use native.Mathlib.Omega.{arith}
 use mathlib.Core.Path.{_≡_, refl, sym, ap, subst, _∙_}
 use mathlib.Core.Bool.{Bool, true, false, not, _&&_, _||_, false≢true}
 use mathlib.Core.Logic.{_⊎_, inl, inr, ⊎-elim}
 use mathlib.Core.List.{List, [], List·Memᴰ}
-use lib.ListN.{length, getD, set, take, drop, replicate, length-set, length-replicate, getD-replicate}
-use lib.Seq.{getD-set-same, getD-set-other, getD-take, getD-drop}
+use lib.ListN.{length, getD, set, drop, replicate, length-set, length-replicate, getD-replicate}
+use lib.Seq.{getD-set-other, getD-take, getD-drop}
 use lib.Dec.{eqb}
 use lib.IntN.{ℤ, pos, natAbs}
 use Rattle.base.specs.Decide.{same-or}
 use Rattle.base.specs.Lists.{any}
 use Rattle.base.proofs.Lists.{any-same, mem-getD, getD-zeros}
-use Rattle.literal.specs.Literals.{Literal, eqZ}
-use Rattle.tables.specs.Tables.{Tables, tables, startOf, lengthOf, standing, variableAt, valueOf}
+use Rattle.literal.specs.Literals.{eqZ}
+use Rattle.tables.specs.Tables.{Tables, tables, startOf, lengthOf, standing, valueOf}
 use Rattle.tables.specs.Clauses.{literalsOf}
 use Rattle.tables.specs.Fates.{Fate, kept, left, dropped, unit, conflict, store, fateAt}
 use Rattle.tables.specs.Passes.{valued, unsettled}
-use Rattle.visits.specs.Formed.{Formed}
 use Rattle.visits.proofs.Forming.{part-length, clause-fits}
 use Rattle.visits.proofs.Fitting.{fit-member}
 use Rattle.visits.proofs.Keeping.{FormedIn}
-use Rattle.occurrences.specs.Chains.{ownerOf, Chained, Before, Linking, Linkable, Room}
-use Rattle.occurrences.specs.Pending.{Covered, Walkable, HasChain, PendingAll}
+use Rattle.occurrences.specs.Chains.{ownerOf, Before, Linking, Linkable}
+use Rattle.occurrences.specs.Pending.{Covered, HasChain, PendingAll}
 use Rattle.occurrences.proofs.Pending.{covered-clear}
 use Rattle.occurrences.proofs.Linking.{linking-none}
 use Rattle.propagate.specs.Propagate.{propagateClause}
-use Rattle.propagate.specs.Visits.{visitedAs, Visit, visitOf, visitBy, visitAt}
-use Rattle.propagate.specs.Steps.{Ready}
+use Rattle.visits.specs.Visited.{visitedAs, Visit, visitOf, visitAt}
+use Rattle.propagate.specs.Steps.{StandsBefore}
 use Rattle.propagate.specs.Listed.{Listed}
-use Rattle.propagate.specs.declared.Visited.{Visited}
-use Rattle.propagate.specs.declared.Visited.the-variants.{Unit1, Conflict}
+use Rattle.visits.specs.declared.Visited.{Visited}
+use Rattle.visits.specs.declared.Visited.the-variants.{MadeTrue, Conflict}
 use Rattle.propagate.proofs.Quiet.{Values, same, one, Left, visit-left}
 
 -- ---- a visit
@@ -86,18 +85,18 @@ module _ {v n k : ℕ} {t : Tables} {heads places : List ℕ} {pending blocks : 
 
 -- ---- as the code sees it
 
-unit-of : (f : Fate) (w : ℕ) → visitedAs f ≡ Unit1 w → (l : ℤ) × (f ≡ unit l) × (natAbs l ≡ w)
+unit-of : (f : Fate) (w : ℕ) → visitedAs f ≡ MadeTrue w → (l : ℤ) × (f ≡ unit l) × (natAbs l ≡ w)
 unit-of (unit l) w e = (l, refl, number e)
   where
-    number : Unit1 (natAbs l) ≡ Unit1 w → natAbs l ≡ w
+    number : MadeTrue (natAbs l) ≡ MadeTrue w → natAbs l ≡ w
     number e = cc
 unit-of kept w e = absurd (let q : _≡_ {A = ℕ} 0 1 = cc in omega arith)
 unit-of (left C) w e = absurd (let q : _≡_ {A = ℕ} 0 1 = cc in omega arith)
 unit-of dropped w e = absurd (let q : _≡_ {A = ℕ} 0 1 = cc in omega arith)
 unit-of conflict w e = absurd (let q : _≡_ {A = ℕ} 0 1 = cc in omega arith)
 
-module _ {n k : ℕ} {c : List ℕ} {l w : List ℤ} {heads places : List ℕ} {pending blocks : List Bool} (R : Ready n k c l w) (L : Listed n heads places pending blocks c l w)
-    (r : Visited) (c′ : List ℕ) (l′ w′ : List ℤ) (is : visitOf r (tables c′ l′ w′ [] []) ≡ visitAt k (tables c l w [] [])) where
+module _ {n k : ℕ} {c : List ℕ} {l w : List ℤ} {heads places : List ℕ} {pending blocks : List Bool} (R : StandsBefore n k c l w) (L : Listed n heads places pending blocks c l w)
+    (r : Visited) (c′ : List ℕ) (l′ w′ : List ℤ) (is : visitOf r (tables c′ l′ w′ [] []) ≡ visitAt (propagateClause w) k (tables c l w [] [])) where
   abbrev t : Tables
   t = tables c l w [] []
 
@@ -128,13 +127,13 @@ module _ {n k : ℕ} {c : List ℕ} {l w : List ℤ} {heads places : List ℕ} {
   rest i d e = getD-set-other pending k i false false d ∙ e
 
   -- no value is set
-  pub listed-plain : (r ≡ Conflict → ⊥) → ((x : ℕ) → r ≡ Unit1 x → ⊥) → Listed n heads places (set pending k false) blocks c′ l′ w′
+  pub listed-plain : (r ≡ Conflict → ⊥) → ((x : ℕ) → r ≡ MadeTrue x → ⊥) → Listed n heads places (set pending k false) blocks c′ l′ w′
   listed-plain d none =
       listed-after (R .formed) (R .below) L (leaves d) (set pending k false) blocks (simp length-set (L .room .0), L .room .1) cleared rest (λ y e q z. absurd (none (natAbs y) (answer ∙ ap visitedAs e)))
 
-  module _ (x : ℕ) (unit-is : r ≡ Unit1 x) where
+  module _ (x : ℕ) (unit-is : r ≡ MadeTrue x) where
     solid : r ≡ Conflict → ⊥
-    solid e = let z : Unit1 x ≡ Conflict = sym unit-is ∙ e in let q : _≡_ {A = ℕ} 0 1 = cc in omega arith
+    solid e = let z : MadeTrue x ≡ Conflict = sym unit-is ∙ e in let q : _≡_ {A = ℕ} 0 1 = cc in omega arith
 
     small : Values (R .vars) t (tables c′ l′ w′ [] []) fate → (0 < x) × (x ≤ R .vars)
     small V′ = let (y, e, a) = unit-of fate x (sym answer ∙ unit-is) in by y e a fate refl V′
@@ -163,11 +162,11 @@ module _ {n k : ℕ} {c : List ℕ} {l w : List ℤ} {heads places : List ℕ} {
         (λ y e q z. A .all (L .vs) (L .walkable) q (z ∙ number y e))
       where
         number : (y : ℤ) → fate ≡ unit y → natAbs y ≡ x
-        number y e = let s : Unit1 (natAbs y) ≡ Unit1 x = sym (ap visitedAs e) ∙ sym answer ∙ unit-is in cc
+        number y e = let s : MadeTrue (natAbs y) ≡ MadeTrue x = sym (ap visitedAs e) ∙ sym answer ∙ unit-is in cc
 
 -- ---- the start
 
-module _ {n k : ℕ} {c : List ℕ} {l w : List ℤ} (R : Ready n k c l w) where
+module _ {n k : ℕ} {c : List ℕ} {l w : List ℤ} (R : StandsBefore n k c l w) where
   pub linkable : Linkable n c l
   linkable = record {
     number = R .formed .number;

@@ -13,8 +13,9 @@ use Rattle.visits.specs.Formed.{Known, EachKnown}
 use Rattle.visits.specs.Holding.{holding}
 use Rattle.visits.proofs.Fitting.{filter-shorter}
 use Rattle.propagate.specs.Propagate.{notFalse, remaining, propagateClause}
-use Rattle.propagate.specs.Visits.{partOf, partAfter}
-use Rattle.propagate.specs.declared.Visited.the-variants.{Left, Dropped, Unit1, Conflict}
+use Rattle.visits.specs.Visited.{partOf, partAfter, variablesAfter}
+use Rattle.visits.specs.declared.Visited.{Visited}
+use Rattle.visits.specs.declared.Visited.the-variants.{Left, Dropped, MadeTrue, Conflict}
 
 -- a true literal drops the clause; else what is left decides
 pub fate-true : (w C : List ℤ) → any (isTrue w) C ≡ true → propagateClause w C ≡ dropped
@@ -73,15 +74,20 @@ one-zeroed x (suc n) h = let e : suc n - 1 ≡ n = omega arith in ap (λ (k : �
 
 -- ---- the four returns
 
-module _ (w p q : List ℤ) where
-  pub part-dropped : any (isTrue w) p ≡ true → q ≡ take 0 p ++ replicate (length p - 0) (pos 0) → partOf Dropped q w ≡ partAfter (propagateClause w p) p w
-  part-dropped e h = ap (λ (x : List ℤ). partOf Dropped x w) h ∙ ap (λ (f : Fate). partAfter f p w) (sym (fate-true w p e))
+module _ (w p : List ℤ) where
+  -- what a visit that answers r leaves in the part and in the variables
+  abbrev pub Leaves : Visited → List ℤ → List ℤ → Type 0
+  Leaves r q w′ = (partOf r q ≡ partAfter (propagateClause w p) p) × (w′ ≡ variablesAfter (propagateClause w p) w)
 
-  module _ (r : ℕ) (e : any (isTrue w) p ≡ false) (count : r ≡ length (notFalse w p)) (h : q ≡ notFalse w p ++ replicate (length p - length (notFalse w p)) (pos 0)) where
-    pub part-conflict : r ≡ 0 → partOf Conflict q w ≡ partAfter (propagateClause w p) p w
-    part-conflict z =
-        let L = left-none w p e (sym count ∙ z) in
-        ap (λ (x : List ℤ). partOf Conflict x w) (h ∙ ap (λ (C : List ℤ). holding C p) (L .0)) ∙ ap (λ (f : Fate). partAfter f p w) (sym (L .1))
+  told : {f : Fate} {r : Visited} {q w′ : List ℤ} → propagateClause w p ≡ f → partOf r q ≡ partAfter f p → w′ ≡ variablesAfter f w → Leaves r q w′
+  told e part values = (part ∙ ap (λ (f : Fate). partAfter f p) (sym e), values ∙ ap (λ (f : Fate). variablesAfter f w) (sym e))
+
+  pub part-dropped : (q : List ℤ) → any (isTrue w) p ≡ true → q ≡ take 0 p ++ replicate (length p - 0) (pos 0) → Leaves Dropped q w
+  part-dropped q e h = told (fate-true w p e) (ap (partOf Dropped) h) refl
+
+  module _ (q : List ℤ) (r : ℕ) (e : any (isTrue w) p ≡ false) (count : r ≡ length (notFalse w p)) (h : q ≡ holding (notFalse w p) p) where
+    pub part-conflict : r ≡ 0 → Leaves Conflict q w
+    part-conflict z = let L = left-none w p e (sym count ∙ z) in told (L .1) (ap (partOf Conflict) (h ∙ ap (λ (C : List ℤ). holding C p) (L .0))) refl
 
     -- the literal that is left
     one-left : r ≡ 1 → q ≡ holding (getD (notFalse w p) 0 (pos 0) ∷ []) p
@@ -96,10 +102,9 @@ module _ (w p q : List ℤ) where
     pub part-room : r ≡ 1 → 0 < length q
     part-room o = subst (λ (C : List ℤ). 0 < length C) (sym (one-left o)) (omega arith)
 
-    pub part-unit : (w′ : List ℤ) → r ≡ 1 → w′ ≡ setTrue w (getD q 0 (pos 0)) → (u : ℕ) → u ≡ natAbs (getD q 0 (pos 0)) → partOf (Unit1 u) (set q 0 (pos 0)) w′ ≡ partAfter (propagateClause w p) p w
+    pub part-unit : (w′ : List ℤ) → r ≡ 1 → w′ ≡ setTrue w (getD q 0 (pos 0)) → (u : ℕ) → u ≡ natAbs (getD q 0 (pos 0)) → Leaves (MadeTrue u) (set q 0 (pos 0)) w′
     part-unit w′ o s u su =
-        let L = left-one w p e (sym count ∙ o) in
-        (λ i. partOf (Unit1 ((su ∙ ap natAbs (unit-is o)) i)) (emptied i) ((s ∙ ap (setTrue w) (unit-is o)) i)) ∙ ap (λ (f : Fate). partAfter f p w) (sym (L .1))
+        told (left-one w p e (sym count ∙ o) .1) (λ i. partOf (MadeTrue ((su ∙ ap natAbs (unit-is o)) i)) (emptied i)) (s ∙ ap (setTrue w) (unit-is o))
       where
         emptied : set q 0 (pos 0) ≡ holding [] p
         emptied =
@@ -107,9 +112,8 @@ module _ (w p q : List ℤ) where
             ∙ one-zeroed (getD (notFalse w p) 0 (pos 0)) (length p) (omega (arith, filter-shorter (λ l. not (isFalse w l)) p, sym count ∙ o))
             ∙ ap (λ (k : ℕ). replicate k (pos 0)) (let z : length p ≡ length p - 0 = omega arith in z)
 
-    pub part-left : (r ≡ 0 → ⊥) → (r ≡ 1 → ⊥) → partOf (Left r) q w ≡ partAfter (propagateClause w p) p w
-    part-left z o =
-        (λ i. partOf (Left (count i)) (h i) w) ∙ ap (λ (f : Fate). partAfter f p w) (sym (left-more w p e (λ k. z (count ∙ k)) (λ k. o (count ∙ k))))
+    pub part-left : (r ≡ 0 → ⊥) → (r ≡ 1 → ⊥) → Leaves (Left r) q w
+    part-left z o = told (left-more w p e (λ k. z (count ∙ k)) (λ k. o (count ∙ k))) (λ i. partOf (Left (count i)) (h i)) refl
 
     pub part-count : length p ≤ 16384 → r ≤ 16384
     part-count few = omega (arith, count, filter-shorter (λ l. not (isFalse w l)) p)

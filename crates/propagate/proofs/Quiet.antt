@@ -1,26 +1,25 @@
 -- A visit to a settled clause only moves the cursor; and what a visit changes of the clauses: its own is settled after it, and of the others only those with a variable that it gives a value. Assumes nothing.
 use Prim.Native.Nat.{ℕ, zero, suc, _+_, _*_, _≤_, _<_}
-use native.Mathlib.Numerals.{add-one}
 use native.Mathlib.Omega.{arith}
 use mathlib.Core.Path.{_≡_, refl, sym, ap, subst, _∙_}
-use mathlib.Core.Bool.{Bool, true, false, not, _&&_, _||_, false≢true, or-false}
-use mathlib.Core.Logic.{_⊎_, inl, inr, ⊎-elim}
+use mathlib.Core.Bool.{Bool, true, false, not, _||_, false≢true, or-false}
+use mathlib.Core.Logic.{_⊎_, ⊎-elim}
 use mathlib.Core.List.{List, [], _∷_, List·Memᴰ, List·Memᴰ·not-nil}
-use lib.ListN.{length, getD, set}
-use lib.Dec.{ltb, eqb}
+use lib.ListN.{length, set}
+use lib.Dec.{ltb}
 use lib.IntN.{ℤ, pos, natAbs}
 use lib.Signed.{nonNeg}
-use borrow.Author.Tests.{lt-ltb, le-ltb, eqb-true}
+use borrow.Author.Tests.{lt-ltb, le-ltb}
 use Rattle.base.specs.Decide.{same-or}
-use Rattle.base.specs.Lists.{any, filter}
-use Rattle.base.proofs.Lists.{any-same, mem-filter, each-mem, getD-mem}
-use Rattle.literal.specs.Literals.{Literal, eqZ, signBy}
+use Rattle.base.specs.Lists.{any}
+use Rattle.base.proofs.Lists.{mem-filter, each-mem, getD-mem}
+use Rattle.literal.specs.Literals.{Literal, signBy}
 use Rattle.tables.specs.Tables.{Tables, lengthOf, standing, classOf, valueOf}
 use Rattle.tables.specs.Values.{isTrue, isFalse, classLiteral, setTrue}
 use Rattle.tables.specs.Clauses.{literalsOf}
 use Rattle.tables.specs.Fates.{Fate, kept, left, dropped, unit, conflict, store, fateAt, shortened, droppedAt}
 use Rattle.tables.specs.Passes.{valued, unsettled}
-use Rattle.visits.specs.Formed.{Formed, FitClause, Variables}
+use Rattle.visits.specs.Formed.{FitClause}
 use Rattle.visits.proofs.Stores.{recorded, storedAt, stored-view, stored-other, recorded-other, recorded-here}
 use Rattle.visits.proofs.Placing.{shortened-same}
 use Rattle.visits.proofs.Forming.{part-inside, part-length, clause-fits, record-inside, stands-one, recorded-same, set-others}
@@ -29,7 +28,7 @@ use Rattle.visits.proofs.Known.{abs-signed, class-ranged, class-own}
 use Rattle.visits.proofs.Visiting.{fate-dropped, fate-standing}
 use Rattle.visits.proofs.Keeping.{FormedIn, formed-cases}
 use Rattle.visits.proofs.Looking.{dropped-settled, valued-unsettled, unit-unsettled}
-use Rattle.propagate.specs.Propagate.{Progress, going, onward, visited, remaining, notFalse, propagateClause, propagateVisit, propagateVisits}
+use Rattle.propagate.specs.Propagate.{going, onward, visited, remaining, notFalse, propagateClause, propagateVisit, propagateVisits}
 use Rattle.propagate.proofs.Parting.{fate-true, fate-left}
 use Rattle.propagate.proofs.Stepping.{onward-more}
 use Rattle.propagate.proofs.Unvalued.{own-literal, quiet-clause, left-quiet}

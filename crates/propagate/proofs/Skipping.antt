@@ -10,11 +10,11 @@ use lib.IntN.{ℤ}
 use Rattle.tables.specs.Tables.{Tables, tables, lengthOf}
 use Rattle.visits.proofs.Keeping.{FormedIn}
 use Rattle.occurrences.specs.Pending.{Skippable, Covered}
-use Rattle.propagate.specs.Propagate.{Progress, going, settled, contradicted, onward, propagateVisit, propagateVisits, Reached, reached}
-use Rattle.propagate.specs.Visits.{visitOf, visitAt}
-use Rattle.propagate.specs.Steps.{progressOf, reachedAs, standAfter, Ready}
+use Rattle.propagate.specs.Propagate.{propagateClause, going, contradicted, onward, propagateVisit, propagateVisits, Reached, reached}
+use Rattle.visits.specs.Visited.{visitOf, visitAt}
+use Rattle.propagate.specs.Steps.{progressOf, reachedAs, standAfter, StandsBefore}
 use Rattle.propagate.specs.Listed.{Listed, Advanced}
-use Rattle.propagate.specs.declared.Visited.{Visited}
+use Rattle.visits.specs.declared.Visited.{Visited}
 use Rattle.propagate.specs.declared.Reach.{Reach}
 use Rattle.propagate.specs.declared.Stand.{Stand}
 use Rattle.propagate.specs.declared.Stand.the-variants.{Going, Settled, Contradicted}
@@ -34,7 +34,7 @@ pub relisted : {n : ℕ} {heads places : List ℕ} {pending blocks : List Bool} 
     → Listed n heads places pending blocks′ c l w
 relisted L blocks′ e T = record { vs = L .vs; walkable = L .walkable; rows = L .rows; occurs = L .occurs; room = (L .room .0, omega (arith, e, L .room .1)); covered = T; quiet = L .quiet }
 
-module _ {n room k : ℕ} {c : List ℕ} {l w : List ℤ} (changed : Bool) (R : Ready n k c l w) where
+module _ {n room k : ℕ} {c : List ℕ} {l w : List ℤ} (changed : Bool) (R : StandsBefore n k c l w) where
   -- over clauses that are not pending
   pub advanced-skip : {heads places : List ℕ} {pending blocks : List Bool} → Listed n heads places pending blocks c l w → (j : ℕ) → Skippable pending k j → (r : Reach)
       → (0 < r .visits) × ((r .visits ≤ room) × ((k + r .visits ≤ n) × (k + r .visits ≤ j))) → ((t : Tables) → progressOf (r .stand) t ≡ onward n (k + r .visits) changed t)
@@ -66,7 +66,7 @@ module _ {n room k : ℕ} {c : List ℕ} {l w : List ℤ} (changed : Bool) (R : 
   }
 
   pub advanced-visit : 0 < room → (s : Stand) (seen : Visited) (c′ : List ℕ) (l′ w′ : List ℤ)
-      → ((times : List ℕ) (links : List ℤ) → visitOf seen (tables c′ l′ w′ times links) ≡ visitAt k (tables c l w times links))
+      → ((times : List ℕ) (links : List ℤ) → visitOf seen (tables c′ l′ w′ times links) ≡ visitAt (propagateClause w) k (tables c l w times links))
       → ((t : Tables) → progressOf s t ≡ standAfter n k changed (lengthOf c k) seen t) → Advanced n room k changed (record { visits = 1; stand = s }) c l w c′ l′ w′
   advanced-visit some s seen c′ l′ w′ is e =
       advanced-one some s c′ l′ w′ (λ times links. e (tables c′ l′ w′ times links) ∙ visit-stands n k changed (tables c l w times links) seen (tables c′ l′ w′ times links) (is times links))
@@ -87,14 +87,14 @@ module _ {n steps made k : ℕ} {changed : Bool} {k₀ : ℕ} {changed₀ : Bool
   advanced-goes k′ changed′ e lc ll lw = record {
     within = omega (arith, J .made .1, more);
     sizes = (lc ∙ M .sizes .0, (ll ∙ M .sizes .1 .0, lw ∙ M .sizes .1 .1));
-    ready = record { vars = M .ready .vars; formed = next .0; below = next .1 };
+    stands = record { vars = M .stands .vars; formed = next .0; below = next .1 };
     left = λ times links. ap (λ (x : Stand). propagateVisits n (steps - (made + r .visits)) (made + r .visits) (progressOf x (tables c′ l′ w′ times links))) (sym e) ∙ advanced-off times links;
   }
     where
-      next : FormedIn (M .ready .vars) n (tables c′ l′ w′ [] []) × (k′ < n)
+      next : FormedIn (M .stands .vars) n (tables c′ l′ w′ [] []) × (k′ < n)
       next =
-          subst (Good (M .ready .vars) n) (ap (λ (x : Reached). x .progress) (J .left [] [] 0 0) ∙ ap (λ (x : Stand). progressOf x (tables c′ l′ w′ [] [])) e)
-          (visits-good (M .ready .vars) n (r .visits + 0) 0 (going k changed (tables c l w [] [])) (M .ready .formed, M .ready .below))
+          subst (Good (M .stands .vars) n) (ap (λ (x : Reached). x .progress) (J .left [] [] 0 0) ∙ ap (λ (x : Stand). progressOf x (tables c′ l′ w′ [] [])) e)
+          (visits-good (M .stands .vars) n (r .visits + 0) 0 (going k changed (tables c l w [] [])) (M .stands .formed, M .stands .below))
 
   pub advanced-ends : (x : Stand) → r .stand ≡ x → Ended x → (times : List ℕ) (links : List ℤ)
       → reached (made + r .visits) (progressOf x (tables c′ l′ w′ times links)) ≡ propagateVisits n steps 0 (going k₀ changed₀ (tables c₀ l₀ w₀ times links))
@@ -105,7 +105,7 @@ module _ {n steps made k : ℕ} {changed : Bool} {k₀ : ℕ} {changed₀ : Bool
 
 -- ---- a pass in two parts
 
-module _ {n k : ℕ} {c : List ℕ} {l w : List ℤ} (R : Ready n k c l w) (changed : Bool) (steps first : ℕ) (h : first ≤ steps) (r : Reach) (c′ : List ℕ) (l′ w′ : List ℤ)
+module _ {n k : ℕ} {c : List ℕ} {l w : List ℤ} (R : StandsBefore n k c l w) (changed : Bool) (steps first : ℕ) (h : first ≤ steps) (r : Reach) (c′ : List ℕ) (l′ w′ : List ℤ)
     (part : (times : List ℕ) (links : List ℤ) → reachedAs r (tables c′ l′ w′ times links) ≡ propagateVisits n first 0 (going k changed (tables c l w times links))) where
   pub first-few : r .visits ≤ first
   first-few = omega (arith, ap (λ (x : Reached). x .visits) (part [] []), made-few n first 0 (going k changed (tables c l w [] [])))
@@ -126,8 +126,8 @@ module _ {n k : ℕ} {c : List ℕ} {l w : List ℤ} (R : Ready n k c l w) (chan
 
   -- it goes on
   module _ (k′ : ℕ) (changed′ : Bool) (goes : r .stand ≡ Going k′ changed′) where
-    pub second-ready : Ready n k′ c′ l′ w′
-    second-ready = record { vars = R .vars; formed = next .0; below = next .1 }
+    pub second-before : StandsBefore n k′ c′ l′ w′
+    second-before = record { vars = R .vars; formed = next .0; below = next .1 }
       where
         next : FormedIn (R .vars) n (tables c′ l′ w′ [] []) × (k′ < n)
         next =

@@ -1,10 +1,9 @@
 -- Visits can be divided in any way, and the count goes on from where it stands. Assumes nothing.
 use Prim.Native.Nat.{ℕ, zero, suc, _+_, _-_, _≤_}
 use native.Mathlib.Omega.{arith}
-use native.Mathlib.Numerals.{add-one}
 use mathlib.Core.Path.{_≡_, refl, sym, ap, _∙_}
 use Rattle.tables.specs.Tables.{Tables}
-use Rattle.propagate.specs.Propagate.{Progress, going, settled, contradicted, propagateVisit, propagateVisits, Reached, reached}
+use Rattle.propagate.specs.Propagate.{Progress, going, settled, contradicted, propagateVisit, propagateVisits, reached}
 use Rattle.propagate.specs.Steps.{progressOf}
 use Rattle.propagate.specs.declared.Stand.{Stand}
 use Rattle.propagate.specs.declared.Stand.the-variants.{Going, Settled, Contradicted}

@@ -1,10 +1,9 @@
 -- A visit and where the pass then stands; the visits that are left, from here, give what all of them give. Assumes nothing.
-use Prim.Native.Nat.{ℕ, zero, suc, _+_, _-_, _≤_, _<_}
-use native.Mathlib.Numerals.{add-one}
+use Prim.Native.Nat.{ℕ, zero, suc, _-_, _≤_, _<_}
 use native.Mathlib.Omega.{arith}
-use mathlib.Core.Path.{_≡_, refl, sym, ap, subst, _∙_}
+use mathlib.Core.Path.{_≡_, refl, sym, ap, _∙_}
 use mathlib.Core.Bool.{Bool, true, false, _||_}
-use mathlib.Core.List.{List, []}
+use mathlib.Core.List.{List}
 use lib.Dec.{ltb}
 use lib.ListN.{length}
 use lib.IntN.{ℤ}
@@ -13,9 +12,9 @@ use Rattle.tables.specs.Tables.{Tables, tables, lengthOf, standing}
 use Rattle.tables.specs.Fates.{Fate, kept, left, dropped, unit, conflict, store, fateAt}
 use Rattle.visits.specs.Formed.{Formed}
 use Rattle.propagate.specs.Propagate.{Progress, going, settled, contradicted, onward, changes, visited, propagateClause, propagateVisit, propagateVisits, reached}
-use Rattle.propagate.specs.Visits.{visitedAs, Visit, visitOf, visitAt, Visitable}
-use Rattle.propagate.specs.Steps.{progressOf, standAfter, Ready}
-use Rattle.propagate.specs.declared.Visited.{Visited}
+use Rattle.visits.specs.Visited.{Visitable, visitedAs, Visit, visitOf, visitAt}
+use Rattle.propagate.specs.Steps.{standAfter, StandsBefore}
+use Rattle.visits.specs.declared.Visited.{Visited}
 use Rattle.visits.proofs.Keeping.{FormedIn}
 use Rattle.propagate.proofs.Keeping.{formed-visit, formed-conflict, conflict-stands}
 
@@ -46,13 +45,13 @@ fate-stands n k changed (unit l) t = refl
 fate-stands n k changed conflict t = refl
 
 -- the answer of the visit decides where the pass stands
-pub visit-stands : (n k : ℕ) (changed : Bool) (t : Tables) (r : Visited) (t′ : Tables) → visitOf r t′ ≡ visitAt k t → standAfter n k changed (lengthOf (t .clauses) k) r t′ ≡ propagateVisit n k changed t
+pub visit-stands : (n k : ℕ) (changed : Bool) (t : Tables) (r : Visited) (t′ : Tables) → visitOf r t′ ≡ visitAt (propagateClause (t .variables)) k t → standAfter n k changed (lengthOf (t .clauses) k) r t′ ≡ propagateVisit n k changed t
 unfolding visitAt propagateVisit
 visit-stands n k changed t r t′ e =
     ap (λ (x : Visit). standAfter n k changed (lengthOf (t .clauses) k) (x .visited) (x .tables)) e ∙ fate-stands n k changed (fateAt (propagateClause (t .variables)) k t) t
 
-pub ready-visitable : {n k : ℕ} {c : List ℕ} {l w : List ℤ} → Ready n k c l w → Visitable k c l w
-ready-visitable {n} R = record { vars = R .vars; number = n; formed = R .formed; below = R .below }
+pub before-visitable : {n k : ℕ} {c : List ℕ} {l w : List ℤ} → StandsBefore n k c l w → Visitable k c l w
+before-visitable {n} R = record { vars = R .vars; number = n; settled = n; formed = R .formed; below = R .below }
 
 -- ---- wherever the pass stands, the tables are formed
 
@@ -96,14 +95,14 @@ visits-good v n (suc m) made (contradicted t) G = G
 -- what is left from here gives what the whole gives
 pub record Making (n steps made k : ℕ) (changed : Bool) (k₀ : ℕ) (changed₀ : Bool) (c₀ : List ℕ) (l₀ w₀ : List ℤ) (c : List ℕ) (l w : List ℤ) : Type 0 where
   pub within : made ≤ steps
-  pub ready : Ready n k c l w
+  pub stands : StandsBefore n k c l w
   pub sizes : (length c ≡ length c₀) × ((length l ≡ length l₀) × (length w ≡ length w₀))
   pub left : (times : List ℕ) (links : List ℤ) → propagateVisits n (steps - made) made (going k changed (tables c l w times links)) ≡ propagateVisits n steps 0 (going k₀ changed₀ (tables c₀ l₀ w₀ times links))
 
-pub making-none : {n k : ℕ} {c : List ℕ} {l w : List ℤ} → Ready n k c l w → (steps : ℕ) (changed : Bool) → Making n steps 0 k changed k changed c l w c l w
+pub making-none : {n k : ℕ} {c : List ℕ} {l w : List ℤ} → StandsBefore n k c l w → (steps : ℕ) (changed : Bool) → Making n steps 0 k changed k changed c l w c l w
 making-none {n} {k} {c} {l} {w} R steps changed = record {
   within = omega arith;
-  ready = R;
+  stands = R;
   sizes = (refl, (refl, refl));
   left = λ times links. ap (λ (m : ℕ). propagateVisits n m 0 (going k changed (tables c l w times links))) (let e : steps - 0 ≡ steps = omega arith in e);
 }

@@ -1,4 +1,3 @@
 pub mod Propagate
-pub mod Visits
 pub mod Steps
 pub mod Listed

@@ -5,7 +5,7 @@ use mathlib.Core.Bool.{Bool, false}
 use mathlib.Core.List.{List, [], List·Memᴰ}
 use lib.ListN.{length, getD}
 use lib.IntN.{ℤ, natAbs}
-use Rattle.tables.specs.Tables.{Tables, tables}
+use Rattle.tables.specs.Tables.{tables}
 use Rattle.tables.specs.Clauses.{literalsOf}
 use Rattle.tables.specs.Passes.{unsettled}
 use Rattle.occurrences.specs.Chains.{ownerOf}

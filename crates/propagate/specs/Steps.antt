@@ -1,6 +1,5 @@
 -- Where a pass stands, as the code answers it. Assumes nothing: these are definitions.
 use Prim.Native.Nat.{ℕ, suc, _<_}
-use mathlib.Core.Path.{_≡_}
 use mathlib.Core.Bool.{Bool, true, false, _||_}
 use mathlib.Core.List.{List}
 use lib.Dec.{ltb}
@@ -14,8 +13,8 @@ use Rattle.tables.specs.Tables.{Tables}
 use Rattle.tables.specs.Calls.{After, answered}
 use Rattle.visits.specs.Formed.{Formed}
 use Rattle.propagate.specs.Propagate.{Progress, going, settled, contradicted, onward, Reached, reached}
-use Rattle.propagate.specs.declared.Visited.{Visited}
-use Rattle.propagate.specs.declared.Visited.the-variants.{Kept, Left, Dropped, Unit1, Conflict}
+use Rattle.visits.specs.declared.Visited.{Visited}
+use Rattle.visits.specs.declared.Visited.the-variants.{Kept, Left, Dropped, MadeTrue, Conflict}
 use Rattle.propagate.specs.declared.Stand.{Stand}
 use Rattle.propagate.specs.declared.Stand.the-variants.{Going, Settled, Contradicted}
 use Rattle.propagate.specs.declared.Reach.{Reach}
@@ -33,11 +32,11 @@ abbrev pub standAfter : ℕ → ℕ → Bool → ℕ → Visited → Tables → 
 standAfter n k changed size Kept t = onward n (suc k) changed t
 standAfter n k changed size (Left m) t = onward n (suc k) (changed || ltb m size) t
 standAfter n k changed size Dropped t = onward n (suc k) true t
-standAfter n k changed size (Unit1 w) t = onward n (suc k) true t
+standAfter n k changed size (MadeTrue w) t = onward n (suc k) true t
 standAfter n k changed size Conflict t = contradicted t
 
 -- a pass that stands before clause k of n
-pub record Ready (n k : ℕ) (clauses : List ℕ) (literals variables : List ℤ) : Type 0 where
+pub record StandsBefore (n k : ℕ) (clauses : List ℕ) (literals variables : List ℤ) : Type 0 where
   pub vars : ℕ
   pub formed : Formed vars n n false clauses literals variables
   pub below : k < n

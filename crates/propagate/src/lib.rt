@@ -6,33 +6,26 @@ use state::Counts;
 use state::Outcome;
 use state::Pass;
 use state::State;
+use visits::Visited;
 ghost use mathlib.Core.Path.{_≡_};
 ghost use mathlib.Core.Bool.{false};
-ghost use Prim.Native.Nat.{ℕ, _+_, _*_, _-_, _≤_, _<_};
-ghost use lib.ListN.{length, replicate};
+ghost use Prim.Native.Nat.{ℕ, _+_, _≤_, _<_};
+ghost use lib.ListN.{length};
 ghost use Rattle.base.specs.Lists.{any};
 ghost use Rattle.tables.specs.Values.{isTrue};
 ghost use Rattle.visits.specs.Formed.{EachKnown, Formed};
+ghost use Rattle.visits.specs.Holding.{holding};
+ghost use Rattle.visits.specs.Visited.{Visitable, partOf, partAfter, variablesAfter, visitOf, visitAt};
+ghost use Rattle.visits.specs.declared.Visited.the-variants.{Conflict};
 ghost use Rattle.propagate.specs.Propagate.{notFalse, propagateClause, going, onward, propagateVisit, propagateVisits, begin, propagateFrom, propagateCall};
-ghost use Rattle.propagate.specs.Visits.{partOf, partAfter, recordAfter, visitOf, visitAt, Visitable};
-ghost use Rattle.propagate.specs.Steps.{progressOf, standAfter, reachedAs, repliedWith, Ready};
+ghost use Rattle.propagate.specs.Steps.{progressOf, standAfter, reachedAs, repliedWith, StandsBefore};
 ghost use Rattle.propagate.specs.Listed.{Listed, Advanced};
-ghost use Rattle.propagate.specs.declared.Visited.the-variants.{Conflict};
 ghost use Rattle.propagate.specs.declared.Stand.the-variants.{Contradicted};
 ghost use Rattle.tables.specs.Calls.{after};
 ghost use Rattle.tables.specs.Tables.{Tables};
 ghost use Rattle.tables.specs.Lent.{lent, returned, unlent};
-ghost use mathlib.Core.List.{List, _++_};
-ghost use lib.IntN.{ℤ, pos};
-
-// What a visit makes of a clause: nothing changes; so many literals are left; it is dropped; it is dropped and its last literal, of this variable, made true; it stands empty.
-pub enum Visited {
-    Kept,
-    Left(u32),
-    Dropped,
-    Unit1(u32),
-    Conflict,
-}
+ghost use mathlib.Core.List.{List};
+ghost use lib.IntN.{ℤ};
 
 // Where the pass stands: before a clause, with the change flag; it has gone through the clauses with no change; it has met the empty clause.
 pub enum Stand {
@@ -67,7 +60,7 @@ fn any_true(part: &[i32], variables: &[i32]) -> bool
 fn remove_false(part: &mut [i32], variables: &[i32]) -> usize
     requires { ⌜ EachKnown (now variables) (now part) ⌝ }
     ensures { λ r. ⌜ (r ≡ length (notFalse (now (variables .entry)) (now (part .entry))))
-        × (now (part .exit) ≡ notFalse (now (variables .entry)) (now (part .entry)) ++ replicate (length (now (part .entry)) - length (notFalse (now (variables .entry)) (now (part .entry)))) (pos 0)) ⌝ }
+        × (now (part .exit) ≡ holding (notFalse (now (variables .entry)) (now (part .entry))) (now (part .entry))) ⌝ }
 {
     let mut n = 0;
     let mut i = 0;
@@ -86,7 +79,8 @@ fn remove_false(part: &mut [i32], variables: &[i32]) -> usize
 // A visit to the part of a standing clause.
 fn visit_part(part: &mut [i32], variables: &mut [i32]) -> Visited
     requires { ⌜ EachKnown (now variables) (now part) × (length (now part) ≤ 16384) ⌝ }
-    ensures { λ r. ⌜ partOf r (now (part .exit)) (now (variables .exit)) ≡ partAfter (propagateClause (now (variables .entry)) (now (part .entry))) (now (part .entry)) (now (variables .entry)) ⌝ }
+    ensures { λ r. ⌜ (partOf r (now (part .exit)) ≡ partAfter (propagateClause (now (variables .entry)) (now (part .entry))) (now (part .entry)))
+        × (now (variables .exit) ≡ variablesAfter (propagateClause (now (variables .entry)) (now (part .entry))) (now (variables .entry))) ⌝ }
 {
     if any_true(part, variables) {
         literal::zero_from(part, 0);
@@ -100,33 +94,9 @@ fn visit_part(part: &mut [i32], variables: &mut [i32]) -> Visited
         let l = part[0];
         visits::set_true(variables, l);
         part[0] = 0;
-        return Visited::Unit1(literal::var_of(l) as u32);
+        return Visited::MadeTrue(literal::var_of(l) as u32);
     }
     Visited::Left(n as u32)
-}
-
-// The record of clause k after a visit.
-fn put_record(clauses: &mut [u32], k: usize, seen: Visited)
-    requires { ⌜ (3 * k + 2 < length (now clauses)) × (k ≤ 4096) ⌝ }
-    ensures { λ _. ⌜ now (clauses .exit) ≡ recordAfter k seen (now (clauses .entry)) ⌝ }
-{
-    match seen {
-        Visited::Kept => {}
-        Visited::Left(n) => {
-            clauses[3 * k + 1] = n;
-        }
-        Visited::Dropped => {
-            clauses[3 * k + 1] = 0;
-            clauses[3 * k + 2] = 0;
-        }
-        Visited::Unit1(_) => {
-            clauses[3 * k + 1] = 0;
-            clauses[3 * k + 2] = 0;
-        }
-        Visited::Conflict => {
-            clauses[3 * k + 1] = 0;
-        }
-    }
 }
 
 // A visit to clause k. Its part of the literal table is lent on.
@@ -138,16 +108,16 @@ fn visit_clause(
 ) -> Visited
     requires { ⌜ Visitable k (now clauses) (now literals) (now variables) ⌝ }
     ensures { λ r. ⌜ ((times : List ℕ) (links : List ℤ) → visitOf r (returned clauses literals variables (unlent times) (unlent links))
-        ≡ visitAt k (lent clauses literals variables (unlent times) (unlent links))) ⌝ }
+        ≡ visitAt (propagateClause (now (variables .entry))) k (lent clauses literals variables (unlent times) (unlent links))) ⌝ }
 {
-    let flag = clauses[3 * k + 2];
+    let flag = visits::flag_of(clauses, k);
     if flag == 0 {
         return Visited::Kept;
     }
-    let start = clauses[3 * k] as usize;
-    let end = start + clauses[3 * k + 1] as usize;
+    let start = visits::part_start(clauses, k);
+    let end = visits::part_end(clauses, k);
     let seen = visit_part(&mut literals[start..end], variables);
-    put_record(clauses, k, seen);
+    visits::put_record(clauses, k, seen);
     seen
 }
 
@@ -173,7 +143,7 @@ fn stand_after(n: u32, k: u32, changed: bool, size: u32, seen: Visited) -> Stand
         Visited::Kept => onward(n, k + 1, changed),
         Visited::Left(m) => onward(n, k + 1, base::either(changed, m < size)),
         Visited::Dropped => onward(n, k + 1, true),
-        Visited::Unit1(_) => onward(n, k + 1, true),
+        Visited::MadeTrue(_) => onward(n, k + 1, true),
         Visited::Conflict => Stand::Contradicted,
     }
 }
@@ -187,7 +157,7 @@ fn step(
     k: u32,
     changed: bool,
 ) -> Stand
-    requires { ⌜ Ready n k (now clauses) (now literals) (now variables) ⌝ }
+    requires { ⌜ StandsBefore n k (now clauses) (now literals) (now variables) ⌝ }
     ensures { λ r. ⌜ ((times : List ℕ) (links : List ℤ) → progressOf r (returned clauses literals variables (unlent times) (unlent links))
         ≡ propagateVisit n k changed (lent clauses literals variables (unlent times) (unlent links))) ⌝ }
 {
@@ -207,7 +177,7 @@ fn visit_each(
     cursor: u32,
     flag: bool,
 ) -> Reach
-    requires { ⌜ Ready n cursor (now clauses) (now literals) (now variables) ⌝ }
+    requires { ⌜ StandsBefore n cursor (now clauses) (now literals) (now variables) ⌝ }
     ensures { λ r. ⌜ ((times : List ℕ) (links : List ℤ) → reachedAs r (returned clauses literals variables (unlent times) (unlent links))
         ≡ propagateVisits n steps 0 (going cursor flag (lent clauses literals variables (unlent times) (unlent links)))) ⌝ }
 {
@@ -241,16 +211,16 @@ fn visit_pending(
     n: u32,
     k: u32,
 ) -> Visited
-    requires { ⌜ Ready n k (now clauses) (now literals) (now variables) ⌝ }
+    requires { ⌜ StandsBefore n k (now clauses) (now literals) (now variables) ⌝ }
     requires { ⌜ Listed n (now heads) (now places) (now pending) (now blocks) (now clauses) (now literals) (now variables) ⌝ }
     ensures { λ r. ⌜ ((times : List ℕ) (links : List ℤ) → visitOf r (returned clauses literals variables (unlent times) (unlent links))
-        ≡ visitAt k (lent clauses literals variables (unlent times) (unlent links))) ⌝ }
+        ≡ visitAt (propagateClause (now (variables .entry))) k (lent clauses literals variables (unlent times) (unlent links))) ⌝ }
     ensures { λ r. ⌜ ((r ≡ Conflict → ⊥) → Listed n (now (heads .entry)) (now (places .entry)) (now (pending .exit)) (now (blocks .exit)) (now (clauses .exit)) (now (literals .exit)) (now (variables .exit))) ⌝ }
 {
     let at = k as usize;
     let seen = visit_clause(clauses, literals, variables, at);
     pending[at] = false;
-    let Visited::Unit1(w) = seen else {
+    let Visited::MadeTrue(w) = seen else {
         return seen;
     };
     occurrences::set_pending(heads, places, w as usize, pending, blocks);
@@ -283,7 +253,7 @@ fn skip_or_visit(
     k: u32,
     changed: bool,
 ) -> Reach
-    requires { ⌜ Ready n k (now clauses) (now literals) (now variables) ⌝ }
+    requires { ⌜ StandsBefore n k (now clauses) (now literals) (now variables) ⌝ }
     requires { ⌜ Listed n (now heads) (now places) (now pending) (now blocks) (now clauses) (now literals) (now variables) ⌝ }
     requires { ⌜ 0 < room ⌝ }
     ensures { λ r. ⌜ Advanced n room k changed r (now (clauses .entry)) (now (literals .entry)) (now (variables .entry)) (now (clauses .exit)) (now (literals .exit)) (now (variables .exit)) ⌝ }
@@ -324,7 +294,7 @@ fn visit_skipping(
     cursor: u32,
     flag: bool,
 ) -> Reach
-    requires { ⌜ Ready n cursor (now clauses) (now literals) (now variables) ⌝ }
+    requires { ⌜ StandsBefore n cursor (now clauses) (now literals) (now variables) ⌝ }
     requires { ⌜ Listed n (now heads) (now places) (now pending) (now blocks) (now clauses) (now literals) (now variables) ⌝ }
     ensures { λ r. ⌜ ((times : List ℕ) (links : List ℤ) → reachedAs r (returned clauses literals variables (unlent times) (unlent links))
         ≡ propagateVisits n steps 0 (going cursor flag (lent clauses literals variables (unlent times) (unlent links)))) ⌝ }
@@ -371,7 +341,7 @@ fn visit_listed(
     cursor: u32,
     flag: bool,
 ) -> Reach
-    requires { ⌜ Ready n cursor (now clauses) (now literals) (now variables) ⌝ }
+    requires { ⌜ StandsBefore n cursor (now clauses) (now literals) (now variables) ⌝ }
     ensures { λ r. ⌜ ((times : List ℕ) (links : List ℤ) → reachedAs r (returned clauses literals variables (unlent times) (unlent links))
         ≡ propagateVisits n steps 0 (going cursor flag (lent clauses literals variables (unlent times) (unlent links)))) ⌝ }
 {
@@ -405,7 +375,7 @@ pub fn visit_some(
     cursor: u32,
     flag: bool,
 ) -> Reach
-    requires { ⌜ Ready n cursor (now clauses) (now literals) (now variables) ⌝ }
+    requires { ⌜ StandsBefore n cursor (now clauses) (now literals) (now variables) ⌝ }
     ensures { λ r. ⌜ ((times : List ℕ) (links : List ℤ) → reachedAs r (returned clauses literals variables (unlent times) (unlent links))
         ≡ propagateVisits n steps 0 (going cursor flag (lent clauses literals variables (unlent times) (unlent links)))) ⌝ }
 {
@@ -457,7 +427,7 @@ pub fn propagate_from(
     cursor: u32,
     flag: bool,
 ) -> Outcome
-    requires { ⌜ Ready (st .n) cursor (now clauses) (now literals) (now variables) ⌝ }
+    requires { ⌜ StandsBefore (st .n) cursor (now clauses) (now literals) (now variables) ⌝ }
     ensures { λ r. ⌜ ((times : List ℕ) (links : List ℤ) → after r (returned clauses literals variables (unlent times) (unlent links))
         ≡ propagateFrom fresh steps (going cursor flag (lent clauses literals variables (unlent times) (unlent links)))
         (lent clauses literals variables (unlent times) (unlent links)) st) ⌝ }

@@ -23,7 +23,7 @@ use Rattle.propagate.proofs.Stepping.{Good}
 use Rattle.propagate.proofs.Shaped.{begin-good}
 use Rattle.merge.specs.Merge.{mergedClasses, mergeClause, mergeFrom, mergeOpen, mergeBy, mergeCall}
 use Rattle.merge.proofs.Merged.{classes-formed}
-use Rattle.merge.proofs.Calling.{open-cases, settled-cases, opens-formed, resumes-ready}
+use Rattle.merge.proofs.Calling.{open-cases, settled-cases, opens-formed, resumes-resumable}
 use Rattle.moves.specs.Core as core
 use Rattle.moves.specs.Moves as moves
 use Rattle.refinement.specs.Represented.{Represented}
@@ -90,4 +90,4 @@ merge-reached steps t st k R = by (entryOf own.Merge t st) refl
     by : (e : Entry) → entryOf own.Merge t st ≡ e → Reached st k (mergeBy e steps t st)
     by (No r) q = refused st R
     by Opens q = settled-cases steps st t (Reached st k) (refused st R) (merge-open st steps t k (opens-formed steps t st q) (unmarked st (opens-entered own.Merge t st q .unmarked) R))
-    by (Resumes i changed) q = let P = resumes-ready t st i changed q in merge-from st (st .fresh) steps i t k (P .formed) (P .within) (unmarked st (resumes-entered own.Merge t st i changed q .unmarked) R)
+    by (Resumes i changed) q = let P = resumes-resumable t st i changed q in merge-from st (st .fresh) steps i t k (P .formed) (P .within) (unmarked st (resumes-entered own.Merge t st i changed q .unmarked) R)

@@ -25,8 +25,8 @@ use Rattle.failed.specs.Failed as failing
 use Rattle.failed.specs.Steps.{Callable}
 use Rattle.failed.proofs.Calling.{granted-callable}
 use Rattle.sweep.specs.Sweep as sweeping
-use Rattle.sweep.specs.Visits.{Ready}
-use Rattle.sweep.proofs.Entering.{entered-ready}
+use Rattle.sweep.specs.Visits.{Sweepable}
+use Rattle.sweep.proofs.Entering.{entered-sweepable}
 use Rattle.settle.specs.Settle.{Standing, between, settle}
 use Rattle.run.specs.Run.{orderOf, follow}
 use Rattle.run.specs.Steps.{Runs}
@@ -57,8 +57,8 @@ module _ {w : Standing} (R : Runs w) where
   pub runs-callable : Callable (w .state) (w .tables .variables) (w .tables .times) (w .tables .links)
   runs-callable = granted-callable (w .tables) (w .state) runs-granted
 
-  pub runs-ready : w .state .fresh ≡ true → Ready (w .state .n) (w .tables .clauses) (w .tables .literals) (w .tables .times) (w .tables .links)
-  runs-ready = entered-ready runs-entered tt
+  pub runs-sweepable : w .state .fresh ≡ true → Sweepable (w .state .n) (w .tables .clauses) (w .tables .literals) (w .tables .times) (w .tables .links)
+  runs-sweepable = entered-sweepable runs-entered tt
 
   -- ---- Stamp in a given order
 

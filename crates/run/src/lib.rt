@@ -21,7 +21,7 @@ ghost use Rattle.stamp.specs.Stamp.{stampOrdered};
 ghost use Rattle.failed.specs.Failed as failing;
 ghost use Rattle.failed.specs.Steps.{Callable};
 ghost use Rattle.sweep.specs.Sweep as sweeping;
-ghost use Rattle.sweep.specs.Visits.{Ready};
+ghost use Rattle.sweep.specs.Visits.{Sweepable};
 ghost use Rattle.settle.specs.Settle.{between};
 ghost use Rattle.run.specs.Run.{orderOf, programme, follow, round, unchanged, rounds, runFrom, runReply, runCall};
 ghost use Rattle.settle.specs.Steps.{standingIn};
@@ -305,7 +305,7 @@ fn follow_sweep(
     links: &[i32],
     st: State,
 ) -> State
-    requires { ⌜ (st .fresh ≡ true → Ready (st .n) (now clauses) (now literals) (now times) (now links)) ⌝ }
+    requires { ⌜ (st .fresh ≡ true → Sweepable (st .n) (now clauses) (now literals) (now times) (now links)) ⌝ }
     ensures { λ r. ⌜ ((variables : List ℤ) → standingIn (returned clauses literals (unlent variables) times links) r
         ≡ between (sweeping.unlessStale (st .fresh) (st .n) 0 (lent clauses literals (unlent variables) times links) st)) ⌝ }
 {

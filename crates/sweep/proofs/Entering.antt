@@ -17,10 +17,10 @@ use Rattle.entry.specs.declared.Entry.the-variants.{No, Opens, Resumes}
 use Rattle.entry.proofs.Entering.{Entered}
 use Rattle.visits.proofs.Entered.{NoMerge, entered-formed}
 use Rattle.sweep.specs.Sweep.{sweepFrom, unlessStale, sweepBy, sweepCall}
-use Rattle.sweep.specs.Visits.{Ready}
+use Rattle.sweep.specs.Visits.{Sweepable}
 
-pub entered-ready : {p : Pass} {t : Tables} {st : State} → Entered p t st → NoMerge p → st .fresh ≡ true → Ready (st .n) (t .clauses) (t .literals) (t .times) (t .links)
-entered-ready {p} {t} {st} E other fresh = record {
+pub entered-sweepable : {p : Pass} {t : Tables} {st : State} → Entered p t st → NoMerge p → st .fresh ≡ true → Sweepable (st .n) (t .clauses) (t .literals) (t .times) (t .links)
+entered-sweepable {p} {t} {st} E other fresh = record {
   vars = st .v;
   variables = t .variables;
   formed = entered-formed E other;

@@ -21,8 +21,9 @@ use Rattle.visits.specs.Formed.{FitClause}
 use Rattle.visits.proofs.Forming.{clause-fits, part-length}
 use Rattle.visits.proofs.Fitting.{fit-slots}
 use Rattle.visits.proofs.Keeping.{FormedIn, formed-shortened, formed-dropped, formed-cases}
+use Rattle.visits.proofs.Visiting.{visits-next, visits-none}
 use Rattle.sweep.specs.Sweep.{sweepClause}
-use Rattle.sweep.specs.Visits.{Ready, Sweepable}
+use Rattle.sweep.specs.Visits.{Sweepable, SweepableFrom}
 use Rattle.sweep.proofs.Parting.{shorten-shorter, shorten-fits}
 
 module _ {v n : ℕ} (t : Tables) (F : FormedIn v n t) (σ : Stamps) (N : Nested (2 * v) σ) (k : ℕ) (lt : k < n) where
@@ -52,10 +53,10 @@ unfolding visits
 formed-visits t F σ N zero k le = F
 formed-visits t F σ N (suc m) k le = formed-visits (visit (sweepClause σ) k t) (formed-visit t F σ N k (omega arith)) σ N m (suc k) (omega arith)
 
-module _ {n k : ℕ} {c : List ℕ} {l : List ℤ} {times : List ℕ} {links : List ℤ} (R : Ready n c l times links) (lt : k < n) where
+module _ {n k : ℕ} {c : List ℕ} {l : List ℤ} {times : List ℕ} {links : List ℤ} (R : Sweepable n c l times links) (lt : k < n) where
   -- a visit keeps the tables ready
-  pub ready-visit : (c′ : List ℕ) (l′ : List ℤ) → ((w : List ℤ) → tables c′ l′ w times links ≡ visit (sweepClause (columns times links)) k (tables c l w times links)) → Ready n c′ l′ times links
-  ready-visit c′ l′ e = record {
+  pub sweepable-visit : (c′ : List ℕ) (l′ : List ℤ) → ((w : List ℤ) → tables c′ l′ w times links ≡ visit (sweepClause (columns times links)) k (tables c l w times links)) → Sweepable n c′ l′ times links
+  sweepable-visit c′ l′ e = record {
     vars = R .vars;
     variables = R .variables;
     formed = subst (FormedIn (R .vars) n) (sym (e (R .variables))) (formed-visit (tables c l (R .variables) times links) (R .formed) (columns times links) (fresh-nested times links (R .vars) (R .stamped .fresh)) k lt);
@@ -67,13 +68,13 @@ module _ {n k : ℕ} {c : List ℕ} {l : List ℤ} {times : List ℕ} {links : L
 
 pub record Making (k m i : ℕ) (c₀ : List ℕ) (l₀ : List ℤ) (c : List ℕ) (l : List ℤ) (times : List ℕ) (links : List ℤ) : Type 0 where
   pub within : i ≤ m
-  pub ready : (n : ℕ) → k + m ≤ n → Ready n c₀ l₀ times links → Ready n c l times links
+  pub sweepable : (n : ℕ) → k + m ≤ n → Sweepable n c₀ l₀ times links → Sweepable n c l times links
   pub left : (w : List ℤ) → visits (sweepClause (columns times links)) (m - i) (k + i) (tables c l w times links) ≡ visits (sweepClause (columns times links)) m k (tables c₀ l₀ w times links)
 
 pub making-none : (k m : ℕ) (c : List ℕ) (l : List ℤ) (times : List ℕ) (links : List ℤ) → Making k m 0 c l c l times links
 making-none k m c l times links = record {
   within = omega arith;
-  ready = λ n h R. R;
+  sweepable = λ n h R. R;
   left = λ w. (λ j. visits (sweepClause (columns times links)) (none j) (same j) (tables c l w times links));
 }
   where
@@ -85,29 +86,15 @@ making-none k m c l times links = record {
 
 module _ {k m i : ℕ} {c₀ : List ℕ} {l₀ : List ℤ} {c : List ℕ} {l : List ℤ} {times : List ℕ} {links : List ℤ} (M : Making k m i c₀ l₀ c l times links) where
   -- the next clause can be visited
-  pub making-next : i < m → Sweepable k m c₀ l₀ times links → Sweepable (k + i) 1 c l times links
-  making-next lt S = record { number = S .number; ready = M .ready (S .number) (S .room) (S .ready); room = omega (arith, lt, S .room) }
+  pub making-next : i < m → SweepableFrom k m c₀ l₀ times links → SweepableFrom (k + i) 1 c l times links
+  making-next lt S = record { number = S .number; sweepable = M .sweepable (S .number) (S .room) (S .sweepable); room = omega (arith, lt, S .room) }
 
-  module _ (lt : i < m) (c′ : List ℕ) (l′ : List ℤ) (e : (w : List ℤ) → tables c′ l′ w times links ≡ visit (sweepClause (columns times links)) (k + i) (tables c l w times links)) where
-    onward : (w : List ℤ) → visits (sweepClause (columns times links)) (m - (i + 1)) (k + (i + 1)) (tables c′ l′ w times links) ≡ visits (sweepClause (columns times links)) (m - i) (k + i) (tables c l w times links)
-    unfolding visits
-    onward w =
-        (λ j. visits (sweepClause (columns times links)) (m - (i + 1)) (next j) (e w j))
-        ∙ ap (λ (x : ℕ). visits (sweepClause (columns times links)) x (k + i) (tables c l w times links)) one
-      where
-        next : k + (i + 1) ≡ suc (k + i)
-        next = omega arith
+  pub making-more : i < m → (c′ : List ℕ) (l′ : List ℤ) → ((w : List ℤ) → tables c′ l′ w times links ≡ visit (sweepClause (columns times links)) (k + i) (tables c l w times links)) → Making k m (i + 1) c₀ l₀ c′ l′ times links
+  making-more lt c′ l′ e = record {
+    within = omega arith;
+    sweepable = λ n h R. sweepable-visit (M .sweepable n h R) (let z : k + i < n = omega arith in z) c′ l′ e;
+    left = λ w. visits-next (sweepClause (columns times links)) (tables c l w times links) (let z : m - i ≡ suc (m - (i + 1)) = omega arith in z) (let z : k + (i + 1) ≡ suc (k + i) = omega arith in z) (e w) ∙ M .left w;
+  }
 
-        one : suc (m - (i + 1)) ≡ m - i
-        one = omega arith
-
-    pub making-more : Making k m (i + 1) c₀ l₀ c′ l′ times links
-    making-more = record {
-      within = omega arith;
-      ready = λ n h R. ready-visit (M .ready n h R) (let z : k + i < n = omega arith in z) c′ l′ e;
-      left = λ w. onward w ∙ M .left w;
-    }
-
-  pub making-done : m ≤ i → ((n : ℕ) → k + m ≤ n → Ready n c₀ l₀ times links → Ready n c l times links) × ((w : List ℤ) → tables c l w times links ≡ visits (sweepClause (columns times links)) m k (tables c₀ l₀ w times links))
-  unfolding visits
-  making-done h = (M .ready, λ w. ap (λ (x : ℕ). visits (sweepClause (columns times links)) x (k + i) (tables c l w times links)) (let z : 0 ≡ m - i = omega arith in z) ∙ M .left w)
+  pub making-done : m ≤ i → ((n : ℕ) → k + m ≤ n → Sweepable n c₀ l₀ times links → Sweepable n c l times links) × ((w : List ℤ) → tables c l w times links ≡ visits (sweepClause (columns times links)) m k (tables c₀ l₀ w times links))
+  making-done h = (M .sweepable, λ w. visits-none (sweepClause (columns times links)) (k + i) (let z : m - i ≡ 0 = omega arith in z) (tables c l w times links) ∙ M .left w)

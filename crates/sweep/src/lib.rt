@@ -2,32 +2,25 @@
 use entry::Entry;
 use entry::PassName;
 use state::Answer;
-use state::Counts;
 use state::Outcome;
 use state::Pass;
 use state::Refusal;
 use state::State;
+use visits::Visited;
 ghost use mathlib.Core.Path.{_≡_};
 ghost use mathlib.Core.Bool.{true};
 ghost use mathlib.Core.List.{List};
-ghost use Prim.Native.Nat.{ℕ, _+_, _*_, _≤_, _<_};
+ghost use Prim.Native.Nat.{ℕ, _+_, _≤_};
 ghost use lib.ListN.{length};
 ghost use lib.IntN.{ℤ};
 ghost use Rattle.stamps.specs.Columns.{columns};
-ghost use Rattle.tables.specs.Tables.{Tables};
 ghost use Rattle.tables.specs.Lent.{lent, returned, unlent};
 ghost use Rattle.tables.specs.Calls.{after};
-ghost use Rattle.tables.specs.Fates.{visit, visits};
+ghost use Rattle.tables.specs.Fates.{visits};
 ghost use Rattle.sweep.specs.Sweep.{sweepClause, sweepFrom, unlessStale, sweepCall};
-ghost use Rattle.sweep.specs.Visits.{partOf, partAfter, recordAfter, Ready, Sweepable, standsBefore};
+ghost use Rattle.visits.specs.Visited.{partOf, partAfter, visitOf, visitAt};
+ghost use Rattle.sweep.specs.Visits.{Sweepable, SweepableFrom};
 ghost use Rattle.hidden_tautologies.specs.Judged.{Judged};
-
-// What a visit makes of a clause: nothing changes; so many literals are left; it is dropped.
-pub enum Visited {
-    Kept,
-    Left(u32),
-    Dropped,
-}
 
 // A visit to the part of a standing clause. `slots` and `twins` are as long as the part, and only worked in.
 fn visit_part(
@@ -51,23 +44,6 @@ fn visit_part(
     Visited::Left(n as u32)
 }
 
-// The record of clause k after a visit.
-fn put_record(clauses: &mut [u32], k: usize, seen: Visited)
-    requires { ⌜ (3 * k + 2 < length (now clauses)) × (k ≤ 4096) ⌝ }
-    ensures { λ _. ⌜ now (clauses .exit) ≡ recordAfter k seen (now (clauses .entry)) ⌝ }
-{
-    match seen {
-        Visited::Kept => {}
-        Visited::Left(n) => {
-            clauses[3 * k + 1] = n;
-        }
-        Visited::Dropped => {
-            clauses[3 * k + 1] = 0;
-            clauses[3 * k + 2] = 0;
-        }
-    }
-}
-
 // A visit to clause k. Its part of the literal table is lent on.
 fn visit_clause(
     clauses: &mut [u32],
@@ -77,18 +53,18 @@ fn visit_clause(
     slots: &mut [u32],
     twins: &mut [u32],
     k: usize,
-)
-    requires { ⌜ Sweepable k 1 (now clauses) (now literals) (now times) (now links) × (16384 ≤ length (now slots)) × (16384 ≤ length (now twins)) ⌝ }
-    ensures { λ _. ⌜ ((variables : List ℤ) → returned clauses literals (unlent variables) times links
-        ≡ visit (sweepClause (columns (now (times .entry)) (now (links .entry)))) k (lent clauses literals (unlent variables) times links)) ⌝ }
+) -> Visited
+    requires { ⌜ SweepableFrom k 1 (now clauses) (now literals) (now times) (now links) × (16384 ≤ length (now slots)) × (16384 ≤ length (now twins)) ⌝ }
+    ensures { λ r. ⌜ ((variables : List ℤ) → visitOf r (returned clauses literals (unlent variables) times links)
+        ≡ visitAt (sweepClause (columns (now (times .entry)) (now (links .entry)))) k (lent clauses literals (unlent variables) times links)) ⌝ }
 {
-    let flag = clauses[3 * k + 2];
+    let flag = visits::flag_of(clauses, k);
     if flag == 0 {
-        return;
+        return Visited::Kept;
     }
-    let start = clauses[3 * k] as usize;
-    let len = clauses[3 * k + 1] as usize;
-    let end = start + len;
+    let start = visits::part_start(clauses, k);
+    let end = visits::part_end(clauses, k);
+    let len = end - start;
     let seen = visit_part(
         &mut literals[start..end],
         times,
@@ -96,7 +72,8 @@ fn visit_clause(
         &mut slots[..len],
         &mut twins[..len],
     );
-    put_record(clauses, k, seen);
+    visits::put_record(clauses, k, seen);
+    seen
 }
 
 // Visits to m clauses from clause k on.
@@ -110,8 +87,8 @@ fn sweep_visits(
     k: usize,
     m: usize,
 )
-    requires { ⌜ Sweepable k m (now clauses) (now literals) (now times) (now links) × (16384 ≤ length (now slots)) × (16384 ≤ length (now twins)) ⌝ }
-    ensures { λ _. ⌜ ((n : ℕ) → k + m ≤ n → Ready n (now (clauses .entry)) (now (literals .entry)) (now (times .entry)) (now (links .entry)) → Ready n (now (clauses .exit)) (now (literals .exit)) (now (times .entry)) (now (links .entry)))
+    requires { ⌜ SweepableFrom k m (now clauses) (now literals) (now times) (now links) × (16384 ≤ length (now slots)) × (16384 ≤ length (now twins)) ⌝ }
+    ensures { λ _. ⌜ ((n : ℕ) → k + m ≤ n → Sweepable n (now (clauses .entry)) (now (literals .entry)) (now (times .entry)) (now (links .entry)) → Sweepable n (now (clauses .exit)) (now (literals .exit)) (now (times .entry)) (now (links .entry)))
         × ((variables : List ℤ) → returned clauses literals (unlent variables) times links
         ≡ visits (sweepClause (columns (now (times .entry)) (now (links .entry)))) m k (lent clauses literals (unlent variables) times links)) ⌝ }
 {
@@ -124,22 +101,6 @@ fn sweep_visits(
 
 // ---- the call
 
-// The answer of a call that stands before clause k: Open exactly if visits are left.
-fn answer_at(st: State, k: u32, counts: Counts) -> Outcome
-    ensures { λ r. ⌜ ((t : Tables) → after r t ≡ standsBefore k counts t st) ⌝ }
-{
-    if k < st.n {
-        return Outcome {
-            answer: Answer::Open(counts),
-            state: st.opened(Pass::Sweep(k), true),
-        };
-    }
-    Outcome {
-        answer: Answer::Done(counts),
-        state: st.closed(false),
-    }
-}
-
 // Sweep from clause `cursor` on: as many visits as `steps` says, or as are left. The two tables of slots serve every visit.
 pub fn sweep_from(
     clauses: &mut [u32],
@@ -150,7 +111,7 @@ pub fn sweep_from(
     cursor: u32,
     steps: u32,
 ) -> Outcome
-    requires { ⌜ Ready (st .n) (now clauses) (now literals) (now times) (now links) × (cursor ≤ st .n) ⌝ }
+    requires { ⌜ Sweepable (st .n) (now clauses) (now literals) (now times) (now links) × (cursor ≤ st .n) ⌝ }
     ensures { λ r. ⌜ ((variables : List ℤ) → after r (returned clauses literals (unlent variables) times links)
         ≡ sweepFrom steps cursor (lent clauses literals (unlent variables) times links) st) ⌝ }
 {
@@ -170,7 +131,9 @@ pub fn sweep_from(
         m as usize,
     );
     let left = visits::count_standing(clauses, n as usize);
-    answer_at(st, cursor + m, visits::counts_of(m, before, left))
+    let counts = visits::counts_of(m, before, left);
+    let k = cursor + m;
+    visits::answer_at(st, Pass::Sweep(k), true, false, counts, k)
 }
 
 // A call that no refusal above 9 stops: it opens the pass or resumes it, from clause `cursor` on. Run enters here.
@@ -183,7 +146,7 @@ pub fn sweep_entered(
     cursor: u32,
     n: u32,
 ) -> Outcome
-    requires { ⌜ (st .fresh ≡ true → Ready (st .n) (now clauses) (now literals) (now times) (now links)) × (cursor ≤ st .n) ⌝ }
+    requires { ⌜ (st .fresh ≡ true → Sweepable (st .n) (now clauses) (now literals) (now times) (now links)) × (cursor ≤ st .n) ⌝ }
     ensures { λ r. ⌜ ((variables : List ℤ) → after r (returned clauses literals (unlent variables) times links)
         ≡ unlessStale (st .fresh) n cursor (lent clauses literals (unlent variables) times links) st) ⌝ }
 {

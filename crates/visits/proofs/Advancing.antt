@@ -12,56 +12,48 @@ use Rattle.state.specs.States.{opened, closed}
 use Rattle.state.specs.declared.State.{State}
 use Rattle.state.specs.declared.Counts.{Counts}
 use Rattle.state.specs.declared.Pass.{Pass}
-use Rattle.state.specs.declared.Pass.the-variants.{Idle}
 use Rattle.state.specs.declared.Answer.the-variants.{Open, Done}
 use Rattle.tables.specs.Tables.{Tables}
 use Rattle.tables.specs.Clauses.{gone}
 use Rattle.tables.specs.Fates.{Fate, visits}
 use Rattle.tables.specs.Passes.{reached, advance}
 use Rattle.tables.specs.Calls.{After, answered}
+use Rattle.visits.specs.Visited.{standsAt}
 
--- the answer of a call that has made its visits and stands before clause k: `reached`, by the counts
-abbrev pub standsAt : (ℕ → Pass) → Bool → Bool → Counts → ℕ → State → Tables → After
-standsAt pass freshOpen freshDone counts k st t =
-    elim (ltb k (st .n)) [
-      | true ↦ answered (Open counts) (opened (pass k) freshOpen st) t
-      | false ↦ answered (Done counts) (closed freshDone st) t
-    ]
+module _ (pass : Pass) (freshOpen freshDone : Bool) (counts : Counts) (k : ℕ) (st : State) (t : Tables) where
+  by-test : Bool → After
+  by-test b =
+      elim b [
+        | true ↦ answered (Open counts) (opened pass freshOpen st) t
+        | false ↦ answered (Done counts) (closed freshDone st) t
+      ]
+
+  pub stands-open : k < st .n → answered (Open counts) (opened pass freshOpen st) t ≡ standsAt pass freshOpen freshDone counts k st t
+  unfolding by-test
+  stands-open h = ap by-test (sym (lt-ltb k (st .n) h))
+
+  pub stands-done : st .n ≤ k → answered (Done counts) (closed freshDone st) t ≡ standsAt pass freshOpen freshDone counts k st t
+  unfolding by-test
+  stands-done h = ap by-test (sym (le-ltb k (st .n) h))
+
+  -- what holds of both answers holds of the call's
+  stands-cases : (P : After → Type 0) → (k < st .n → P (answered (Open counts) (opened pass freshOpen st) t)) → (st .n ≤ k → P (answered (Done counts) (closed freshDone st) t))
+      → P (standsAt pass freshOpen freshDone counts k st t)
+  unfolding by-test
+  stands-cases P more none = go (ltb k (st .n)) refl
+    where
+      go : (b : Bool) → ltb k (st .n) ≡ b → P (by-test b)
+      go true e = more (ltb-true k (st .n) e)
+      go false e = none (ltb-false k (st .n) e)
 
 module _ (pass : ℕ → Pass) (freshOpen freshDone : Bool) where
-  module _ (counts : Counts) (k : ℕ) (st : State) (t : Tables) where
-    by-test : Bool → After
-    by-test b =
-        elim b [
-          | true ↦ answered (Open counts) (opened (pass k) freshOpen st) t
-          | false ↦ answered (Done counts) (closed freshDone st) t
-        ]
-
-    pub stands-open : k < st .n → answered (Open counts) (opened (pass k) freshOpen st) t ≡ standsAt pass freshOpen freshDone counts k st t
-    unfolding by-test
-    stands-open h = ap by-test (sym (lt-ltb k (st .n) h))
-
-    pub stands-done : st .n ≤ k → answered (Done counts) (closed freshDone st) t ≡ standsAt pass freshOpen freshDone counts k st t
-    unfolding by-test
-    stands-done h = ap by-test (sym (le-ltb k (st .n) h))
-
-    -- what holds of both answers holds of the call's
-    pub stands-cases : (P : After → Type 0) → (k < st .n → P (answered (Open counts) (opened (pass k) freshOpen st) t)) → (st .n ≤ k → P (answered (Done counts) (closed freshDone st) t))
-        → P (standsAt pass freshOpen freshDone counts k st t)
-    unfolding by-test
-    stands-cases P more none = go (ltb k (st .n)) refl
-      where
-        go : (b : Bool) → ltb k (st .n) ≡ b → P (by-test b)
-        go true e = more (ltb-true k (st .n) e)
-        go false e = none (ltb-false k (st .n) e)
-
   module _ (rule : List ℤ → Fate) (steps k : ℕ) (t : Tables) (st : State) where
     -- m visits are made, and they are as many as the steps and the clauses left allow
     pub advanced : (m : ℕ) → m ≡ min steps (st .n - k) → (t′ : Tables) → t′ ≡ visits rule m k t → (counts : Counts) → counts ≡ gone m (st .n) (t .clauses) (t′ .clauses)
-        → standsAt pass freshOpen freshDone counts (k + m) st t′ ≡ advance rule pass freshOpen freshDone steps k t st
+        → standsAt (pass (k + m)) freshOpen freshDone counts (k + m) st t′ ≡ advance rule pass freshOpen freshDone steps k t st
     unfolding advance
     advanced m few t′ made counts counted =
-        ap (λ (x : Counts). standsAt pass freshOpen freshDone x (k + m) st t′) counted
+        ap (λ (x : Counts). standsAt (pass (k + m)) freshOpen freshDone x (k + m) st t′) counted
         ∙ ap (λ (u : Tables). reached pass freshOpen freshDone m (k + m) (t .clauses) u st) made
         ∙ ap (λ (j : ℕ). reached pass freshOpen freshDone j (k + j) (t .clauses) (visits rule j k t) st) few
 
@@ -75,7 +67,7 @@ module _ (pass : ℕ → Pass) (freshOpen freshDone : Bool) where
         let m : ℕ = min steps (st .n - k) in
         let u : Tables = visits rule m k t in
         let counts : Counts = gone m (st .n) (t .clauses) (u .clauses) in
-        stands-cases counts (k + m) st u P (more counts) (none counts)
+        stands-cases (pass (k + m)) freshOpen freshDone counts (k + m) st u P (more counts) (none counts)
 
   -- a whole pass: a visit for each clause, and none is left
   pub advance-whole : (rule : List ℤ → Fate) (t : Tables) (st : State)
@@ -83,4 +75,4 @@ module _ (pass : ℕ → Pass) (freshOpen freshDone : Bool) where
   advance-whole rule t st =
       let u : Tables = visits rule (st .n) 0 t in
       let counts : Counts = gone (st .n) (st .n) (t .clauses) (u .clauses) in
-      sym (stands-done counts (0 + st .n) st u (omega arith) ∙ advanced rule (st .n) 0 t st (st .n) (sym (min-eq-left (omega arith))) u refl counts refl)
+      sym (stands-done (pass (0 + st .n)) freshOpen freshDone counts (0 + st .n) st u (omega arith) ∙ advanced rule (st .n) 0 t st (st .n) (sym (min-eq-left (omega arith))) u refl counts refl)

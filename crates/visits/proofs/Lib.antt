@@ -10,6 +10,7 @@ pub mod Fitting
 pub mod Searching
 pub mod Entered
 pub mod Visiting
+pub mod Composing
 pub mod Keeping
 pub mod Advancing
 pub mod Looking

@@ -13,7 +13,7 @@ use Rattle.tables.specs.Tables.{Tables, lengthOf, standing}
 use Rattle.tables.specs.Clauses.{literalsOf}
 use Rattle.tables.specs.Passes.{valued, unsettled, firstUnsettled}
 use Rattle.visits.specs.Formed.{Formed}
-use Rattle.visits.proofs.Forming.{part-inside, clause-fits, record-inside}
+use Rattle.visits.proofs.Forming.{record-place, part-inside, clause-known}
 use Rattle.visits.specs.Settled.{Asked}
 
 -- ---- one clause
@@ -62,8 +62,4 @@ found-end t n i a b F = let e : n ≡ i = omega arith in e ∙ sym (ap (λ (m : 
 
 -- formed tables can be looked at
 pub formed-asked : {v n s : ℕ} {mark : Bool} {c : List ℕ} {l w : List ℤ} → Formed v n s mark c l w → (i : ℕ) → i < n → Asked i c l w
-formed-asked {v} F i lt = record {
-  record-in = (omega (arith, F .number, lt), record-inside F i lt);
-  inside = (part-inside F i lt, F .rule .parts .inside i lt);
-  known = record { each = λ k h. record { count = v; rows = F .vars; ranged = clause-fits F i lt .ranged k h } };
-}
+formed-asked F i lt = record { placed = record { record-in = record-place F i lt; within = F .rule .parts .inside i lt }; inside = part-inside F i lt; known = clause-known F i lt }

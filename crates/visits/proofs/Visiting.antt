@@ -35,6 +35,18 @@ module _ (rule : List ℤ → Fate) (k : ℕ) (t : Tables) where
   pub visit-standing : (standing (t .clauses) k ≡ 0 → ⊥) → visit rule k t ≡ store k (rule (literalsOf (t .clauses) (t .literals) k)) t
   visit-standing d = ap (λ (f : Fate). store k f t) (fate-standing d)
 
+-- ---- the visits that are left
+
+module _ (rule : List ℤ → Fate) where
+  -- the next visit, and those after it
+  pub visits-next : {m m′ k k′ : ℕ} (t : Tables) {t′ : Tables} → m ≡ suc m′ → k′ ≡ suc k → t′ ≡ visit rule k t → visits rule m′ k′ t′ ≡ visits rule m k t
+  unfolding visits
+  visits-next {m′ = m′} {k = k} t few next one = (λ i. visits rule m′ (next i) (one i)) ∙ ap (λ (m : ℕ). visits rule m k t) (sym few)
+
+  pub visits-none : {m : ℕ} (k : ℕ) → m ≡ 0 → (t : Tables) → t ≡ visits rule m k t
+  unfolding visits
+  visits-none k none t = ap (λ (m : ℕ). visits rule m k t) (sym none)
+
 -- ---- what a visit leaves beside the clauses
 
 -- the stamp records are as they were

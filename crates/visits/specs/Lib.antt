@@ -1,3 +1,4 @@
 pub mod Formed
 pub mod Holding
 pub mod Settled
+pub mod Visited

@@ -1,8 +1,12 @@
-// Classes and values of literals, and the clauses in the tables.
+// Classes and values of literals, and the clauses in the tables: what the passes that visit clauses share.
+use state::Answer;
 use state::Counts;
+use state::Outcome;
+use state::Pass;
+use state::State;
 ghost use mathlib.Core.Path.{_≡_};
 ghost use Prim.Native.Nat.{_*_, _-_, _≤_, min, ℕ, _+_, _<_};
-ghost use lib.ListN.{take};
+ghost use lib.ListN.{take, length, set};
 ghost use lib.Signed.{nonNeg};
 ghost use Rattle.literal.specs.Literals.{Small, signBy};
 ghost use Rattle.tables.specs.Values.{classLiteral, ownTruth, truth, isTrue, isFalse, setTrue};
@@ -13,7 +17,10 @@ ghost use lib.IntN.{ℤ};
 ghost use Rattle.base.specs.Lists.{any};
 ghost use Rattle.tables.specs.Lent.{lent, unlent};
 ghost use Rattle.tables.specs.Passes.{valued, unsettled, firstUnsettled};
+ghost use Rattle.tables.specs.Tables.{Tables, startOf, lengthOf, standing};
+ghost use Rattle.tables.specs.Calls.{after};
 ghost use Rattle.visits.specs.Settled.{Asked};
+ghost use Rattle.visits.specs.Visited.{Placed, recordAfter, standsAt};
 
 // A number that is kept for a literal's variable, with the literal's sign.
 pub fn signed_by(l: i32, x: i32) -> i32
@@ -72,6 +79,72 @@ pub fn set_true(variables: &mut [i32], l: i32)
     let c = class_literal(variables, l);
     let w = literal::var_of(c);
     variables[2 * w - 1] = signed_by(c, 1);
+}
+
+// ---- the record of a clause: that it lies in its table, and the clause's part in the literal table, follows from the shape rule, which a call checks first
+
+// Whether clause k stands: 1, or 0 where it is dropped.
+pub fn flag_of(clauses: &[u32], k: usize) -> u32
+    requires { ⌜ Placed k (now clauses) ⌝ }
+    ensures { λ r. ⌜ r ≡ standing (now (clauses .entry)) k ⌝ }
+{
+    clauses[3 * k + 2]
+}
+
+// Where the part of clause k starts in the literal table.
+pub fn part_start(clauses: &[u32], k: usize) -> usize
+    requires { ⌜ Placed k (now clauses) ⌝ }
+    ensures { λ r. ⌜ r ≡ startOf (now (clauses .entry)) k ⌝ }
+{
+    clauses[3 * k] as usize
+}
+
+// And where it ends.
+pub fn part_end(clauses: &[u32], k: usize) -> usize
+    requires { ⌜ Placed k (now clauses) ⌝ }
+    ensures { λ r. ⌜ r ≡ startOf (now (clauses .entry)) k + lengthOf (now (clauses .entry)) k ⌝ }
+{
+    clauses[3 * k] as usize + clauses[3 * k + 1] as usize
+}
+
+// Clause k has n literals.
+fn set_length(clauses: &mut [u32], k: usize, n: u32)
+    requires { ⌜ (3 * k + 2 < length (now clauses)) × (k ≤ 4096) ⌝ }
+    ensures { λ _. ⌜ now (clauses .exit) ≡ set (now (clauses .entry)) (3 * k + 1) n ⌝ }
+{
+    clauses[3 * k + 1] = n;
+}
+
+// Clause k is dropped.
+fn drop_record(clauses: &mut [u32], k: usize)
+    requires { ⌜ (3 * k + 2 < length (now clauses)) × (k ≤ 4096) ⌝ }
+    ensures { λ _. ⌜ now (clauses .exit) ≡ set (set (now (clauses .entry)) (3 * k + 1) 0) (3 * k + 2) 0 ⌝ }
+{
+    clauses[3 * k + 1] = 0;
+    clauses[3 * k + 2] = 0;
+}
+
+// What a visit makes of a clause: nothing changes; so many literals are left; it is dropped; it is dropped and its last literal, of this variable, made true; it stands empty.
+pub enum Visited {
+    Kept,
+    Left(u32),
+    Dropped,
+    MadeTrue(u32),
+    Conflict,
+}
+
+// The record of clause k after a visit.
+pub fn put_record(clauses: &mut [u32], k: usize, seen: Visited)
+    requires { ⌜ (3 * k + 2 < length (now clauses)) × (k ≤ 4096) ⌝ }
+    ensures { λ _. ⌜ now (clauses .exit) ≡ recordAfter k seen (now (clauses .entry)) ⌝ }
+{
+    match seen {
+        Visited::Kept => {}
+        Visited::Left(n) => set_length(clauses, k, n),
+        Visited::Dropped => drop_record(clauses, k),
+        Visited::MadeTrue(_) => drop_record(clauses, k),
+        Visited::Conflict => set_length(clauses, k, 0),
+    }
 }
 
 // ---- counts
@@ -133,6 +206,31 @@ pub fn counts_of(visits: u32, before: Totals, after: Totals) -> Counts
     }
 }
 
+// The answer of a call that has made its visits and stands before clause k, of a pass that goes through the clauses once: Open, with this pass, exactly if visits are left.
+pub fn answer_at(
+    st: State,
+    pass: Pass,
+    fresh_open: bool,
+    fresh_done: bool,
+    counts: Counts,
+    k: u32,
+) -> Outcome
+    ensures { λ r. ⌜ ((t : Tables) → after r t ≡ standsAt pass «fresh_open» «fresh_done» counts k st t) ⌝ }
+{
+    if k < st.n {
+        return Outcome {
+            answer: Answer::Open(counts),
+            state: st.opened(pass, fresh_open),
+        };
+    }
+    Outcome {
+        answer: Answer::Done(counts),
+        state: st.closed(fresh_done),
+    }
+}
+
+// ---- refusal 6
+
 // Refusal 6: the first standing clause of one literal, or with a valued variable.
 
 // Whether the variable of l has a value.
@@ -166,7 +264,7 @@ fn is_unsettled(clauses: &[u32], literals: &[i32], variables: &[i32], i: usize) 
     requires { ⌜ Asked i (now clauses) (now literals) (now variables) ⌝ }
     ensures { λ r. ⌜ ((times : List ℕ) (links : List ℤ) → r ≡ unsettled (lent clauses literals variables (unlent times) (unlent links)) i) ⌝ }
 {
-    let flag = clauses[3 * i + 2];
+    let flag = flag_of(clauses, i);
     if flag != 1 {
         return false;
     }
@@ -174,8 +272,8 @@ fn is_unsettled(clauses: &[u32], literals: &[i32], variables: &[i32], i: usize) 
     if size == 1 {
         return true;
     }
-    let start = clauses[3 * i] as usize;
-    let end = start + size as usize;
+    let start = part_start(clauses, i);
+    let end = part_end(clauses, i);
     any_valued(&literals[start..end], variables)
 }
 

@@ -15,10 +15,6 @@ use Rattle.merge.proofs.Scanning.{both-hit, both-miss, both-none}
 use borrow.Author.Needs.{needs}
 use Rattle.merge.proofs.has_both.Statement.{statement}
 use Rattle.merge.proofs.has_both.Tie as tie
-use Rattle.merge.proofs.has_both.Reads as reads
-use Rattle.merge.proofs.has_both.Lts as lts
-use Rattle.literal.proofs.complement.Reads as complement-reads
-use Rattle.literal.proofs.contains.Reads as contains-reads
 
 abbrev Inv-loop : tie.InvT-loop
 Inv-loop part i₀ i = (i ≤ length part) × (tautology (drop i part) ≡ tautology part)

@@ -1,15 +1,10 @@
 -- `merge::merge` meets its contract: the call is its definition. Assumes nothing.
 use mathlib.Core.Path.{sym, _∙_}
 use Rattle.tables.specs.Tables.{Tables, tables}
-use Rattle.merge.proofs.Calling.{call-refused, call-opens, call-resumes, opens-formed, resumes-ready}
+use Rattle.merge.proofs.Calling.{call-refused, call-opens, call-resumes, opens-formed, resumes-resumable}
 use borrow.Author.Needs.{needs}
 use Rattle.merge.proofs.merge.Statement.{statement}
 use Rattle.merge.proofs.merge.Tie as tie
-use Rattle.merge.proofs.merge.Reads as reads
-use Rattle.merge.proofs.merge.Lts as lts
-use Rattle.entry.proofs.entry_of.Reads as entry-of-reads
-use Rattle.merge.proofs.merge_from.Reads as merge-from-reads
-use Rattle.merge.proofs.merge_settled.Reads as merge-settled-reads
 
 -- the tables as they are lent
 abbrev lent : tie.Start → Tables
@@ -31,7 +26,7 @@ enum-known-entry-2 : tie.Need-enum-known-entry-2
 enum-known-entry-2 c = search needs
 
 merge-from-requires : tie.Need-merge-from-requires
-merge-from-requires c κs = let s = c .before .before .before .before .before .before .before .before .before .before .before .before in let e = c .before .before .before .before .entry2 .given in resumes-ready (lent s) (s .args .st) (e .0 .0) (e .0 .1 .0) (sym (c .before .before .before .before .before .before .entry-of .ensures) ∙ e .1)
+merge-from-requires c κs = let s = c .before .before .before .before .before .before .before .before .before .before .before .before in let e = c .before .before .before .before .entry2 .given in resumes-resumable (lent s) (s .args .st) (e .0 .0) (e .0 .1 .0) (sym (c .before .before .before .before .before .before .entry-of .ensures) ∙ e .1)
 
 same-length : tie.Need-same-length
 same-length c = search needs

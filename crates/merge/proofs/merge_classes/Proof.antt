@@ -6,9 +6,6 @@ use borrow.Author.Needs.{needs}
 use Rattle.base.proofs.Lists.{front-zeros}
 use Rattle.merge.proofs.merge_classes.Statement.{statement}
 use Rattle.merge.proofs.merge_classes.Tie as tie
-use Rattle.merge.proofs.merge_classes.Reads as reads
-use Rattle.merge.proofs.merge_classes.Lts as lts
-use Rattle.merge.proofs.regroup_by.Reads as regroup-by-reads
 
 mul-slots : tie.Need-mul-slots
 mul-slots c = search needs

@@ -2,17 +2,10 @@
 use Rattle.tables.specs.Tables.{tables}
 use Rattle.tables.specs.Calls.{after}
 use Rattle.visits.proofs.Counting.{formed-counted, counts-are}
-use Rattle.merge.proofs.Answering.{ready-visitable, made-counted, advanced-by}
+use Rattle.merge.proofs.Answering.{resumable-mergeable, made-counted, advanced-by}
 use borrow.Author.Needs.{needs}
 use Rattle.merge.proofs.merge_from.Statement.{statement}
 use Rattle.merge.proofs.merge_from.Tie as tie
-use Rattle.merge.proofs.merge_from.Reads as reads
-use Rattle.merge.proofs.merge_from.Lts as lts
-use Rattle.visits.proofs.count_standing.Reads as count-standing-reads
-use Rattle.visits.proofs.counts_of.Reads as counts-of-reads
-use Rattle.merge.proofs.answer.Reads as answer-reads
-use Rattle.visits.proofs.fewer.Reads as fewer-reads
-use Rattle.merge.proofs.visit_some.Reads as visit-some-reads
 
 sub-fewer : tie.Need-sub-fewer
 sub-fewer c = search needs
@@ -30,7 +23,7 @@ count-standing-requires : tie.Need-count-standing-requires
 count-standing-requires c κs = formed-counted (c .before .before .before .pre .formed)
 
 visit-some-requires : tie.Need-visit-some-requires
-visit-some-requires c κs = ready-visitable (c .before .before .before .before .before .before .pre) (c .before .before .before .before .fewer .result) (c .before .before .before .before .fewer .ensures .1)
+visit-some-requires c κs = resumable-mergeable (c .before .before .before .before .before .before .pre) (c .before .before .before .before .fewer .result) (c .before .before .before .before .fewer .ensures .1)
 
 cast-count-standing-2 : tie.Need-cast-count-standing-2
 cast-count-standing-2 c = search needs
@@ -42,8 +35,8 @@ count-standing-requires-2 c κs = let v = c .before .before .before .before .vis
 counts-of-requires : tie.Need-counts-of-requires
 counts-of-requires c κs = search needs
 
-answer-requires : tie.Need-answer-requires
-answer-requires c κs = search needs
+answer-at-requires : tie.Need-answer-at-requires
+answer-at-requires c κs = search needs
 
 same-length : tie.Need-same-length
 same-length c = search needs
@@ -58,7 +51,7 @@ returns c = λ times links. let a = c .before .before .before .before .before .b
     let t′ = tables (v .last .0) (v .last .1 .0) (a .variables .now) times links in
     advanced-by (c .before .before .before .before .before .before .before .before .before .before .before .before .before .before .pre) (m .result) (m .ensures .1) (v .last .0) (v .last .1 .0) (v .ensures) (a .steps) (m .ensures .0) (a .fresh) times links (c .before .counts-of .result)
     (counts-are (a .st .n) (m .result) (a .clauses .now) (v .last .0) (c .before .before .before .before .before .before .before .before .before .before .count-standing .result) (c .before .before .count-standing2 .result) (c .before .counts-of .result) (c .before .before .before .before .before .before .before .before .before .before .count-standing .ensures) (c .before .before .count-standing2 .ensures) (c .before .counts-of .ensures))
-    (after (c .answer .result) t′) (c .answer .ensures t′)
+    (after (c .answer-at .result) t′) (c .answer-at .ensures t′)
 
 pub merge-from-spec : {M : Type 1} → statement M
 merge-from-spec =
@@ -73,7 +66,7 @@ merge-from-spec =
     cast-count-standing-2
     count-standing-requires-2
     counts-of-requires
-    answer-requires
+    answer-at-requires
     same-length
     same-length-2
     returns)

@@ -2,14 +2,10 @@
 use mathlib.Core.Path.{_∙_}
 use mathlib.Core.List.{[]}
 use Rattle.tables.specs.Tables.{tables}
-use Rattle.merge.proofs.Calling.{opens-clash, opens-ready, opens-visits}
+use Rattle.merge.proofs.Calling.{opens-clash, opens-resumable, opens-visits}
 use borrow.Author.Needs.{needs}
 use Rattle.merge.proofs.merge_open.Statement.{statement}
 use Rattle.merge.proofs.merge_open.Tie as tie
-use Rattle.merge.proofs.merge_open.Reads as reads
-use Rattle.merge.proofs.merge_open.Lts as lts
-use Rattle.merge.proofs.merge_classes.Reads as merge-classes-reads
-use Rattle.merge.proofs.merge_from.Reads as merge-from-reads
 
 merge-classes-requires : tie.Need-merge-classes-requires
 merge-classes-requires c κs = search needs
@@ -34,7 +30,7 @@ returns c = λ times links. rw (c .marked .ensures) (let a = c .before .before .
 merge-from-requires : tie.Need-merge-from-requires
 merge-from-requires c κs = let a = c .before .before .before .before .before .before .before .before .before .before .args in
     let o = c .before .before .before .before .before .merge-classes in
-    opens-ready (a .steps) (a .st) (tables (a .clauses .now) (a .literals .now) (a .variables .now) [] []) (o .result) (o .last .1 .1 .1 .1 .0) (o .ensures .0) (o .ensures .1) (c .before .before .before .if1 .left) (c .before .before .before .before .before .before .before .before .before .before .pre .formed) (c .before .before .before .before .before .before .before .before .before .before .pre .settled [] [])
+    opens-resumable (a .steps) (a .st) (tables (a .clauses .now) (a .literals .now) (a .variables .now) [] []) (o .result) (o .last .1 .1 .1 .1 .0) (o .ensures .0) (o .ensures .1) (c .before .before .before .if1 .left) (c .before .before .before .before .before .before .before .before .before .before .pre .formed) (c .before .before .before .before .before .before .before .before .before .before .pre .settled [] [])
 
 same-length-4 : tie.Need-same-length-4
 same-length-4 c = search needs

@@ -6,10 +6,6 @@ use Rattle.merge.proofs.Calling.{first-refused, first-opens, all-settle
 use borrow.Author.Needs.{needs}
 use Rattle.merge.proofs.merge_settled.Statement.{statement}
 use Rattle.merge.proofs.merge_settled.Tie as tie
-use Rattle.merge.proofs.merge_settled.Reads as reads
-use Rattle.merge.proofs.merge_settled.Lts as lts
-use Rattle.merge.proofs.merge_open.Reads as merge-open-reads
-use Rattle.visits.proofs.first_unsettled.Reads as first-unsettled-reads
 
 cast-n : tie.Need-cast-n
 cast-n c = search needs

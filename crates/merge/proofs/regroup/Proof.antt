@@ -11,10 +11,6 @@ use mir.Facts.{toZ-ofZ}
 use borrow.Author.Needs.{needs, sfits-of}
 use Rattle.merge.proofs.regroup.Statement.{statement}
 use Rattle.merge.proofs.regroup.Tie as tie
-use Rattle.merge.proofs.regroup.Reads as reads
-use Rattle.merge.proofs.regroup.Lts as lts
-use Rattle.literal.proofs.lit_at.Reads as lit-at-reads
-use Rattle.literal.proofs.slot_of.Reads as slot-of-reads
 
 abbrev Inv-loop : tie.InvT-loop
 Inv-loop variables₀ rep v w₀ variables w = Regrouping rep v variables₀ variables w

@@ -13,11 +13,6 @@ use lib.ListN.{length}
 use borrow.Author.Needs.{needs}
 use Rattle.merge.proofs.regroup_by.Statement.{statement}
 use Rattle.merge.proofs.regroup_by.Tie as tie
-use Rattle.merge.proofs.regroup_by.Reads as reads
-use Rattle.merge.proofs.regroup_by.Lts as lts
-use Rattle.table_graph.proofs.representatives.Reads as representatives-reads
-use Rattle.scc.proofs.has_clash.Reads as has-clash-reads
-use Rattle.merge.proofs.regroup.Reads as regroup-reads
 
 -- once the representatives are found
 module _ (c : tie.After-representatives) where

@@ -11,10 +11,6 @@ use Rattle.merge.proofs.Scanning.{unseen, sifting-stays, sifting-goes, 
 use borrow.Author.Needs.{needs}
 use Rattle.merge.proofs.remove_repeats.Statement.{statement}
 use Rattle.merge.proofs.remove_repeats.Tie as tie
-use Rattle.merge.proofs.remove_repeats.Reads as reads
-use Rattle.merge.proofs.remove_repeats.Lts as lts
-use Rattle.literal.proofs.contains.Reads as contains-reads
-use Rattle.literal.proofs.zero_from.Reads as zero-from-reads
 
 abbrev Inv-loop : tie.InvT-loop
 Inv-loop part₀ n₀ i₀ part n i = Compact unseen part₀ part n i

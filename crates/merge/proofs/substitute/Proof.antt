@@ -11,9 +11,6 @@ use Rattle.merge.proofs.Scanning.{Putting, putting-none, putting-next, 
 use borrow.Author.Needs.{needs}
 use Rattle.merge.proofs.substitute.Statement.{statement}
 use Rattle.merge.proofs.substitute.Tie as tie
-use Rattle.merge.proofs.substitute.Reads as reads
-use Rattle.merge.proofs.substitute.Lts as lts
-use Rattle.visits.proofs.class_literal.Reads as class-literal-reads
 
 abbrev Inv-loop : tie.InvT-loop
 Inv-loop part₀ variables i₀ part i = Putting variables part₀ part i

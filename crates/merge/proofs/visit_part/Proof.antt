@@ -6,12 +6,6 @@ use Rattle.merge.proofs.Parting.{part-front, part-count, part-small, pa
 use borrow.Author.Needs.{needs}
 use Rattle.merge.proofs.visit_part.Statement.{statement}
 use Rattle.merge.proofs.visit_part.Tie as tie
-use Rattle.merge.proofs.visit_part.Reads as reads
-use Rattle.merge.proofs.visit_part.Lts as lts
-use Rattle.literal.proofs.zero_from.Reads as zero-from-reads
-use Rattle.merge.proofs.has_both.Reads as has-both-reads
-use Rattle.merge.proofs.remove_repeats.Reads as remove-repeats-reads
-use Rattle.merge.proofs.substitute.Reads as substitute-reads
 
 substitute-requires : tie.Need-substitute-requires
 substitute-requires c κs = search needs

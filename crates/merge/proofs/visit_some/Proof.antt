@@ -1,13 +1,13 @@
 -- `merge::visit_some` meets its contract. Assumes nothing.
 use Prim.Native.Nat.{_-_}
 use native.Mathlib.Omega.{arith}
+use Rattle.tables.specs.Tables.{tables}
+use Rattle.visits.proofs.Composing.{visit-tables}
+use Rattle.merge.specs.Merge.{mergeClause}
 use Rattle.merge.proofs.Passing.{Passing, passing-none, passing-one, passing-next, passing-done}
 use borrow.Author.Needs.{needs}
 use Rattle.merge.proofs.visit_some.Statement.{statement}
 use Rattle.merge.proofs.visit_some.Tie as tie
-use Rattle.merge.proofs.visit_some.Reads as reads
-use Rattle.merge.proofs.visit_some.Lts as lts
-use Rattle.merge.proofs.visit_clause.Reads as visit-clause-reads
 
 abbrev Inv-loop : tie.InvT-loop
 Inv-loop clauses₀ literals₀ variables k end i₀ clauses literals i = Passing i₀ end i variables clauses₀ literals₀ clauses literals
@@ -31,8 +31,9 @@ loop-less : tie.Need-loop-less Inv-loop μ-loop
 loop-less c = omega arith
 
 loop-again : tie.Need-loop-again Inv-loop μ-loop
-loop-again c = let v = c .before .before .before .visit-clause in
-    passing-next (c .before .before .before .before .before .before .before .loop .inv) (c .before .before .before .before .before .before .loop-test .taken) (v .last .0) (v .last .1 .0) (v .ensures) (v .kept .0) (v .kept .1 .0)
+loop-again c = let v = c .before .before .before .visit-clause in let l = c .before .before .before .before .before .before .before .loop in let w = c .before .before .before .before .before .before .before .before .before .args .variables .now in
+    passing-next (l .inv) (c .before .before .before .before .before .before .loop-test .taken) (v .last .0) (v .last .1 .0)
+    (λ times links. visit-tables (mergeClause w) (l .i) (tables (l .clauses) (l .literals) w times links) (v .ensures times links)) (v .kept .0) (v .kept .1 .0)
 
 same-length : tie.Need-same-length Inv-loop μ-loop
 same-length c = c .before .loop .inv .sizes .0

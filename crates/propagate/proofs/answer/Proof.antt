@@ -2,8 +2,6 @@
 use borrow.Author.Needs.{needs}
 use Rattle.propagate.proofs.answer.Statement.{statement}
 use Rattle.propagate.proofs.answer.Tie as tie
-use Rattle.propagate.proofs.answer.Reads as reads
-use Rattle.propagate.proofs.answer.Lts as lts
 
 enum-known-stand : tie.Need-enum-known-stand
 enum-known-stand c = search needs

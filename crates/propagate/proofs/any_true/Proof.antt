@@ -12,9 +12,6 @@ use Rattle.visits.proofs.Searching.{rest-hit, rest-miss, rest-none}
 use borrow.Author.Needs.{needs}
 use Rattle.propagate.proofs.any_true.Statement.{statement}
 use Rattle.propagate.proofs.any_true.Tie as tie
-use Rattle.propagate.proofs.any_true.Reads as reads
-use Rattle.propagate.proofs.any_true.Lts as lts
-use Rattle.visits.proofs.is_true.Reads as is-true-reads
 
 abbrev Inv-loop : tie.InvT-loop
 Inv-loop part variables i₀ i = (i ≤ length part) × (any (isTrue variables) (drop i part) ≡ any (isTrue variables) part)

@@ -3,8 +3,6 @@ use Rattle.propagate.proofs.Stepping.{onward-more, onward-again, onward
 -- `propagate::onward` meets its contract. Assumes nothing.
 use Rattle.propagate.proofs.onward.Statement.{statement}
 use Rattle.propagate.proofs.onward.Tie as tie
-use Rattle.propagate.proofs.onward.Reads as reads
-use Rattle.propagate.proofs.onward.Lts as lts
 
 returns : tie.Need-returns
 returns c = onward-more (c .before .args .n) (c .before .args .k) (c .before .args .changed) (c .if1 .taken)

@@ -8,10 +8,6 @@ use Rattle.propagate.proofs.Calling.{none-replied, begin-some}
 use borrow.Author.Needs.{needs}
 use Rattle.propagate.proofs.open_pass.Statement.{statement}
 use Rattle.propagate.proofs.open_pass.Tie as tie
-use Rattle.propagate.proofs.open_pass.Reads as reads
-use Rattle.propagate.proofs.open_pass.Lts as lts
-use Rattle.propagate.proofs.answer.Reads as answer-reads
-use Rattle.propagate.proofs.propagate_from.Reads as propagate-from-reads
 
 answer-requires : tie.Need-answer-requires
 answer-requires c κs = search needs

@@ -1,15 +1,10 @@
 -- `propagate::propagate` meets its contract: the call is its definition. Assumes nothing.
 use mathlib.Core.Path.{sym, _∙_}
 use Rattle.tables.specs.Tables.{Tables, tables}
-use Rattle.propagate.proofs.Calling.{call-refused, call-opens, call-resumes, opens-formed, resumes-ready}
+use Rattle.propagate.proofs.Calling.{call-refused, call-opens, call-resumes, opens-formed, resumes-before}
 use borrow.Author.Needs.{needs}
 use Rattle.propagate.proofs.propagate.Statement.{statement}
 use Rattle.propagate.proofs.propagate.Tie as tie
-use Rattle.propagate.proofs.propagate.Reads as reads
-use Rattle.propagate.proofs.propagate.Lts as lts
-use Rattle.entry.proofs.entry_of.Reads as entry-of-reads
-use Rattle.propagate.proofs.open_pass.Reads as open-pass-reads
-use Rattle.propagate.proofs.propagate_from.Reads as propagate-from-reads
 
 -- the tables as they are lent
 abbrev lent : tie.Start → Tables
@@ -31,7 +26,7 @@ enum-known-entry-2 : tie.Need-enum-known-entry-2
 enum-known-entry-2 c = search needs
 
 propagate-from-requires : tie.Need-propagate-from-requires
-propagate-from-requires c κs = let s = c .before .before .before .before .before .before .before .before .before .before .before .before in let e = c .before .before .before .before .entry2 .given in resumes-ready (s .args .n) (lent s) (s .args .st) (e .0 .0) (e .0 .1 .0) (sym (c .before .before .before .before .before .before .entry-of .ensures) ∙ e .1)
+propagate-from-requires c κs = let s = c .before .before .before .before .before .before .before .before .before .before .before .before in let e = c .before .before .before .before .entry2 .given in resumes-before (s .args .n) (lent s) (s .args .st) (e .0 .0) (e .0 .1 .0) (sym (c .before .before .before .before .before .before .entry-of .ensures) ∙ e .1)
 
 same-length : tie.Need-same-length
 same-length c = search needs

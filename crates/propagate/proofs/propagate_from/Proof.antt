@@ -7,12 +7,6 @@ use Rattle.propagate.proofs.Answering.{replied-is, reach-counted}
 use borrow.Author.Needs.{needs}
 use Rattle.propagate.proofs.propagate_from.Statement.{statement}
 use Rattle.propagate.proofs.propagate_from.Tie as tie
-use Rattle.propagate.proofs.propagate_from.Reads as reads
-use Rattle.propagate.proofs.propagate_from.Lts as lts
-use Rattle.visits.proofs.count_standing.Reads as count-standing-reads
-use Rattle.visits.proofs.counts_of.Reads as counts-of-reads
-use Rattle.propagate.proofs.answer.Reads as answer-reads
-use Rattle.propagate.proofs.visit_some.Reads as visit-some-reads
 
 cast-count-standing : tie.Need-cast-count-standing
 cast-count-standing c = search needs

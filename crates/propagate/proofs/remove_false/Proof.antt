@@ -17,10 +17,6 @@ use Rattle.propagate.proofs.Scanning.{Moving, moving-none, moving-stays
 use borrow.Author.Needs.{needs}
 use Rattle.propagate.proofs.remove_false.Statement.{statement}
 use Rattle.propagate.proofs.remove_false.Tie as tie
-use Rattle.propagate.proofs.remove_false.Reads as reads
-use Rattle.propagate.proofs.remove_false.Lts as lts
-use Rattle.visits.proofs.is_false.Reads as is-false-reads
-use Rattle.literal.proofs.zero_from.Reads as zero-from-reads
 
 abbrev Inv-loop : tie.InvT-loop
 Inv-loop part₀ variables n₀ i₀ part n i = Moving variables part₀ part n i

@@ -2,10 +2,6 @@
 use borrow.Author.Needs.{needs}
 use Rattle.propagate.proofs.skip.Statement.{statement}
 use Rattle.propagate.proofs.skip.Tie as tie
-use Rattle.propagate.proofs.skip.Reads as reads
-use Rattle.propagate.proofs.skip.Lts as lts
-use Rattle.visits.proofs.fewer.Reads as fewer-reads
-use Rattle.propagate.proofs.onward.Reads as onward-reads
 
 fewer-requires : tie.Need-fewer-requires
 fewer-requires c κs = search needs

@@ -1,19 +1,13 @@
 -- `propagate::skip_or_visit` meets its contract. Assumes nothing.
-use mathlib.Core.Path.{_≡_, refl, ap, _∙_}
+use mathlib.Core.Path.{ap, _∙_}
 use mathlib.Core.List.{[]}
 use Rattle.tables.specs.Tables.{Tables, tables, lengthOf}
 use Rattle.propagate.specs.Steps.{standAfter}
-use Rattle.propagate.specs.declared.Visited.{Visited}
+use Rattle.visits.specs.declared.Visited.{Visited}
 use Rattle.propagate.proofs.Skipping.{contradicted-stand, relisted, advanced-skip, advanced-visit}
 use borrow.Author.Needs.{needs}
 use Rattle.propagate.proofs.skip_or_visit.Statement.{statement}
 use Rattle.propagate.proofs.skip_or_visit.Tie as tie
-use Rattle.propagate.proofs.skip_or_visit.Reads as reads
-use Rattle.propagate.proofs.skip_or_visit.Lts as lts
-use Rattle.occurrences.proofs.next_pending.Reads as next-pending-reads
-use Rattle.propagate.proofs.skip.Reads as skip-reads
-use Rattle.propagate.proofs.stand_after.Reads as stand-after-reads
-use Rattle.propagate.proofs.visit_pending.Reads as visit-pending-reads
 
 abbrev empty : Tables
 empty = tables [] [] [] [] []

@@ -1,20 +1,16 @@
 -- `propagate::stand_after` meets its contract. Assumes nothing.
 use Prim.Native.Nat.{ℕ, suc, _+_}
 use native.Mathlib.Numerals.{add-one}
-use mathlib.Core.Path.{_≡_, refl, sym, ap, _∙_}
+use mathlib.Core.Path.{_≡_, sym, ap, _∙_}
 use mathlib.Core.Bool.{Bool, true, _||_}
 use lib.Dec.{ltb}
 use Rattle.tables.specs.Tables.{Tables}
 use Rattle.propagate.specs.Propagate.{onward}
 use Rattle.propagate.specs.Steps.{standAfter}
-use Rattle.propagate.specs.declared.Visited.{Visited}
+use Rattle.visits.specs.declared.Visited.{Visited}
 use borrow.Author.Needs.{needs}
 use Rattle.propagate.proofs.stand_after.Statement.{statement}
 use Rattle.propagate.proofs.stand_after.Tie as tie
-use Rattle.propagate.proofs.stand_after.Reads as reads
-use Rattle.propagate.proofs.stand_after.Lts as lts
-use Rattle.base.proofs.either.Reads as either-reads
-use Rattle.propagate.proofs.onward.Reads as onward-reads
 
 -- the code's next clause is k + 1
 next : (n k : ℕ) (b : Bool) (t : Tables) → onward n (k + 1) b t ≡ onward n (suc k) b t

@@ -1,14 +1,10 @@
 -- `propagate::step` meets its contract. Assumes nothing.
-use mathlib.Core.Path.{_≡_, _∙_}
+use mathlib.Core.Path.{_∙_}
 use Rattle.tables.specs.Tables.{tables}
-use Rattle.propagate.proofs.Stepping.{visit-stands}
+use Rattle.propagate.proofs.Stepping.{visit-stands, before-visitable}
 use borrow.Author.Needs.{needs}
 use Rattle.propagate.proofs.step.Statement.{statement}
 use Rattle.propagate.proofs.step.Tie as tie
-use Rattle.propagate.proofs.step.Reads as reads
-use Rattle.propagate.proofs.step.Lts as lts
-use Rattle.propagate.proofs.stand_after.Reads as stand-after-reads
-use Rattle.propagate.proofs.visit_clause.Reads as visit-clause-reads
 
 mul-size : tie.Need-mul-size
 mul-size c = search needs
@@ -23,7 +19,7 @@ slice-read-size : tie.Need-slice-read-size
 slice-read-size c = search needs
 
 visit-clause-requires : tie.Need-visit-clause-requires
-visit-clause-requires c κs = search needs
+visit-clause-requires c κs = before-visitable (c .before .before .before .before .before .pre)
 
 stand-after-requires : tie.Need-stand-after-requires
 stand-after-requires c κs = search needs

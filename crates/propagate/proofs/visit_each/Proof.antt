@@ -12,9 +12,6 @@ use Rattle.propagate.proofs.Skipping.{advanced-one, advanced-goes, adva
 use borrow.Author.Needs.{needs}
 use Rattle.propagate.proofs.visit_each.Statement.{statement}
 use Rattle.propagate.proofs.visit_each.Tie as tie
-use Rattle.propagate.proofs.visit_each.Reads as reads
-use Rattle.propagate.proofs.visit_each.Lts as lts
-use Rattle.propagate.proofs.step.Reads as step-reads
 
 abbrev Inv-loop : tie.InvT-loop
 Inv-loop clauses₀ literals₀ variables₀ n steps cursor flag visits₀ k₀ changed₀ clauses literals variables visits k changed = Making n steps visits k changed k₀ changed₀ clauses₀ literals₀ variables₀ clauses literals variables
@@ -24,7 +21,7 @@ abbrev μ-loop : tie.MeasureT-loop
 
 -- the step is one visit
 one : (c : tie.After-step Inv-loop μ-loop) → Advanced (c .before .before .before .before .before .before .before .args .n) (c .before .before .before .before .before .before .before .args .steps - c .before .before .before .before .before .loop .visits) (c .before .before .before .before .before .loop .k) (c .before .before .before .before .before .loop .changed) (record { visits = 1; stand = c .step .result }) (c .before .before .before .before .before .loop .clauses) (c .before .before .before .before .before .loop .literals) (c .before .before .before .before .before .loop .variables) (c .step .last .0) (c .step .last .1 .0) (c .step .last .1 .1 .0)
-one c = advanced-one (c .before .before .before .before .before .loop .changed) (c .before .before .before .before .before .loop .inv .ready) (omega (arith, c .before .before .before .before .loop-test .taken)) (c .step .result) (c .step .last .0) (c .step .last .1 .0) (c .step .last .1 .1 .0) (c .step .ensures)
+one c = advanced-one (c .before .before .before .before .before .loop .changed) (c .before .before .before .before .before .loop .inv .stands) (omega (arith, c .before .before .before .before .loop-test .taken)) (c .step .result) (c .step .last .0) (c .step .last .1 .0) (c .step .last .1 .1 .0) (c .step .ensures)
 
 -- a pass that does not go on has ended
 ended : (c : tie.At-match-keys2 Inv-loop μ-loop) (s : Stand) → c .before .before .before .before .before .step .result ≡ s → Ended s
@@ -36,7 +33,7 @@ loop-holds : tie.Need-loop-holds Inv-loop μ-loop
 loop-holds c = making-none (c .before .pre) (c .before .args .steps) (c .before .args .flag)
 
 step-requires : tie.Need-step-requires Inv-loop μ-loop
-step-requires c κs = c .before .before .before .before .loop .inv .ready
+step-requires c κs = c .before .before .before .before .loop .inv .stands
 
 add-visits : tie.Need-add-visits Inv-loop μ-loop
 add-visits c = search needs

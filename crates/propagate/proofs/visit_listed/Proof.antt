@@ -6,10 +6,6 @@ use Rattle.propagate.proofs.Listing.{linkable, linking-start, listed-st
 use borrow.Author.Needs.{needs}
 use Rattle.propagate.proofs.visit_listed.Statement.{statement}
 use Rattle.propagate.proofs.visit_listed.Tie as tie
-use Rattle.propagate.proofs.visit_listed.Reads as reads
-use Rattle.propagate.proofs.visit_listed.Lts as lts
-use Rattle.occurrences.proofs.link.Reads as link-reads
-use Rattle.propagate.proofs.visit_skipping.Reads as visit-skipping-reads
 
 slice-aggregate-link : tie.Need-slice-aggregate-link
 slice-aggregate-link c = search needs

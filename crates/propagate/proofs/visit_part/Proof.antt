@@ -8,17 +8,10 @@ use Rattle.base.specs.Lists.{any}
 use Rattle.literal.proofs.Signed.{read}
 use Rattle.tables.specs.Values.{isTrue}
 use Rattle.propagate.proofs.Parting.{part-dropped, part-conflict, part-unit, part-left, part-count, part-room, unit-known}
-use Rattle.literal.proofs.var_of.Reads as var-of-reads
 use Rattle.visits.proofs.Known.{known-small}
 use borrow.Author.Needs.{needs}
 use Rattle.propagate.proofs.visit_part.Statement.{statement}
 use Rattle.propagate.proofs.visit_part.Tie as tie
-use Rattle.propagate.proofs.visit_part.Reads as reads
-use Rattle.propagate.proofs.visit_part.Lts as lts
-use Rattle.visits.proofs.set_true.Reads as set-true-reads
-use Rattle.literal.proofs.zero_from.Reads as zero-from-reads
-use Rattle.propagate.proofs.any_true.Reads as any-true-reads
-use Rattle.propagate.proofs.remove_false.Reads as remove-false-reads
 
 -- no literal is true
 untrue : (c : tie.After-remove-false) → any (isTrue (c .before .before .before .before .before .before .before .args .variables .now)) (c .before .before .before .before .before .before .before .args .part .now) ≡ false

@@ -7,24 +7,21 @@ use mathlib.Core.Logic.{⊎-elim}
 use mathlib.Core.List.{[]}
 use lib.ListN.{length-set}
 use Rattle.tables.specs.Tables.{tables}
-use Rattle.propagate.specs.Visits.{visitOf}
-use Rattle.propagate.specs.declared.Visited.{Visited}
-use Rattle.propagate.specs.declared.Visited.the-variants.{Unit1}
+use Rattle.visits.specs.Visited.{visitOf}
+use Rattle.visits.specs.declared.Visited.{Visited}
+use Rattle.visits.specs.declared.Visited.the-variants.{MadeTrue}
 use Rattle.propagate.proofs.Listing.{listed-plain, has-chain-unit, listed-unit}
+use Rattle.propagate.proofs.Stepping.{before-visitable}
 use borrow.Author.Needs.{needs}
 use Rattle.propagate.proofs.visit_pending.Statement.{statement}
 use Rattle.propagate.proofs.visit_pending.Tie as tie
-use Rattle.propagate.proofs.visit_pending.Reads as reads
-use Rattle.propagate.proofs.visit_pending.Lts as lts
-use Rattle.occurrences.proofs.set_pending.Reads as set-pending-reads
-use Rattle.propagate.proofs.visit_clause.Reads as visit-clause-reads
 
 -- a visit that answers another variant sets no value
-not-unit : (c : tie.At-match-keys2) (y : ℕ) → c .before .before .before .before .before .visit-clause .result ≡ Unit1 y → ⊥
+not-unit : (c : tie.At-match-keys2) (y : ℕ) → c .before .before .before .before .before .visit-clause .result ≡ MadeTrue y → ⊥
 not-unit c y e = ⊎-elim (λ z. omega arith) (⊎-elim (λ z. omega arith) (⊎-elim (λ z. omega arith) (λ z. omega arith))) (rw e at (c .match .keys2))
 
 visit-clause-requires : tie.Need-visit-clause-requires
-visit-clause-requires c κs = search needs
+visit-clause-requires c κs = before-visitable (c .before .before .before .before .before .before .before .before .pre .0)
 
 slice-write-pending : tie.Need-slice-write-pending
 slice-write-pending c = search needs

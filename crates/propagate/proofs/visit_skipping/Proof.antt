@@ -14,9 +14,6 @@ use Rattle.propagate.proofs.Skipping.{advanced-goes, advanced-ends}
 use borrow.Author.Needs.{needs}
 use Rattle.propagate.proofs.visit_skipping.Statement.{statement}
 use Rattle.propagate.proofs.visit_skipping.Tie as tie
-use Rattle.propagate.proofs.visit_skipping.Reads as reads
-use Rattle.propagate.proofs.visit_skipping.Lts as lts
-use Rattle.propagate.proofs.skip_or_visit.Reads as skip-or-visit-reads
 
 abbrev Inv-loop : tie.InvT-loop
 Inv-loop clauses₀ literals₀ variables₀ heads places pending₀ blocks₀ n steps cursor flag visits₀ k₀ changed₀ clauses literals variables pending blocks visits k changed = Making n steps visits k changed k₀ changed₀ clauses₀ literals₀ variables₀ clauses literals variables × (Listed n heads places pending blocks clauses literals variables × ((length pending ≡ length pending₀) × (length blocks ≡ length blocks₀)))
@@ -41,7 +38,7 @@ sub-room : tie.Need-sub-room Inv-loop μ-loop
 sub-room c = search needs
 
 skip-or-visit-requires : tie.Need-skip-or-visit-requires Inv-loop μ-loop
-skip-or-visit-requires c κs = (c .before .before .before .before .before .before .loop .inv .0 .ready, (c .before .before .before .before .before .before .loop .inv .1 .0, omega arith))
+skip-or-visit-requires c κs = (c .before .before .before .before .before .before .loop .inv .0 .stands, (c .before .before .before .before .before .before .loop .inv .1 .0, omega arith))
 
 add-visits : tie.Need-add-visits Inv-loop μ-loop
 add-visits c = omega (arith, c .before .before .before .before .before .before .before .before .before .skip-or-visit .ensures .0 .made)

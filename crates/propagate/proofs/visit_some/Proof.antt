@@ -5,15 +5,10 @@ use mathlib.Core.Logic.{⊎-elim}
 use Rattle.propagate.specs.declared.Stand.{Stand}
 use Rattle.propagate.specs.declared.Stand.the-variants.{Going, Settled, Contradicted}
 use Rattle.propagate.proofs.Splitting.{Ended}
-use Rattle.propagate.proofs.Skipping.{first-few, first-all, first-ended, second-ready, second-few, both-parts}
+use Rattle.propagate.proofs.Skipping.{first-few, first-all, first-ended, second-before, second-few, both-parts}
 use borrow.Author.Needs.{needs}
 use Rattle.propagate.proofs.visit_some.Statement.{statement}
 use Rattle.propagate.proofs.visit_some.Tie as tie
-use Rattle.propagate.proofs.visit_some.Reads as reads
-use Rattle.propagate.proofs.visit_some.Lts as lts
-use Rattle.visits.proofs.fewer.Reads as fewer-reads
-use Rattle.propagate.proofs.visit_each.Reads as visit-each-reads
-use Rattle.propagate.proofs.visit_listed.Reads as visit-listed-reads
 
 -- a pass that does not go on has ended
 ended : (c : tie.At-match-keys2) (s : Stand) → c .before .before .before .before .before .visit-each .result .stand ≡ s → Ended s
@@ -61,7 +56,7 @@ sub-visit-listed : tie.Need-sub-visit-listed
 sub-visit-listed c = search needs
 
 visit-listed-requires : tie.Need-visit-listed-requires
-visit-listed-requires c κs = second-ready (c .before .before .before .before .before .before .before .before .before .before .before .before .before .before .before .before .before .pre) (c .before .before .before .before .before .before .before .before .before .before .before .before .before .before .before .before .before .args .flag) (c .before .before .before .before .before .before .before .before .before .before .before .before .before .before .before .before .before .args .steps) (c .before .before .before .before .before .before .before .before .before .before .before .before .before .before .before .fewer .result) (c .before .before .before .before .before .before .before .before .before .before .before .before .before .before .before .fewer .ensures .1) (c .before .before .before .before .before .before .before .before .before .before .before .visit-each .result) (c .before .before .before .before .before .before .before .before .before .before .before .visit-each .last .0) (c .before .before .before .before .before .before .before .before .before .before .before .visit-each .last .1 .0) (c .before .before .before .before .before .before .before .before .before .before .before .visit-each .last .1 .1 .0) (c .before .before .before .before .before .before .before .before .before .before .before .visit-each .ensures) (c .before .before .before .before .before .stand .given .0 .0) (c .before .before .before .before .before .stand .given .0 .1 .0) (c .before .before .before .before .before .stand .given .1)
+visit-listed-requires c κs = second-before (c .before .before .before .before .before .before .before .before .before .before .before .before .before .before .before .before .before .pre) (c .before .before .before .before .before .before .before .before .before .before .before .before .before .before .before .before .before .args .flag) (c .before .before .before .before .before .before .before .before .before .before .before .before .before .before .before .before .before .args .steps) (c .before .before .before .before .before .before .before .before .before .before .before .before .before .before .before .fewer .result) (c .before .before .before .before .before .before .before .before .before .before .before .before .before .before .before .fewer .ensures .1) (c .before .before .before .before .before .before .before .before .before .before .before .visit-each .result) (c .before .before .before .before .before .before .before .before .before .before .before .visit-each .last .0) (c .before .before .before .before .before .before .before .before .before .before .before .visit-each .last .1 .0) (c .before .before .before .before .before .before .before .before .before .before .before .visit-each .last .1 .1 .0) (c .before .before .before .before .before .before .before .before .before .before .before .visit-each .ensures) (c .before .before .before .before .before .stand .given .0 .0) (c .before .before .before .before .before .stand .given .0 .1 .0) (c .before .before .before .before .before .stand .given .1)
 
 add-t15 : tie.Need-add-t15
 add-t15 c = omega (arith, c .before .before .before .before .before .before .before .before .before .before .before .before .before .before .before .before .before .before .before .before .before .before .before .before .fits .steps, first-few (c .before .before .before .before .before .before .before .before .before .before .before .before .before .before .before .before .before .before .before .before .before .before .before .before .pre) (c .before .before .before .before .before .before .before .before .before .before .before .before .before .before .before .before .before .before .before .before .before .before .before .before .args .flag) (c .before .before .before .before .before .before .before .before .before .before .before .before .before .before .before .before .before .before .before .before .before .before .before .before .args .steps) (c .before .before .before .before .before .before .before .before .before .before .before .before .before .before .before .before .before .before .before .before .before .before .fewer .result) (c .before .before .before .before .before .before .before .before .before .before .before .before .before .before .before .before .before .before .before .before .before .before .fewer .ensures .1) (c .before .before .before .before .before .before .before .before .before .before .before .before .before .before .before .before .before .before .visit-each .result) (c .before .before .before .before .before .before .before .before .before .before .before .before .before .before .before .before .before .before .visit-each .last .0) (c .before .before .before .before .before .before .before .before .before .before .before .before .before .before .before .before .before .before .visit-each .last .1 .0) (c .before .before .before .before .before .before .before .before .before .before .before .before .before .before .before .before .before .before .visit-each .last .1 .1 .0) (c .before .before .before .before .before .before .before .before .before .before .before .before .before .before .before .before .before .before .visit-each .ensures), second-few (c .before .before .before .before .before .before .before .before .before .before .before .before .before .before .before .before .before .before .before .before .before .before .before .before .pre) (c .before .before .before .before .before .before .before .before .before .before .before .before .before .before .before .before .before .before .before .before .before .before .before .before .args .flag) (c .before .before .before .before .before .before .before .before .before .before .before .before .before .before .before .before .before .before .before .before .before .before .before .before .args .steps) (c .before .before .before .before .before .before .before .before .before .before .before .before .before .before .before .before .before .before .before .before .before .before .fewer .result) (c .before .before .before .before .before .before .before .before .before .before .before .before .before .before .before .before .before .before .before .before .before .before .fewer .ensures .1) (c .before .before .before .before .before .before .before .before .before .before .before .before .before .before .before .before .before .before .visit-each .result) (c .before .before .before .before .before .before .before .before .before .before .before .before .before .before .before .before .before .before .visit-each .last .0) (c .before .before .before .before .before .before .before .before .before .before .before .before .before .before .before .before .before .before .visit-each .last .1 .0) (c .before .before .before .before .before .before .before .before .before .before .before .before .before .before .before .before .before .before .visit-each .last .1 .1 .0) (c .before .before .before .before .before .before .before .before .before .before .before .before .before .before .before .before .before .before .visit-each .ensures) (c .before .before .before .before .before .before .before .before .before .before .before .before .stand .given .0 .0) (c .before .before .before .before .before .before .before .before .before .before .before .before .stand .given .0 .1 .0) (c .before .before .before .before .before .before .before .before .before .before .before .before .stand .given .1) (c .before .before .before .before .before .before .visit-listed .result) (c .before .before .before .before .before .before .visit-listed .last .0) (c .before .before .before .before .before .before .visit-listed .last .1 .0) (c .before .before .before .before .before .before .visit-listed .last .1 .1 .0) (c .before .before .before .before .before .before .visit-listed .ensures), c .before .before .before .before .before .before .before .before .before .before .before .before .before .before .before .before .before .before .before .before .before .before .fewer .ensures .1)

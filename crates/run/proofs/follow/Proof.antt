@@ -3,7 +3,7 @@ use mathlib.Core.Path.{_∙_}
 use Rattle.tables.specs.Tables.{tables}
 use Rattle.settle.specs.Settle.{Standing}
 use Rattle.settle.specs.Steps.{standingIn}
-use Rattle.run.proofs.Running.{runs-formed, runs-callable, runs-ready, code-settle, code-stamp, code-failed, code-sweep, code-none}
+use Rattle.run.proofs.Running.{runs-formed, runs-callable, runs-sweepable, code-settle, code-stamp, code-failed, code-sweep, code-none}
 use borrow.Author.Needs.{needs}
 use Rattle.run.proofs.follow.Statement.{statement}
 use Rattle.run.proofs.follow.Tie as tie
@@ -64,7 +64,7 @@ returns-3 : tie.Need-returns-3
 returns-3 c = let a = c .before .before .before .before .before .before .before .before .before .before .args in c .before .follow-failed .ensures (a .clauses .now) (a .literals .now) ∙ code-failed (a .k) (a .code) (lent (c .before .before .before .before .before .before .before .before .before .before)) (c .before .before .before .before .before .before .before .if1 .left) (c .before .before .before .before .before .before .if2 .left) (c .before .before .before .before .before .if3 .taken)
 
 follow-sweep-requires : tie.Need-follow-sweep-requires
-follow-sweep-requires c κs = runs-ready (c .before .before .before .before .before .before .before .before .before .before .pre)
+follow-sweep-requires c κs = runs-sweepable (c .before .before .before .before .before .before .before .before .before .before .pre)
 
 same-length-12 : tie.Need-same-length-12
 same-length-12 c = search needs

@@ -5,14 +5,10 @@ use Rattle.tables.specs.Tables.{Tables, tables}
 use Rattle.entry.specs.declared.PassName.the-variants as own
 use Rattle.entry.proofs.Entering.{opens-entered, resumes-entered}
 use Rattle.visits.proofs.Entered.{entered-cursor}
-use Rattle.sweep.proofs.Entering.{entered-ready, call-refused, call-opens, call-resumes}
+use Rattle.sweep.proofs.Entering.{entered-sweepable, call-refused, call-opens, call-resumes}
 use borrow.Author.Needs.{needs}
 use Rattle.sweep.proofs.sweep.Statement.{statement}
 use Rattle.sweep.proofs.sweep.Tie as tie
-use Rattle.sweep.proofs.sweep.Reads as reads
-use Rattle.sweep.proofs.sweep.Lts as lts
-use Rattle.entry.proofs.entry_of.Reads as entry-of-reads
-use Rattle.sweep.proofs.sweep_entered.Reads as sweep-entered-reads
 
 -- the tables as they are lent
 abbrev lent : tie.Start → Tables
@@ -28,13 +24,13 @@ enum-told : tie.Need-enum-told
 enum-told c = search needs
 
 sweep-entered-requires : tie.Need-sweep-entered-requires
-sweep-entered-requires c κs = let s = c .before .before .before .before .before .before .before .before .before in (entered-ready (opens-entered own.Sweep (lent s) (s .args .st) (sym (c .before .before .before .before .entry-of .ensures) ∙ c .before .before .enum-told .given .1)) tt, omega arith)
+sweep-entered-requires c κs = let s = c .before .before .before .before .before .before .before .before .before in (entered-sweepable (opens-entered own.Sweep (lent s) (s .args .st) (sym (c .before .before .before .before .entry-of .ensures) ∙ c .before .before .enum-told .given .1)) tt, omega arith)
 
 enum-known-e-2 : tie.Need-enum-known-e-2
 enum-known-e-2 c = search needs
 
 sweep-entered-requires-2 : tie.Need-sweep-entered-requires-2
-sweep-entered-requires-2 c κs = let s = c .before .before .before .before .before .before .before .before .before .before in let e = c .before .before .before .e2 .given in let E = resumes-entered own.Sweep (lent s) (s .args .st) (e .0 .0) (e .0 .1 .0) (sym (c .before .before .before .before .before .entry-of .ensures) ∙ e .1) in (entered-ready E tt, omega (arith, entered-cursor E .0))
+sweep-entered-requires-2 c κs = let s = c .before .before .before .before .before .before .before .before .before .before in let e = c .before .before .before .e2 .given in let E = resumes-entered own.Sweep (lent s) (s .args .st) (e .0 .0) (e .0 .1 .0) (sym (c .before .before .before .before .before .entry-of .ensures) ∙ e .1) in (entered-sweepable E tt, omega (arith, entered-cursor E .0))
 
 same-length : tie.Need-same-length
 same-length c = search needs

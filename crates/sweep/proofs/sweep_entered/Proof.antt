@@ -6,9 +6,6 @@ use Rattle.sweep.proofs.Entering.{stale-is, fresh-is}
 use borrow.Author.Needs.{needs}
 use Rattle.sweep.proofs.sweep_entered.Statement.{statement}
 use Rattle.sweep.proofs.sweep_entered.Tie as tie
-use Rattle.sweep.proofs.sweep_entered.Reads as reads
-use Rattle.sweep.proofs.sweep_entered.Lts as lts
-use Rattle.sweep.proofs.sweep_from.Reads as sweep-from-reads
 
 returns : tie.Need-returns
 returns c = λ w. let a = c .before .before .before .before .args in stale-is (a .n) (tables (a .clauses .now) (a .literals .now) w (a .times .now) (a .links .now)) (a .st) (a .cursor) (not-true _ (c .if1 .taken))

@@ -13,13 +13,6 @@ use Prim.Native.Nat.{ℕ, _+_, _-_, _≤_}
 use borrow.Author.Needs.{needs}
 use Rattle.sweep.proofs.sweep_from.Statement.{statement}
 use Rattle.sweep.proofs.sweep_from.Tie as tie
-use Rattle.sweep.proofs.sweep_from.Reads as reads
-use Rattle.sweep.proofs.sweep_from.Lts as lts
-use Rattle.visits.proofs.count_standing.Reads as count-standing-reads
-use Rattle.visits.proofs.counts_of.Reads as counts-of-reads
-use Rattle.sweep.proofs.answer_at.Reads as answer-at-reads
-use Rattle.visits.proofs.fewer.Reads as fewer-reads
-use Rattle.sweep.proofs.sweep_visits.Reads as sweep-visits-reads
 
 -- the room for a clause's slots
 slots-room : 16384 ≤ length {A = ℕ} (replicate 16384 0)
@@ -51,7 +44,7 @@ cast-sweep-visits : tie.Need-cast-sweep-visits
 cast-sweep-visits c = search needs
 
 sweep-visits-requires : tie.Need-sweep-visits-requires
-sweep-visits-requires c κs = (record { number = c .before .before .before .before .before .before .before .before .before .args .st .n; ready = c .before .before .before .before .before .before .before .before .before .pre .0; room = room (c .before .before .before .before) }, slots-room, slots-room)
+sweep-visits-requires c κs = (record { number = c .before .before .before .before .before .before .before .before .before .args .st .n; sweepable = c .before .before .before .before .before .before .before .before .before .pre .0; room = room (c .before .before .before .before) }, slots-room, slots-room)
 
 cast-count-standing-2 : tie.Need-cast-count-standing-2
 cast-count-standing-2 c = search needs
@@ -59,11 +52,11 @@ cast-count-standing-2 c = search needs
 count-standing-requires-2 : tie.Need-count-standing-requires-2
 count-standing-requires-2 c κs = formed-counted (c .before .before .before .before .before .before .sweep-visits .ensures .0 (c .before .before .before .before .before .before .before .before .before .before .before .before .before .before .before .before .args .st .n) (room (c .before .before .before .before .before .before .before .before .before .before .before)) (c .before .before .before .before .before .before .before .before .before .before .before .before .before .before .before .before .pre .0) .formed)
 
-add-answer-at : tie.Need-add-answer-at
-add-answer-at c = search needs
-
 counts-of-requires : tie.Need-counts-of-requires
 counts-of-requires c κs = search needs
+
+add-k : tie.Need-add-k
+add-k c = omega (arith, room (c .before .before .before .before .before .before .before .before .before .before .before .before .before), c .before .before .before .before .before .before .before .before .before .before .before .before .before .before .before .before .before .before .pre .0 .formed .number)
 
 answer-at-requires : tie.Need-answer-at-requires
 answer-at-requires c κs = search needs
@@ -97,8 +90,8 @@ sweep-from-spec =
     sweep-visits-requires
     cast-count-standing-2
     count-standing-requires-2
-    add-answer-at
     counts-of-requires
+    add-k
     answer-at-requires
     same-length
     same-length-2

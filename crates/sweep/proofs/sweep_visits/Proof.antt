@@ -1,15 +1,16 @@
 -- `sweep::sweep_visits` meets its contract. Assumes nothing.
 use Rattle.sweep.proofs.Keeping.{Making, making-none, making-next, making-more, making-done}
+use Rattle.stamps.specs.Columns.{columns}
+use Rattle.tables.specs.Tables.{tables}
+use Rattle.visits.proofs.Composing.{visit-tables}
+use Rattle.sweep.specs.Sweep.{sweepClause}
 use lib.ListN.{length}
 use mathlib.Core.Path.{_≡_, refl, _∙_}
 use native.Mathlib.Omega.{arith}
-use Prim.Native.Nat.{_-_}
+use Prim.Native.Nat.{_+_, _-_}
 use borrow.Author.Needs.{needs}
 use Rattle.sweep.proofs.sweep_visits.Statement.{statement}
 use Rattle.sweep.proofs.sweep_visits.Tie as tie
-use Rattle.sweep.proofs.sweep_visits.Reads as reads
-use Rattle.sweep.proofs.sweep_visits.Lts as lts
-use Rattle.sweep.proofs.visit_clause.Reads as visit-clause-reads
 
 abbrev Inv-loop : tie.InvT-loop
 Inv-loop clauses₀ literals₀ times links slots₀ twins₀ k m i₀ clauses literals slots twins i = Making k m i clauses₀ literals₀ clauses literals times links × (length slots ≡ length slots₀) × (length twins ≡ length twins₀) × (length clauses ≡ length clauses₀) × (length literals ≡ length literals₀)
@@ -33,7 +34,7 @@ loop-less : tie.Need-loop-less Inv-loop μ-loop
 loop-less c = search needs
 
 loop-again : tie.Need-loop-again Inv-loop μ-loop
-loop-again c = let L = c .before .before .before .before .before .before .before .before .before .before .before .before .before .loop .inv in let v = c .before .before .before .before .before .before .before .visit-clause in (making-more (L .0) (c .before .before .before .before .before .before .before .before .before .before .before .before .loop-test .taken) (v .last .0) (v .last .1 .0) (v .ensures), v .kept .1 .1 .1 .1 .0 ∙ L .1, v .kept .1 .1 .1 .1 .1 .0 ∙ L .2, v .kept .0 ∙ L .3, v .kept .1 .0 ∙ L .4)
+loop-again c = let l = c .before .before .before .before .before .before .before .before .before .before .before .before .before .loop in let a = c .before .before .before .before .before .before .before .before .before .before .before .before .before .before .before .before .before .before .args in let L = l .inv in let v = c .before .before .before .before .before .before .before .visit-clause in (making-more (L .0) (c .before .before .before .before .before .before .before .before .before .before .before .before .loop-test .taken) (v .last .0) (v .last .1 .0) (λ w. visit-tables (sweepClause (columns (a .times .now) (a .links .now))) (a .k + l .i) (tables (l .clauses) (l .literals) w (a .times .now) (a .links .now)) (v .ensures w)), v .kept .1 .1 .1 .1 .0 ∙ L .1, v .kept .1 .1 .1 .1 .1 .0 ∙ L .2, v .kept .0 ∙ L .3, v .kept .1 .0 ∙ L .4)
 
 same-length : tie.Need-same-length Inv-loop μ-loop
 same-length c = search needs

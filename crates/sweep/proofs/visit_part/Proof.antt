@@ -8,11 +8,6 @@ use native.Mathlib.Omega.{arith}
 use borrow.Author.Needs.{needs}
 use Rattle.sweep.proofs.visit_part.Statement.{statement}
 use Rattle.sweep.proofs.visit_part.Tie as tie
-use Rattle.sweep.proofs.visit_part.Reads as reads
-use Rattle.sweep.proofs.visit_part.Lts as lts
-use Rattle.hidden_tautologies.proofs.hidden_tautology.Reads as hidden-tautology-reads
-use Rattle.hidden_literals.proofs.shorten_part.Reads as shorten-part-reads
-use Rattle.literal.proofs.zero_from.Reads as zero-from-reads
 
 returns : tie.Need-returns
 returns c = part-short (c .before .before .before .before .args .times .now) (c .before .before .before .before .args .links .now) (c .before .before .before .before .args .part .now) (c .before .before .before .before .args .part .now) (c .if1 .taken)

@@ -12,9 +12,6 @@ use Rattle.visits.proofs.Searching.{rest-hit, rest-miss, rest-none}
 use borrow.Author.Needs.{needs}
 use Rattle.visits.proofs.any_valued.Statement.{statement}
 use Rattle.visits.proofs.any_valued.Tie as tie
-use Rattle.visits.proofs.any_valued.Reads as reads
-use Rattle.visits.proofs.any_valued.Lts as lts
-use Rattle.visits.proofs.is_valued.Reads as is-valued-reads
 
 abbrev Inv-loop : tie.InvT-loop
 Inv-loop part variables i₀ i = (i ≤ length part) × (any (valued variables) (drop i part) ≡ any (valued variables) part)

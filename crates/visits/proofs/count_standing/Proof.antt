@@ -8,8 +8,6 @@ use Rattle.visits.proofs.Counting.{Counting, counting-none, counting-dr
 use borrow.Author.Needs.{needs}
 use Rattle.visits.proofs.count_standing.Statement.{statement}
 use Rattle.visits.proofs.count_standing.Tie as tie
-use Rattle.visits.proofs.count_standing.Reads as reads
-use Rattle.visits.proofs.count_standing.Lts as lts
 
 abbrev Inv-loop : tie.InvT-loop
 Inv-loop clauses n i₀ standing₀ literals₀ i standing literals = Counting n clauses i standing literals

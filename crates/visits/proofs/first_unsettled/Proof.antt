@@ -9,9 +9,6 @@ use Rattle.visits.proofs.Looking.{FoundFrom, found-none, found-here, fo
 use borrow.Author.Needs.{needs}
 use Rattle.visits.proofs.first_unsettled.Statement.{statement}
 use Rattle.visits.proofs.first_unsettled.Tie as tie
-use Rattle.visits.proofs.first_unsettled.Reads as reads
-use Rattle.visits.proofs.first_unsettled.Lts as lts
-use Rattle.visits.proofs.is_unsettled.Reads as is-unsettled-reads
 
 abbrev Inv-loop : tie.InvT-loop
 Inv-loop clauses literals variables n i₀ i = (i ≤ n) × ((times : List ℕ) (links : List ℤ) → FoundFrom (tables clauses literals variables times links) n i)

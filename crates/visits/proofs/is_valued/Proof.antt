@@ -14,9 +14,6 @@ use Rattle.visits.proofs.Known.{known-small, known-place, known-above}
 use borrow.Author.Needs.{needs}
 use Rattle.visits.proofs.is_valued.Statement.{statement}
 use Rattle.visits.proofs.is_valued.Tie as tie
-use Rattle.visits.proofs.is_valued.Reads as reads
-use Rattle.visits.proofs.is_valued.Lts as lts
-use Rattle.literal.proofs.var_of.Reads as var-of-reads
 
 var : (c : tie.After-var-of) → c .var-of .result ≡ natAbs (c .before .args .l)
 var c = rw (toZ-ofZ (c .before .fits .l)) at (c .var-of .ensures)

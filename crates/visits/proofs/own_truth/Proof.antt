@@ -12,10 +12,6 @@ use borrow.Author.Needs.{sfits-of}
 use borrow.Author.Needs.{needs}
 use Rattle.visits.proofs.own_truth.Statement.{statement}
 use Rattle.visits.proofs.own_truth.Tie as tie
-use Rattle.visits.proofs.own_truth.Reads as reads
-use Rattle.visits.proofs.own_truth.Lts as lts
-use Rattle.visits.proofs.signed_by.Reads as signed-by-reads
-use Rattle.literal.proofs.var_of.Reads as var-of-reads
 
 var : (c : tie.After-var-of) → c .var-of .result ≡ natAbs (c .before .args .c)
 var c = rw (toZ-ofZ (c .before .fits .c)) at (c .var-of .ensures)

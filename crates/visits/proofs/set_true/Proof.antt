@@ -12,11 +12,6 @@ use Rattle.visits.proofs.Known.{known-class, known-small, known-above, 
 use borrow.Author.Needs.{needs}
 use Rattle.visits.proofs.set_true.Statement.{statement}
 use Rattle.visits.proofs.set_true.Tie as tie
-use Rattle.visits.proofs.set_true.Reads as reads
-use Rattle.visits.proofs.set_true.Lts as lts
-use Rattle.visits.proofs.class_literal.Reads as class-literal-reads
-use Rattle.visits.proofs.signed_by.Reads as signed-by-reads
-use Rattle.literal.proofs.var_of.Reads as var-of-reads
 
 class : (c : tie.After-class-literal) → c .class-literal .result ≡ classLiteral (c .before .before .args .variables .now) (c .before .before .args .l)
 class c = rw (toZ-ofZ (c .before .before .fits .l)) at (c .class-literal .ensures)

@@ -2,8 +2,6 @@
 use Rattle.literal.proofs.Signed.{neg-fits, neg-is, back, tested-neg, tested-pos}
 use Rattle.visits.proofs.signed_by.Statement.{statement}
 use Rattle.visits.proofs.signed_by.Tie as tie
-use Rattle.visits.proofs.signed_by.Reads as reads
-use Rattle.visits.proofs.signed_by.Lts as lts
 
 sub-result : tie.Need-sub-result
 sub-result c = neg-fits (c .before .pre)

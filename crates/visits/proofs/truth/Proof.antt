@@ -7,10 +7,6 @@ use Rattle.visits.proofs.Known.{known-class}
 use borrow.Author.Needs.{needs}
 use Rattle.visits.proofs.truth.Statement.{statement}
 use Rattle.visits.proofs.truth.Tie as tie
-use Rattle.visits.proofs.truth.Reads as reads
-use Rattle.visits.proofs.truth.Lts as lts
-use Rattle.visits.proofs.class_literal.Reads as class-literal-reads
-use Rattle.visits.proofs.own_truth.Reads as own-truth-reads
 
 -- the class literal, as the next call gets it
 class : (c : tie.After-class-literal) → c .class-literal .result ≡ classLiteral (c .before .args .variables .now) (c .before .args .l)
