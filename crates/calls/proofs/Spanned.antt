@@ -24,7 +24,8 @@ use Rattle.failed.specs.Failed.{failedFresh}
 use Rattle.failed.specs.Failed as failing
 use Rattle.sweep.specs.Sweep as sweeping
 use Rattle.settle.specs.Settle.{Standing, propagated, merged, grouped, settleFor, settle}
-use Rattle.run.specs.Run.{orderOf, programme, follow, round, unchanged, Rounds, rounds, runFrom, runCall}
+use Rattle.round_order.specs.Order.{orderOf}
+use Rattle.run.specs.Run.{programme, follow, round, unchanged, Rounds, rounds, runFrom, runCall}
 use Rattle.run.specs.Steps.{Runs}
 use Rattle.run.proofs.Running.{called}
 use Rattle.run.proofs.Keeping.{follow-runs, round-runs}

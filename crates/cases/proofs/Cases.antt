@@ -34,7 +34,8 @@ use Rattle.stamp.specs.Stamp.{firstBad, stampsOf, stampedTables, stampAcyclic, 
 use Rattle.failed.specs.Failed.{failedAt, failedFrom, failedFresh, failedCall}
 use Rattle.sweep.specs.Sweep.{sweepClause, sweepCall}
 use Rattle.settle.specs.Settle.{settleFor, settle}
-use Rattle.run.specs.Run.{orderOf, follow, round, unchanged, runFrom, runCall}
+use Rattle.round_order.specs.Order.{orderOf}
+use Rattle.run.specs.Run.{follow, round, unchanged, runFrom, runCall}
 use Rattle.simplify.specs.Texts.{simplifyText, unhideText}
 use Rattle.call_lists.specs.Lists.{merge, stamp, failed, sweep, stepOn, stepsOn}
 use Rattle.cases.specs.Case.{bytes, Case, calls, prints, Seen, All}

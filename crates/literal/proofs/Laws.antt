@@ -8,7 +8,9 @@ use lib.Dec.{eqb}
 use lib.IntN.{ℤ, pos, negsuc, negℤ, natAbs}
 use borrow.Author.Tests.{eq-eqb, ne-eqb, eqb-true, eqb-false, lt-ltb, le-leb}
 use Rattle.literal.specs.Literals.{Literal, inRange, slotOf, litAt, litBy, twin}
-use Rattle.literal.proofs.Signed.{abs-neg}
+use mir.Syntax.{w32}
+use mir.Val.{toZ, ofZ}
+use Rattle.literal.proofs.Signed.{abs-neg, back}
 
 pub slot-lit : (s : ℕ) → slotOf (litAt s) ≡ s
 slot-lit s = go (eqb (s % 2) 0) refl
@@ -41,6 +43,10 @@ lit-var s = go (eqb (s % 2) 0)
     go : (b : Bool) → natAbs (litBy b (s / 2 + 1)) ≡ s / 2 + 1
     go true = refl
     go false = abs-neg (pos (s / 2 + 1))
+
+-- the literal of a slot comes back as it was stored
+pub lit-stored : (s : ℕ) (z : ℤ) → s < 2048 → z ≡ litAt s → toZ w32 (ofZ w32 z) ≡ litAt s
+lit-stored s z lt e = ap (λ (y : ℤ). toZ w32 (ofZ w32 y)) e ∙ back (record { small = omega (arith, lit-var s) })
 
 pub slot-variable : (l : ℤ) → 0 < natAbs l → natAbs l ≡ slotOf l / 2 + 1
 slot-variable l above = ap natAbs (sym (lit-slot l above)) ∙ lit-var (slotOf l)

@@ -2,9 +2,11 @@
 // All records are filled with 7s before, so that those that stayed are seen. The records are passed by value, with the number of them that is lent:
 // only `stamp_lent` and `sweep_lent` make a loan of records, and each of them makes one call.
 ghost use Prim.Native.Nat.{_≤_};
+use libc::STDOUT_FILENO;
 use reporting::end_line;
 use reporting::print;
 use reporting::print_answer;
+use reporting::print_number;
 use stamp_records::StampRecord;
 use state::Answer;
 use state::Outcome;
@@ -65,15 +67,23 @@ fn report(outcome: Outcome) -> State {
     outcome.state
 }
 
+// A space and a literal, or 0.
+fn print_literal(l: i32) {
+    if l < 0 {
+        print(b" -");
+        io::print_decimal(STDOUT_FILENO, -(l as i64) as u64);
+    } else {
+        print_number(l as u64);
+    }
+}
+
 // Discovery, finish, parent and start.
 fn print_record(r: StampRecord) {
-    let mut line = [0u8; 64];
-    let finish = output::put_number(&mut line, 0, r.discovery);
-    let parent = output::put_next(&mut line, finish, r.finish);
-    let start = output::put_next_signed(&mut line, parent, r.parent);
-    let end = output::put_next_signed(&mut line, start, r.start);
-    let next = output::put(&mut line, end, b'\n');
-    output::flush(&line, next);
+    io::print_decimal(STDOUT_FILENO, r.discovery as u64);
+    print_number(r.finish as u64);
+    print_literal(r.parent);
+    print_literal(r.start);
+    end_line();
 }
 
 // The records of the first eight literals, 1, -1, 2, -2, .., and the last one, which no call may change.

@@ -31,7 +31,8 @@ use Rattle.sweep.specs.Sweep.{sweepBy, sweepCall}
 use Rattle.settle.specs.Settle.{Standing, between, propagated, merged, grouped, settleFor, settle}
 use Rattle.settle.specs.Steps.{standingIn}
 use Rattle.settle.proofs.Splitting.{Calls, none, more, whole-calls}
-use Rattle.run.specs.Run.{orderOf, programme, follow, round, unchanged, Rounds, rounds, runFrom, runBy, runCall}
+use Rattle.round_order.specs.Order.{orderOf}
+use Rattle.run.specs.Run.{programme, follow, round, unchanged, Rounds, rounds, runFrom, runBy, runCall}
 use Rattle.run.specs.Steps.{Runs}
 use Rattle.run.proofs.Resting.{rests-runs}
 use Rattle.run.proofs.Running.{runs-opens, runs-granted}

@@ -30,7 +30,8 @@ use Rattle.failed.proofs.Shaping.{failed-shape}
 use Rattle.sweep.specs.Sweep.{sweepFrom}
 use Rattle.sweep.specs.Sweep as sweeping
 use Rattle.settle.specs.Settle.{Standing, between, settle}
-use Rattle.run.specs.Run.{orderOf, follow, round}
+use Rattle.round_order.specs.Order.{orderOf}
+use Rattle.run.specs.Run.{follow, round}
 use Rattle.run.specs.Steps.{Runs}
 use Rattle.run.proofs.Running.{runs-granted, runs-formed, called, stamp-refused, stamp-fit}
 use Rattle.run.proofs.Resting.{Rests, rests-runs, runs-rests}

@@ -15,8 +15,8 @@ use Rattle.literal.specs.Clauses.{has}
 use Rattle.literal.proofs.Laws.{slot-lit, lit-var, literal-tested}
 use Rattle.literal.proofs.Signed.{ne-eqZ}
 use Rattle.stamp.specs.Stamp.{badEntry, firstBad}
-use Rattle.run.specs.Run.{turnBy, orderOf}
-use Rattle.run.proofs.Orders.{listed, listed-length, turn-le, order-is, order-length}
+use Rattle.round_order.specs.Order.{turnBy, orderOf}
+use Rattle.round_order.proofs.Orders.{listed, listed-length, turn-le, order-is, order-length}
 
 -- ---- searches that find nothing
 

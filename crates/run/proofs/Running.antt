@@ -28,7 +28,8 @@ use Rattle.sweep.specs.Sweep as sweeping
 use Rattle.sweep.specs.Visits.{Sweepable}
 use Rattle.sweep.proofs.Entering.{entered-sweepable}
 use Rattle.settle.specs.Settle.{Standing, between, settle}
-use Rattle.run.specs.Run.{orderOf, follow}
+use Rattle.round_order.specs.Order.{orderOf}
+use Rattle.run.specs.Run.{follow}
 use Rattle.run.specs.Steps.{Runs}
 
 -- ---- what the parts of the calls ask for

@@ -18,9 +18,9 @@ use Rattle.merge.specs.Merge.{edgesOf}
 use Rattle.stamp.specs.Stamp.{firstBad, stampFresh, stampAcyclic, stampSettled, stampOrdered}
 use Rattle.settle.specs.Settle.{Standing, settle}
 use Rattle.settle.proofs.Acyclic.{settle-quiet}
-use Rattle.run.specs.Run.{orderOf}
+use Rattle.round_order.specs.Order.{orderOf}
 use Rattle.run.specs.Steps.{Runs}
-use Rattle.run.proofs.Orders.{order-length}
+use Rattle.round_order.proofs.Orders.{order-length}
 use Rattle.run.proofs.Passing.{order-passes}
 use Rattle.run.proofs.Running.{runs-formed}
 

@@ -1,14 +1,14 @@
 -- Document 01: "Run takes a round count (0 to 65,535). A round follows a constant programme of codes: settle (1), stamp (2), failed (3), sweep (4). ..
 -- Round k, from 0, uses 1, −1, 2, −2, .. turned left by k mod 2V places (no turn for V = 0). Run stops at the mark, at the count or after a round that changed no clause, class or value, and answers the rounds made, the one in which the mark came included."
 -- Assumes nothing: these are definitions.
-use Prim.Native.Nat.{ℕ, zero, suc, _*_, _%_}
+use Prim.Native.Nat.{ℕ, zero, suc, _*_}
 use mathlib.Core.Bool.{Bool, true, false, _&&_, _||_}
-use mathlib.Core.List.{List, [], _∷_, map}
+use mathlib.Core.List.{List, [], _∷_}
 use lib.ListN.{take}
 use lib.Dec.{eqb}
 use lib.IntN.{ℤ}
-use Rattle.base.specs.Lists.{allBelow, sameList, numbers, turned}
-use Rattle.literal.specs.Literals.{litAt, eqZ}
+use Rattle.base.specs.Lists.{allBelow, sameList}
+use Rattle.literal.specs.Literals.{eqZ}
 use Rattle.state.specs.declared.State.{State}
 use Rattle.state.specs.declared.Answer.the-variants.{Ran}
 use Rattle.tables.specs.Tables.{Tables}
@@ -21,18 +21,10 @@ use Rattle.entry.specs.declared.Opening.the-variants.{Denied, Granted}
 use Rattle.stamp.specs.Stamp.{stampBy}
 use Rattle.failed.specs.Failed.{failedBy}
 use Rattle.sweep.specs.Sweep.{sweepBy}
+use Rattle.round_order.specs.Order.{orderOf}
 use Rattle.settle.specs.Settle.{Standing, between, unmarked, settle}
 
 -- ---- a round
-
--- the turn in round k of an order of so many literals
-abbrev pub turnBy : ℕ → ℕ → ℕ
-turnBy k zero = 0
-turnBy k (suc m) = k % suc m
-
--- 1, −1, 2, −2, .. turned left by k mod 2V places
-unfoldable pub orderOf : ℕ → ℕ → List ℤ
-orderOf v k = turned (turnBy k (2 * v)) (map litAt (numbers 0 (2 * v)))
 
 -- the constant programme
 abbrev pub programme : List ℕ

@@ -23,7 +23,8 @@ ghost use Rattle.failed.specs.Steps.{Callable};
 ghost use Rattle.sweep.specs.Sweep as sweeping;
 ghost use Rattle.sweep.specs.Visits.{Sweepable};
 ghost use Rattle.settle.specs.Settle.{between};
-ghost use Rattle.run.specs.Run.{orderOf, programme, follow, round, unchanged, rounds, runFrom, runReply, runCall};
+ghost use Rattle.round_order.specs.Order.{orderOf};
+ghost use Rattle.run.specs.Run.{programme, follow, round, unchanged, rounds, runFrom, runReply, runCall};
 ghost use Rattle.settle.specs.Steps.{standingIn};
 ghost use Rattle.run.specs.Steps.{Runs, Inside, Places, Saves, Saved, Comparable};
 
@@ -51,68 +52,7 @@ pub struct Made {
     pub state: State,
 }
 
-// ---- the order of a round
-
-// Writes the literals of the slots from a slot on, in rising order.
-fn write_slots(part: &mut [i32], slot: usize)
-    requires { ⌜ slot + length (now part) ≤ 2048 ⌝ }
-    ensures { λ _. ⌜ now (part .exit) ≡ map litAt (numbers slot (length (now (part .entry)))) ⌝ }
-{
-    let mut i = 0;
-    while i < part.len() {
-        part[i] = literal::lit_at(slot + i);
-        i += 1;
-    }
-}
-
-// The turn in round k of an order of so many literals.
-fn turn_of(k: u32, size: usize) -> usize
-    requires { ⌜ 0 < size ⌝ }
-    ensures { λ r. ⌜ r ≡ k % size ⌝ }
-{
-    k as usize % size
-}
-
-// Writes 1, -1, 2, -2, .. of v variables, turned left by k mod 2v places.
-fn write_order(order: &mut [i32], v: u32, k: u32)
-    requires { ⌜ (length (now order) ≡ 2 * v) × (v ≤ 1024) ⌝ }
-    ensures { λ _. ⌜ now (order .exit) ≡ orderOf v k ⌝ }
-{
-    let size = order.len();
-    if size == 0 {
-        return;
-    }
-    let turn = turn_of(k, size);
-    let rest = size - turn;
-    write_slots(&mut order[..rest], turn);
-    write_slots(&mut order[rest..], 0);
-}
-
 // ---- what stood before a round
-
-// Copies the front of a table of numbers that is at least as long.
-fn copy_numbers(from: &[u32], to: &mut [u32])
-    requires { ⌜ length (now to) ≤ length (now from) ⌝ }
-    ensures { λ _. ⌜ now (to .exit) ≡ take (length (now (to .entry))) (now (from .entry)) ⌝ }
-{
-    let mut i = 0;
-    while i < to.len() {
-        to[i] = from[i];
-        i += 1;
-    }
-}
-
-// The same for a table of literals, or of classes and values.
-fn copy_literals(from: &[i32], to: &mut [i32])
-    requires { ⌜ length (now to) ≤ length (now from) ⌝ }
-    ensures { λ _. ⌜ now (to .exit) ≡ take (length (now (to .entry))) (now (from .entry)) ⌝ }
-{
-    let mut i = 0;
-    while i < to.len() {
-        to[i] = from[i];
-        i += 1;
-    }
-}
 
 // Copies the clauses, the literals and the variables, as many as the tables state, into places for them.
 fn save(
@@ -126,39 +66,9 @@ fn save(
     requires { ⌜ Saves (now clauses) (now literals) (now variables) (now kept) (now parts) (now rows) ⌝ }
     ensures { λ _. ⌜ Saved (now (clauses .entry)) (now (literals .entry)) (now (variables .entry)) (now (kept .exit)) (now (parts .exit)) (now (rows .exit)) ⌝ }
 {
-    copy_numbers(clauses, kept);
-    copy_literals(literals, parts);
-    copy_literals(variables, rows);
-}
-
-// Whether two tables of numbers, equally long, are the same.
-fn same_numbers(a: &[u32], b: &[u32]) -> bool
-    requires { ⌜ length (now a) ≡ length (now b) ⌝ }
-    ensures { λ r. ⌜ r ≡ sameList eqb (now (a .entry)) (now (b .entry)) ⌝ }
-{
-    let mut i = 0;
-    while i < a.len() {
-        if a[i] != b[i] {
-            return false;
-        }
-        i += 1;
-    }
-    true
-}
-
-// The same for literals.
-fn same_literals(a: &[i32], b: &[i32]) -> bool
-    requires { ⌜ length (now a) ≡ length (now b) ⌝ }
-    ensures { λ r. ⌜ r ≡ sameList eqZ (now (a .entry)) (now (b .entry)) ⌝ }
-{
-    let mut i = 0;
-    while i < a.len() {
-        if a[i] != b[i] {
-            return false;
-        }
-        i += 1;
-    }
-    true
+    slices::copy_numbers(clauses, kept);
+    slices::copy_literals(literals, parts);
+    slices::copy_literals(variables, rows);
 }
 
 // Whether each of n clauses has the same literals in two literal tables.
@@ -171,7 +81,7 @@ fn same_parts(clauses: &[u32], old: &[i32], new: &[i32], n: usize) -> bool
         i -= 1;
         let start = clauses[3 * i] as usize;
         let end = start + clauses[3 * i + 1] as usize;
-        if !same_literals(&old[start..end], &new[start..end]) {
+        if !slices::same_literals(&old[start..end], &new[start..end]) {
             return false;
         }
     }
@@ -195,14 +105,14 @@ fn same_tables(
         (standingIn (lent clauses literals variables (unlent times′) (unlent links′)) st′)) ⌝ }
 {
     let records = 3 * n as usize;
-    if !same_numbers(&kept[..records], &clauses[..records]) {
+    if !slices::same_numbers(&kept[..records], &clauses[..records]) {
         return false;
     }
     if !same_parts(kept, parts, literals, n as usize) {
         return false;
     }
     let places = 2 * v as usize;
-    same_literals(&rows[..places], &variables[..places])
+    slices::same_literals(&rows[..places], &variables[..places])
 }
 
 // ---- the codes
@@ -248,7 +158,7 @@ fn stamp_turned(
 {
     let v = st.v;
     let size = 2 * v as usize;
-    write_order(&mut place[..size], v, k);
+    round_order::write_order(&mut place[..size], v, k);
     stamp_ordered(
         clauses,
         literals,

@@ -8,13 +8,8 @@ use mathlib.Core.List.{List, [], _∷_, _++_}
 use lib.ListN.{length, getD, set, drop, length-set}
 use lib.Seq.{sets, sets-eq, drop-cons, drop-length}
 use lib.IntN.{ℤ}
-use mir.Syntax.{w32}
-use mir.Val.{toZ, ofZ}
 use borrow.Author.Tests.{lt-ltb, le-ltb}
 use Rattle.base.specs.Lists.{interleave}
-use Rattle.literal.specs.Literals.{litAt}
-use Rattle.literal.proofs.Laws.{lit-var}
-use Rattle.literal.proofs.Signed.{back}
 use Rattle.walk.specs.Walk.{Stamps}
 use Rattle.walk.specs.Forest.{finishAt}
 use Rattle.scc.specs.Forward.{forward}
@@ -103,10 +98,6 @@ module _ {A : Type 0} where
       ap (λ (r : List A). sets l (2 * s) (interleave r (drop s ys))) (sym (over xs s (C .within) le)) ∙ C .same
       ∙ sets-eq (interleave xs ys) l₀ 0 (omega (arith, many-records xs ys len))
       ∙ ap (λ (k : ℕ). interleave xs ys ++ drop k l₀) (let e : 0 + length (interleave xs ys) ≡ 2 * length xs = omega (arith, many-records xs ys len) in e)
-
--- the literal of a slot comes back as it was stored
-pub lit-stored : (s : ℕ) (z : ℤ) → s < 2048 → z ≡ litAt s → toZ w32 (ofZ w32 z) ≡ litAt s
-lit-stored s z lt e = ap (λ (y : ℤ). toZ w32 (ofZ w32 y)) e ∙ back (record { small = omega (arith, lit-var s) })
 
 -- ---- the test of each edge
 

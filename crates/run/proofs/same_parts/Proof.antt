@@ -13,7 +13,7 @@ use Rattle.literal.specs.Literals.{eqZ}
 use Rattle.literal.proofs.Zeros.{mid}
 use Rattle.tables.specs.Tables.{startOf, lengthOf}
 use Rattle.tables.specs.Clauses.{literalsOf}
-use Rattle.run.proofs.Comparing.{below-stop, below-next, below-none}
+use Rattle.slices.proofs.Comparing.{below-stop, below-next, below-none}
 use borrow.Author.Needs.{needs}
 use Rattle.run.proofs.same_parts.Statement.{statement}
 use Rattle.run.proofs.same_parts.Tie as tie

@@ -9,8 +9,8 @@ use lib.IntN.{ℤ}
 use Rattle.tables.specs.Tables.{tables}
 use Rattle.stamp.specs.Stamp.{stampOrdered}
 use Rattle.settle.specs.Settle.{between}
-use Rattle.run.specs.Run.{orderOf}
-use Rattle.run.proofs.Orders.{order-length}
+use Rattle.round_order.specs.Order.{orderOf}
+use Rattle.round_order.proofs.Orders.{order-length}
 use borrow.Author.Needs.{needs}
 use Rattle.run.proofs.stamp_turned.Statement.{statement}
 use Rattle.run.proofs.stamp_turned.Tie as tie

@@ -7,7 +7,8 @@ use lib.ListN.{drop, length, getD, length-set, length-map, List·getD-map}
 use borrow.Author.Needs.{needs}
 use Rattle.base.specs.Lists.{interleave}
 use Rattle.literal.specs.Literals.{litAt}
-use Rattle.stamp_walk.proofs.Copying.{copying-as, lit-stored, Copying, copying-none, copying-done}
+use Rattle.literal.proofs.Laws.{lit-stored}
+use Rattle.stamp_walk.proofs.Copying.{copying-as, Copying, copying-none, copying-done}
 use Rattle.stamp_walk.proofs.copy_links.Statement.{statement}
 use Rattle.stamp_walk.proofs.copy_links.Tie as tie
 
