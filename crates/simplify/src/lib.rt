@@ -5,7 +5,7 @@ ghost use Rattle.state.specs.Answers.{replyOf};
 ghost use Rattle.tables.specs.Lent.{lent, returned};
 ghost use Rattle.tables.specs.Calls.{after};
 ghost use Rattle.write.specs.Write.{afterWrite};
-ghost use Rattle.simplify.specs.Texts.{runUnless, writeAfter, simplifyIn, simplifyText, resultOf, fits};
+ghost use Rattle.simplify.specs.Texts.{runUnless, writeAfter, simplifyIn, simplifyText, fits};
 use state::Answer;
 use state::Outcome;
 use state::State;
@@ -102,16 +102,4 @@ pub fn simplify_text(text: &[u8], rounds: u16, out: &mut [u8]) -> Answer
         &mut times,
         &mut links,
     )
-}
-
-// ---- the call from C
-
-// Text, round count and output buffer; the length written or the refusal's number, negative.
-#[no_mangle]
-pub extern "C" fn unhide_text(text: &[u8], rounds: u16, out: &mut [u8]) -> i64
-    ensures { λ r. ⌜ r ≡ resultOf (simplifyText (now (text .entry)) rounds (now (out .entry)) .reply) ⌝ }
-    ensures { λ _. ⌜ now (out .exit) ≡ simplifyText (now (text .entry)) rounds (now (out .entry)) .out ⌝ }
-{
-    let answer = simplify_text(text, rounds, out);
-    state::result(answer.number(), answer.value())
 }

@@ -2,7 +2,7 @@
 ghost use mathlib.Core.Path.{_≡_};
 ghost use Prim.Native.Nat.{_-_, _^_, _≤_};
 ghost use Rattle.state.specs.Answers.{refusalNumber, refusalPlace, replyOf, firstValue, resultBy};
-ghost use Rattle.state.specs.States.{loadedState, emptyState, opened, closed, marked};
+ghost use Rattle.state.specs.States.{state, loadedState, emptyState, opened, closed, marked};
 
 // The pass that is open, with its cursor: the number of clauses visited in this time through. Propagate has a change flag besides.
 pub enum Pass {
@@ -22,6 +22,19 @@ pub struct State {
 }
 
 impl State {
+    // The state of these parts.
+    pub fn of(v: u32, n: u32, pass: Pass, fresh: bool, mark: bool) -> State
+        ensures { λ r. ⌜ r ≡ state v n pass fresh mark ⌝ }
+    {
+        State {
+            v,
+            n,
+            pass,
+            fresh,
+            mark,
+        }
+    }
+
     // What a load leaves.
     pub fn loaded(v: u32, n: u32, mark: bool) -> State
         ensures { λ r. ⌜ r ≡ loadedState v n mark ⌝ }

@@ -1,22 +1,15 @@
--- `simplify::unhide_text` meets its contract: what `simplify_text` says of the reply and of the output. Assumes nothing.
-use Prim.Native.Nat.{ℕ}
+-- `c_calls::unhide_text` meets its contract: what `simplify_text` says of the reply and of the output. Assumes nothing.
 use native.Mathlib.Omega.{arith}
-use mathlib.Core.Path.{_≡_, sym, ap, _∙_}
+use mathlib.Core.Path.{sym, ap, _∙_}
 use mir.Syntax.{w64}
 use mir.Facts.{toZ-ofZ}
 use Rattle.state.specs.Answers.{resultBy}
 use Rattle.write.specs.Write.{AfterWrite}
 use Rattle.simplify.specs.Texts.{resultOf}
 use borrow.Author.Needs.{sfits-of}
 use borrow.Author.Needs.{needs}
-use Rattle.simplify.proofs.unhide_text.Statement.{statement}
-use Rattle.simplify.proofs.unhide_text.Tie as tie
-use Rattle.simplify.proofs.unhide_text.Reads as reads
-use Rattle.simplify.proofs.unhide_text.Lts as lts
-use Rattle.state.proofs.Answer.number.Reads as number-reads
-use Rattle.state.proofs.Answer.value.Reads as value-reads
-use Rattle.state.proofs.result.Reads as result-reads
-use Rattle.simplify.proofs.simplify_text.Reads as simplify-text-reads
+use Rattle.c_calls.proofs.unhide_text.Statement.{statement}
+use Rattle.c_calls.proofs.unhide_text.Tie as tie
 
 simplify-text-requires : tie.Need-simplify-text-requires
 simplify-text-requires c κs = search needs

@@ -1,0 +1,104 @@
+-- `c_numbers::put_values` meets its contract: Open and Done have three values, another answer one at most. Assumes nothing.
+use Prim.Native.Nat.{ℕ}
+use native.Mathlib.Omega.{arith}
+use mathlib.Core.List.{List, [], _∷_}
+use mathlib.Core.Logic.{⊎-elim}
+use mathlib.Core.Path.{_≡_, refl, sym, ap, _∙_}
+use Rattle.state.specs.Answers.{replyOf, firstValue}
+use Rattle.state.specs.declared.Answer.{Answer}
+use Rattle.state.specs.declared.Answer.the-variants.{Refused, Loaded, Open, Done, Stamped, Failed, Ran, Written}
+use Rattle.c_numbers.specs.StateNumbers.{over}
+use Rattle.c_numbers.specs.CCalls.{valuesOf}
+use borrow.Author.Needs.{needs}
+use Rattle.c_numbers.proofs.put_values.Statement.{statement}
+use Rattle.c_numbers.proofs.put_values.Tie as tie
+
+-- an answer that is not of a resumable pass has one value at most
+plain : (c : tie.At-match-keys3) (a : Answer) → c .before .before .args .a ≡ a → (l : List ℕ) → over (firstValue (replyOf a .values) ∷ 0 ∷ 0 ∷ 0 ∷ []) l ≡ over (valuesOf (replyOf a)) l
+plain c (Refused r) e l = refl
+plain c Loaded e l = refl
+plain c (Open k) e l = absurd (⊎-elim (λ z. omega arith) (⊎-elim (λ z. omega arith) (⊎-elim (λ z. omega arith) (⊎-elim (λ z. omega arith) (⊎-elim (λ z. omega arith) (λ z. omega arith))))) (rw e at (c .match .keys3)))
+plain c (Done k) e l = absurd (⊎-elim (λ z. omega arith) (⊎-elim (λ z. omega arith) (⊎-elim (λ z. omega arith) (⊎-elim (λ z. omega arith) (⊎-elim (λ z. omega arith) (λ z. omega arith))))) (rw e at (c .match .keys3)))
+plain c Stamped e l = refl
+plain c (Failed set) e l = refl
+plain c (Ran rounds) e l = refl
+plain c (Written length) e l = refl
+
+enum-known-a : tie.Need-enum-known-a
+enum-known-a c = search needs
+
+cast-put-four : tie.Need-cast-put-four
+cast-put-four c = search needs
+
+cast-put-four-2 : tie.Need-cast-put-four-2
+cast-put-four-2 c = search needs
+
+cast-put-four-3 : tie.Need-cast-put-four-3
+cast-put-four-3 c = search needs
+
+put-four-requires : tie.Need-put-four-requires
+put-four-requires c κs = search needs
+
+enum-known-a-2 : tie.Need-enum-known-a-2
+enum-known-a-2 c = search needs
+
+cast-put-four-4 : tie.Need-cast-put-four-4
+cast-put-four-4 c = search needs
+
+cast-put-four-5 : tie.Need-cast-put-four-5
+cast-put-four-5 c = search needs
+
+cast-put-four-6 : tie.Need-cast-put-four-6
+cast-put-four-6 c = search needs
+
+put-four-requires-2 : tie.Need-put-four-requires-2
+put-four-requires-2 c κs = search needs
+
+value-requires : tie.Need-value-requires
+value-requires c κs = search needs
+
+put-four-requires-3 : tie.Need-put-four-requires-3
+put-four-requires-3 c κs = search needs
+
+same-length : tie.Need-same-length
+same-length c = search needs
+
+returns : tie.Need-returns
+returns c = c .before .before .put-four .ensures ∙ ap (λ (x : Answer). over (valuesOf (replyOf x)) (c .before .before .before .before .before .before .before .before .before .before .before .args .answer .now)) (sym (c .before .before .before .before .before .before .before .before .a .given .1))
+
+same-length-2 : tie.Need-same-length-2
+same-length-2 c = search needs
+
+returns-2 : tie.Need-returns-2
+returns-2 c = c .before .before .put-four2 .ensures ∙ ap (λ (x : Answer). over (valuesOf (replyOf x)) (c .before .before .before .before .before .before .before .before .before .before .before .args .answer .now)) (sym (c .before .before .before .before .before .before .before .before .a2 .given .1))
+
+same-length-3 : tie.Need-same-length-3
+same-length-3 c = search needs
+
+returns-3 : tie.Need-returns-3
+returns-3 c =
+    let l = c .before .before .before .before .before .before .before .args .answer .now in
+    c .before .before .put-four3 .ensures ∙ ap (λ (v : ℕ). over (v ∷ 0 ∷ 0 ∷ 0 ∷ []) l) (c .before .before .before .value .ensures) ∙ plain (c .before .before .before .before .before) (c .before .before .before .before .before .before .before .args .a) refl l
+
+pub put-values-spec : {M : Type 1} → statement M
+put-values-spec =
+    tie.close
+    (tie.spec
+    enum-known-a
+    cast-put-four
+    cast-put-four-2
+    cast-put-four-3
+    put-four-requires
+    enum-known-a-2
+    cast-put-four-4
+    cast-put-four-5
+    cast-put-four-6
+    put-four-requires-2
+    value-requires
+    put-four-requires-3
+    same-length
+    returns
+    same-length-2
+    returns-2
+    same-length-3
+    returns-3)
