@@ -26,31 +26,40 @@ small-substituted w p K = record {
   each = all-at Small (substituted w p) (distinct-all Small (map (classLiteral w) p) (all-map Small (classLiteral w) p (λ k h. known-small (known-class (K .each k h)))));
 }
 
--- class literals in, and repeats out: q holds what is left
-module _ (w p p₁ q : List ℤ) (r : ℕ) (sub : p₁ ≡ map (classLiteral w) p) (count : r ≡ length (distinct p₁)) (held : q ≡ holding (distinct p₁) p₁) where
+-- class literals in, and repeats out: q holds the r literals that are left of p
+pub record Reduced (w p q : List ℤ) (r : ℕ) : Type 0 where
+  pub classes : List ℤ
+  pub substitutes : classes ≡ map (classLiteral w) p
+  pub count : r ≡ length (distinct classes)
+  pub held : q ≡ holding (distinct classes) classes
+
+module _ {w p q : List ℤ} {r : ℕ} (R : Reduced w p q r) where
+  abbrev p₁ : List ℤ
+  p₁ = R .classes
+
   size : length p₁ ≡ length p
-  size = ap length sub ∙ length-map p (classLiteral w)
+  size = ap length (R .substitutes) ∙ length-map p (classLiteral w)
 
   kept : distinct p₁ ≡ substituted w p
-  kept = ap distinct sub
+  kept = ap distinct (R .substitutes)
 
   short : length (distinct p₁) ≤ length p
   short = omega (arith, distinct-short p₁, size)
 
   holds : q ≡ holding (substituted w p) p
-  holds = held ∙ (λ j. kept j ++ replicate (size j - length (kept j)) (pos 0))
+  holds = R .held ∙ (λ j. kept j ++ replicate (size j - length (kept j)) (pos 0))
 
   long : length q ≡ length p
-  long = ap length held ∙ length-append (distinct p₁) (replicate (length p₁ - length (distinct p₁)) (pos 0)) ∙ omega (arith, length-replicate (length p₁ - length (distinct p₁)) (pos 0), short, size)
+  long = ap length (R .held) ∙ length-append (distinct p₁) (replicate (length p₁ - length (distinct p₁)) (pos 0)) ∙ omega (arith, length-replicate (length p₁ - length (distinct p₁)) (pos 0), short, size)
 
   front : take r q ≡ substituted w p
-  front = ap (take r) held ∙ take-at (distinct p₁) (replicate (length p₁ - length (distinct p₁)) (pos 0)) r (sym count) ∙ kept
+  front = ap (take r) (R .held) ∙ take-at (distinct p₁) (replicate (length p₁ - length (distinct p₁)) (pos 0)) r (sym (R .count)) ∙ kept
 
   pub part-front : r ≤ length q
-  part-front = omega (arith, long, short, count)
+  part-front = omega (arith, long, short, R .count)
 
   pub part-count : length p ≤ 16384 → r ≤ 16384
-  part-count few = omega (arith, short, count)
+  part-count few = omega (arith, short, R .count)
 
   pub part-small : EachKnown w p → EachSmall (take r q)
   part-small K = subst EachSmall (sym front) (small-substituted w p K)
@@ -64,4 +73,4 @@ module _ (w p p₁ q : List ℤ) (r : ℕ) (sub : p₁ ≡ map (classLiteral w) 
 
   pub part-left : tautology (take r q) ≡ false → partOf (Left r) q ≡ partAfter (mergeClause w p) p
   unfolding by-test mergeClause
-  part-left e = (λ j. partOf (Left ((count ∙ ap length kept) j)) (holds j)) ∙ ap by-test (sym (sym (ap tautology front) ∙ e))
+  part-left e = (λ j. partOf (Left ((R .count ∙ ap length kept) j)) (holds j)) ∙ ap by-test (sym (sym (ap tautology front) ∙ e))

@@ -1,6 +1,6 @@
 -- Truth: where every variable has its class literal's truth, a clause is true exactly if it is with class literals in and repeats out, and it is true if that has v and −v.
 -- So a visit keeps the assignments that satisfy what stands, and adds none. Assumes nothing.
-use Prim.Native.Nat.{ℕ, suc, _+_, _-_, _<_}
+use Prim.Native.Nat.{ℕ, suc, _+_, _<_}
 use native.Mathlib.Omega.{arith}
 use mathlib.Core.Path.{_≡_, refl, sym, ap, _∙_}
 use mathlib.Core.Bool.{Bool, true, false, not, _||_, or-true, or-false, or-assoc}

@@ -1,5 +1,5 @@
 -- The returns of a visit to a part: which fate the tests have shown, and what then stands in the part. Assumes nothing.
-use Prim.Native.Nat.{ℕ, zero, suc, _+_, _-_, _≤_, _<_}
+use Prim.Native.Nat.{ℕ, zero, suc, _-_, _≤_, _<_}
 use native.Mathlib.Omega.{arith}
 use mathlib.Core.Path.{_≡_, refl, sym, ap, subst, _∙_}
 use mathlib.Core.Bool.{Bool, true, false, not}
@@ -74,46 +74,52 @@ one-zeroed x (suc n) h = let e : suc n - 1 ≡ n = omega arith in ap (λ (k : �
 
 -- ---- the four returns
 
-module _ (w p : List ℤ) where
-  -- what a visit that answers r leaves in the part and in the variables
-  abbrev pub Leaves : Visited → List ℤ → List ℤ → Type 0
-  Leaves r q w′ = (partOf r q ≡ partAfter (propagateClause w p) p) × (w′ ≡ variablesAfter (propagateClause w p) w)
+-- no literal of p is true, and q holds the r literals that are not false
+pub record Removed (w p q : List ℤ) (r : ℕ) : Type 0 where
+  pub untrue : any (isTrue w) p ≡ false
+  pub count : r ≡ length (notFalse w p)
+  pub held : q ≡ holding (notFalse w p) p
 
-  told : {f : Fate} {r : Visited} {q w′ : List ℤ} → propagateClause w p ≡ f → partOf r q ≡ partAfter f p → w′ ≡ variablesAfter f w → Leaves r q w′
+-- what a visit that answers r leaves in the part and in the variables
+abbrev pub Leaves : List ℤ → List ℤ → Visited → List ℤ → List ℤ → Type 0
+Leaves w p r q w′ = (partOf r q ≡ partAfter (propagateClause w p) p) × (w′ ≡ variablesAfter (propagateClause w p) w)
+
+module _ (w p : List ℤ) where
+  told : {f : Fate} {r : Visited} {q w′ : List ℤ} → propagateClause w p ≡ f → partOf r q ≡ partAfter f p → w′ ≡ variablesAfter f w → Leaves w p r q w′
   told e part values = (part ∙ ap (λ (f : Fate). partAfter f p) (sym e), values ∙ ap (λ (f : Fate). variablesAfter f w) (sym e))
 
-  pub part-dropped : (q : List ℤ) → any (isTrue w) p ≡ true → q ≡ take 0 p ++ replicate (length p - 0) (pos 0) → Leaves Dropped q w
+  pub part-dropped : (q : List ℤ) → any (isTrue w) p ≡ true → q ≡ take 0 p ++ replicate (length p - 0) (pos 0) → Leaves w p Dropped q w
   part-dropped q e h = told (fate-true w p e) (ap (partOf Dropped) h) refl
 
-  module _ (q : List ℤ) (r : ℕ) (e : any (isTrue w) p ≡ false) (count : r ≡ length (notFalse w p)) (h : q ≡ holding (notFalse w p) p) where
-    pub part-conflict : r ≡ 0 → Leaves Conflict q w
-    part-conflict z = let L = left-none w p e (sym count ∙ z) in told (L .1) (ap (partOf Conflict) (h ∙ ap (λ (C : List ℤ). holding C p) (L .0))) refl
+module _ {w p q : List ℤ} {r : ℕ} (R : Removed w p q r) where
+  pub part-conflict : r ≡ 0 → Leaves w p Conflict q w
+  part-conflict z = let L = left-none w p (R .untrue) (sym (R .count) ∙ z) in told w p (L .1) (ap (partOf Conflict) (R .held ∙ ap (λ (C : List ℤ). holding C p) (L .0))) refl
 
-    -- the literal that is left
-    one-left : r ≡ 1 → q ≡ holding (getD (notFalse w p) 0 (pos 0) ∷ []) p
-    one-left o = h ∙ ap (λ (C : List ℤ). holding C p) (left-one w p e (sym count ∙ o) .0)
+  -- the literal that is left
+  one-left : r ≡ 1 → q ≡ holding (getD (notFalse w p) 0 (pos 0) ∷ []) p
+  one-left o = R .held ∙ ap (λ (C : List ℤ). holding C p) (left-one w p (R .untrue) (sym (R .count) ∙ o) .0)
 
-    pub unit-is : r ≡ 1 → getD q 0 (pos 0) ≡ getD (notFalse w p) 0 (pos 0)
-    unit-is o = ap (λ (C : List ℤ). getD C 0 (pos 0)) (one-left o)
+  pub unit-is : r ≡ 1 → getD q 0 (pos 0) ≡ getD (notFalse w p) 0 (pos 0)
+  unit-is o = ap (λ (C : List ℤ). getD C 0 (pos 0)) (one-left o)
 
-    pub unit-known : r ≡ 1 → EachKnown w p → Known w (getD q 0 (pos 0))
-    unit-known o K = subst (Known w) (sym (unit-is o)) (known-filter w (λ l. not (isFalse w l)) p K .each 0 (omega (arith, sym count ∙ o)))
+  pub unit-known : r ≡ 1 → EachKnown w p → Known w (getD q 0 (pos 0))
+  unit-known o K = subst (Known w) (sym (unit-is o)) (known-filter w (λ l. not (isFalse w l)) p K .each 0 (omega (arith, sym (R .count) ∙ o)))
 
-    pub part-room : r ≡ 1 → 0 < length q
-    part-room o = subst (λ (C : List ℤ). 0 < length C) (sym (one-left o)) (omega arith)
+  pub part-room : r ≡ 1 → 0 < length q
+  part-room o = subst (λ (C : List ℤ). 0 < length C) (sym (one-left o)) (omega arith)
 
-    pub part-unit : (w′ : List ℤ) → r ≡ 1 → w′ ≡ setTrue w (getD q 0 (pos 0)) → (u : ℕ) → u ≡ natAbs (getD q 0 (pos 0)) → Leaves (MadeTrue u) (set q 0 (pos 0)) w′
-    part-unit w′ o s u su =
-        told (left-one w p e (sym count ∙ o) .1) (λ i. partOf (MadeTrue ((su ∙ ap natAbs (unit-is o)) i)) (emptied i)) (s ∙ ap (setTrue w) (unit-is o))
-      where
-        emptied : set q 0 (pos 0) ≡ holding [] p
-        emptied =
-            ap (λ (C : List ℤ). set C 0 (pos 0)) (one-left o)
-            ∙ one-zeroed (getD (notFalse w p) 0 (pos 0)) (length p) (omega (arith, filter-shorter (λ l. not (isFalse w l)) p, sym count ∙ o))
-            ∙ ap (λ (k : ℕ). replicate k (pos 0)) (let z : length p ≡ length p - 0 = omega arith in z)
+  pub part-unit : (w′ : List ℤ) → r ≡ 1 → w′ ≡ setTrue w (getD q 0 (pos 0)) → (u : ℕ) → u ≡ natAbs (getD q 0 (pos 0)) → Leaves w p (MadeTrue u) (set q 0 (pos 0)) w′
+  part-unit w′ o s u su =
+      told w p (left-one w p (R .untrue) (sym (R .count) ∙ o) .1) (λ i. partOf (MadeTrue ((su ∙ ap natAbs (unit-is o)) i)) (emptied i)) (s ∙ ap (setTrue w) (unit-is o))
+    where
+      emptied : set q 0 (pos 0) ≡ holding [] p
+      emptied =
+          ap (λ (C : List ℤ). set C 0 (pos 0)) (one-left o)
+          ∙ one-zeroed (getD (notFalse w p) 0 (pos 0)) (length p) (omega (arith, filter-shorter (λ l. not (isFalse w l)) p, sym (R .count) ∙ o))
+          ∙ ap (λ (k : ℕ). replicate k (pos 0)) (let z : length p ≡ length p - 0 = omega arith in z)
 
-    pub part-left : (r ≡ 0 → ⊥) → (r ≡ 1 → ⊥) → Leaves (Left r) q w
-    part-left z o = told (left-more w p e (λ k. z (count ∙ k)) (λ k. o (count ∙ k))) (λ i. partOf (Left (count i)) (h i)) refl
+  pub part-left : (r ≡ 0 → ⊥) → (r ≡ 1 → ⊥) → Leaves w p (Left r) q w
+  part-left z o = told w p (left-more w p (R .untrue) (λ k. z (R .count ∙ k)) (λ k. o (R .count ∙ k))) (λ i. partOf (Left (R .count i)) (R .held i)) refl
 
-    pub part-count : length p ≤ 16384 → r ≤ 16384
-    part-count few = omega (arith, count, filter-shorter (λ l. not (isFalse w l)) p)
+  pub part-count : length p ≤ 16384 → r ≤ 16384
+  part-count few = omega (arith, R .count, filter-shorter (λ l. not (isFalse w l)) p)

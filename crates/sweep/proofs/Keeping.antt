@@ -66,13 +66,13 @@ module _ {n k : ℕ} {c : List ℕ} {l : List ℤ} {times : List ℕ} {links : L
 
 -- ---- the loop: what is left from here gives what the whole gives
 
-pub record Making (k m i : ℕ) (c₀ : List ℕ) (l₀ : List ℤ) (c : List ℕ) (l : List ℤ) (times : List ℕ) (links : List ℤ) : Type 0 where
+pub record Sweeping (k m i : ℕ) (c₀ : List ℕ) (l₀ : List ℤ) (c : List ℕ) (l : List ℤ) (times : List ℕ) (links : List ℤ) : Type 0 where
   pub within : i ≤ m
   pub sweepable : (n : ℕ) → k + m ≤ n → Sweepable n c₀ l₀ times links → Sweepable n c l times links
   pub left : (w : List ℤ) → visits (sweepClause (columns times links)) (m - i) (k + i) (tables c l w times links) ≡ visits (sweepClause (columns times links)) m k (tables c₀ l₀ w times links)
 
-pub making-none : (k m : ℕ) (c : List ℕ) (l : List ℤ) (times : List ℕ) (links : List ℤ) → Making k m 0 c l c l times links
-making-none k m c l times links = record {
+pub sweeping-none : (k m : ℕ) (c : List ℕ) (l : List ℤ) (times : List ℕ) (links : List ℤ) → Sweeping k m 0 c l c l times links
+sweeping-none k m c l times links = record {
   within = omega arith;
   sweepable = λ n h R. R;
   left = λ w. (λ j. visits (sweepClause (columns times links)) (none j) (same j) (tables c l w times links));
@@ -84,17 +84,17 @@ making-none k m c l times links = record {
     same : k + 0 ≡ k
     same = omega arith
 
-module _ {k m i : ℕ} {c₀ : List ℕ} {l₀ : List ℤ} {c : List ℕ} {l : List ℤ} {times : List ℕ} {links : List ℤ} (M : Making k m i c₀ l₀ c l times links) where
+module _ {k m i : ℕ} {c₀ : List ℕ} {l₀ : List ℤ} {c : List ℕ} {l : List ℤ} {times : List ℕ} {links : List ℤ} (M : Sweeping k m i c₀ l₀ c l times links) where
   -- the next clause can be visited
-  pub making-next : i < m → SweepableFrom k m c₀ l₀ times links → SweepableFrom (k + i) 1 c l times links
-  making-next lt S = record { number = S .number; sweepable = M .sweepable (S .number) (S .room) (S .sweepable); room = omega (arith, lt, S .room) }
+  pub sweeping-next : i < m → SweepableFrom k m c₀ l₀ times links → SweepableFrom (k + i) 1 c l times links
+  sweeping-next lt S = record { number = S .number; sweepable = M .sweepable (S .number) (S .room) (S .sweepable); room = omega (arith, lt, S .room) }
 
-  pub making-more : i < m → (c′ : List ℕ) (l′ : List ℤ) → ((w : List ℤ) → tables c′ l′ w times links ≡ visit (sweepClause (columns times links)) (k + i) (tables c l w times links)) → Making k m (i + 1) c₀ l₀ c′ l′ times links
-  making-more lt c′ l′ e = record {
+  pub sweeping-more : i < m → (c′ : List ℕ) (l′ : List ℤ) → ((w : List ℤ) → tables c′ l′ w times links ≡ visit (sweepClause (columns times links)) (k + i) (tables c l w times links)) → Sweeping k m (i + 1) c₀ l₀ c′ l′ times links
+  sweeping-more lt c′ l′ e = record {
     within = omega arith;
     sweepable = λ n h R. sweepable-visit (M .sweepable n h R) (let z : k + i < n = omega arith in z) c′ l′ e;
     left = λ w. visits-next (sweepClause (columns times links)) (tables c l w times links) (let z : m - i ≡ suc (m - (i + 1)) = omega arith in z) (let z : k + (i + 1) ≡ suc (k + i) = omega arith in z) (e w) ∙ M .left w;
   }
 
-  pub making-done : m ≤ i → ((n : ℕ) → k + m ≤ n → Sweepable n c₀ l₀ times links → Sweepable n c l times links) × ((w : List ℤ) → tables c l w times links ≡ visits (sweepClause (columns times links)) m k (tables c₀ l₀ w times links))
-  making-done h = (M .sweepable, λ w. visits-none (sweepClause (columns times links)) (k + i) (let z : m - i ≡ 0 = omega arith in z) (tables c l w times links) ∙ M .left w)
+  pub sweeping-done : m ≤ i → ((n : ℕ) → k + m ≤ n → Sweepable n c₀ l₀ times links → Sweepable n c l times links) × ((w : List ℤ) → tables c l w times links ≡ visits (sweepClause (columns times links)) m k (tables c₀ l₀ w times links))
+  sweeping-done h = (M .sweepable, λ w. visits-none (sweepClause (columns times links)) (k + i) (let z : m - i ≡ 0 = omega arith in z) (tables c l w times links) ∙ M .left w)

@@ -1,5 +1,5 @@
 -- Storing a fate at clause i: the records and the view of every clause after it, and that the clauses' part of the shape rule is kept. With these laws no later proof looks at the flat literal table. Assumes nothing.
-use Prim.Native.Nat.{ℕ, _+_, _*_, _-_, _≤_, _<_}
+use Prim.Native.Nat.{ℕ, _+_, _*_, _≤_, _<_}
 use native.Mathlib.Omega.{arith}
 use mathlib.Core.Path.{_≡_, sym, ap, subst, _∙_}
 use mathlib.Core.Bool.{Bool, true}

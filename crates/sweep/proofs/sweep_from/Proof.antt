@@ -9,7 +9,7 @@ use lib.ListN.{length, replicate, length-replicate}
 use mathlib.Core.Bool.{true, false}
 use mathlib.Core.Path.{_∙_}
 use native.Mathlib.Omega.{arith}
-use Prim.Native.Nat.{ℕ, _+_, _-_, _≤_}
+use Prim.Native.Nat.{ℕ, _+_, _≤_}
 use borrow.Author.Needs.{needs}
 use Rattle.sweep.proofs.sweep_from.Statement.{statement}
 use Rattle.sweep.proofs.sweep_from.Tie as tie

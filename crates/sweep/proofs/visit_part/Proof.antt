@@ -10,7 +10,7 @@ use Rattle.sweep.proofs.visit_part.Statement.{statement}
 use Rattle.sweep.proofs.visit_part.Tie as tie
 
 returns : tie.Need-returns
-returns c = part-short (c .before .before .before .before .args .times .now) (c .before .before .before .before .args .links .now) (c .before .before .before .before .args .part .now) (c .before .before .before .before .args .part .now) (c .if1 .taken)
+returns c = let a = c .before .before .before .before .args in part-short (a .times .now) (a .links .now) (a .part .now) (a .part .now) (c .if1 .taken)
 
 hidden-tautology-requires : tie.Need-hidden-tautology-requires
 hidden-tautology-requires c κs = search needs
@@ -28,7 +28,7 @@ same-length-3 : tie.Need-same-length-3
 same-length-3 c = search needs
 
 returns-2 : tie.Need-returns-2
-returns-2 c = part-dropped (c .before .before .before .before .before .before .before .before .before .before .before .before .before .before .before .before .args .times .now) (c .before .before .before .before .before .before .before .before .before .before .before .before .before .before .before .before .args .links .now) (c .before .before .before .before .before .before .before .before .before .before .before .before .before .before .before .before .args .part .now) (c .before .zero-from .last .0) (c .before .before .before .before .before .before .before .before .before .before .before .before .if1 .left) (sym (c .before .before .before .before .before .before .before .before .hidden-tautology .ensures .0) ∙ c .before .before .before .if2 .taken) (c .before .zero-from .ensures)
+returns-2 c = let a = c .before .before .before .before .before .before .before .before .before .before .before .before .before .before .before .before .args in part-dropped (a .times .now) (a .links .now) (a .part .now) (c .before .zero-from .last .0) (c .before .before .before .before .before .before .before .before .before .before .before .before .if1 .left) (sym (c .before .before .before .before .before .before .before .before .hidden-tautology .ensures .0) ∙ c .before .before .before .if2 .taken) (c .before .zero-from .ensures)
 
 shorten-part-requires : tie.Need-shorten-part-requires
 shorten-part-requires c κs = (judged-clause (c .before .before .before .before .before .before .before .before .before .before .before .before .before .before .before .before .pre .0), c .before .before .before .before .before .before .before .before .hidden-tautology .ensures .1, c .before .before .before .before .before .before .before .before .hidden-tautology .kept .1 .1 .1 .1 .0 ∙ c .before .before .before .before .before .before .before .before .before .before .before .before .before .before .before .before .pre .3)
@@ -46,7 +46,7 @@ same-length-6 : tie.Need-same-length-6
 same-length-6 c = search needs
 
 returns-3 : tie.Need-returns-3
-returns-3 c = part-left (c .before .before .before .before .before .before .before .before .before .before .before .before .before .before .before .before .before .before .before .before .before .before .args .times .now) (c .before .before .before .before .before .before .before .before .before .before .before .before .before .before .before .before .before .before .before .before .before .before .args .links .now) (c .before .before .before .before .before .before .before .before .before .before .before .before .before .before .before .before .before .before .before .before .before .before .args .part .now) (c .before .before .before .before .before .shorten-part .last .0) (c .before .before .before .before .before .shorten-part .result) (c .before .before .before .before .before .before .before .before .before .before .before .before .before .before .before .before .before .before .if1 .left) (sym (c .before .before .before .before .before .before .before .before .before .before .before .before .before .before .hidden-tautology .ensures .0) ∙ c .before .before .before .before .before .before .before .before .before .if2 .left) (c .before .before .before .before .before .shorten-part .ensures)
+returns-3 c = let a = c .before .before .before .before .before .before .before .before .before .before .before .before .before .before .before .before .before .before .before .before .before .before .args in part-left (a .times .now) (a .links .now) (a .part .now) (c .before .before .before .before .before .shorten-part .last .0) (c .before .before .before .before .before .shorten-part .result) (c .before .before .before .before .before .before .before .before .before .before .before .before .before .before .before .before .before .before .if1 .left) (sym (c .before .before .before .before .before .before .before .before .before .before .before .before .before .before .hidden-tautology .ensures .0) ∙ c .before .before .before .before .before .before .before .before .before .if2 .left) (c .before .before .before .before .before .shorten-part .ensures)
 
 pub visit-part-spec : {M : Type 1} → statement M
 visit-part-spec =
