@@ -2,8 +2,8 @@
  * result, or `refused` and the refusal's number.
  *
  * Build, from the root of the repository:
- *     rt staticlib simplify
- *     gcc -std=c11 -O2 -Iinclude -o target/solver examples/solver.c target/staticlib/libsimplify.a
+ *     rt staticlib c_calls
+ *     gcc -std=c99 -O2 -Iinclude -o target/solver examples/solver.c target/staticlib/libc_calls.a
  * Run:
  *     target/solver [FILE]
  */

@@ -1,4 +1,5 @@
-/* A CNF formula, simplified in a single call. */
+/* A CNF formula, simplified: in a single call on texts (unhide_text), or pass by pass on tables that the caller lends.
+ * C99 or later, C++98 or later. */
 #ifndef UNHIDE_H
 #define UNHIDE_H
 
@@ -8,6 +9,8 @@
 #ifdef __cplusplus
 extern "C" {
 #endif
+
+/* ---- a single call on texts */
 
 /* Reads a formula as DIMACS text, makes at most `rounds` rounds of the simplifier, and writes what is left as DIMACS text.
  *
@@ -29,9 +32,292 @@ extern "C" {
  * to have no satisfying assignment is written alike.
  *
  * Nothing is kept between calls, nothing is allocated, and calls in several threads do not disturb each other. The tables
- * lie on the stack, and a walk through the formula's implications goes as deep as they do: a call takes up to 1,080,000 bytes
- * of stack (measured, on formulas with a chain of 2,047 literals). A thread that calls it should have 2 MiB. */
+ * lie on the stack, and a walk through the formula's implications goes as deep as they do: a call takes 991,232 bytes of stack at the most
+ * (tests/c/stack.c measures it, on a formula whose walk enters 2,047 literals before it leaves one). A stack of 1 MiB is enough. */
 int64_t unhide_text(const uint8_t *text, size_t text_len, uint16_t rounds, uint8_t *out, size_t out_len);
+
+/* ---- calls on tables that the caller lends
+ *
+ * The tables hold a formula, the state says what is known about them, and every call leaves both so that the next can go on.
+ * All tables and the state zero is a formula of no variables and no clauses, with no pass open; a load brings in another.
+ *
+ *   unhide_load        reads a DIMACS text into the tables, whatever they hold; closes any pass
+ *   unhide_propagate   unit propagation, n clauses in a call; resumes an open Propagate
+ *   unhide_merge       equivalent literals become one, n clauses in a call; resumes an open Merge
+ *   unhide_stamp       stamps all literals in the order given; the stamps are then fresh
+ *   unhide_failed      sets the complements of failed literals, by fresh stamps
+ *   unhide_sweep       drops hidden tautologies and removes hidden literals, by fresh stamps, n clauses in a call; resumes an open Sweep
+ *   unhide_run         at most `count` rounds of whole Propagate and Merge passes, Stamp, Failed and Sweep
+ *   unhide_write       writes what stands as DIMACS text; changes neither tables nor state
+ *
+ * A call of Propagate, Merge or Sweep opens its pass, or resumes it where it is open, and makes at most n visits to clauses; Propagate goes
+ * through the clauses again until one time through changes nothing. Where the answer says open, visits are left, and another call
+ * goes on where this one stopped. While a pass is open the other passes and Run are refused; Load and Write are not. Opening Propagate
+ * or Merge, the end of Sweep, the mark and a load spend the stamps: they are fresh no more.
+ *
+ * Most callers use unhide_tables_load and so on, further below, with one `struct unhide_tables`. The calls that these make take a pointer
+ * and a length, in numbers, for each slice: clauses, literals, variables, times, links, the state and the answer. The stated lengths
+ * are 12,288, 16,384, 2,048, 4,096, 4,096, 7 and 4 numbers; what is lent beyond them is neither read nor written.
+ *
+ * No pointer may be null, not even with a length of 0. Slices that are lent to one call must not overlap.
+ *
+ * Every call returns 0 where it was made, else the number of a refusal, negative. A refused call changes no table, no output and not
+ * the state.
+ *
+ * Nothing is kept between calls and nothing is allocated. Calls in several threads on tables of their own do not disturb each other;
+ * two threads must not use the same tables at the same time. Run needs the most stack, 835,584 bytes (measured as above); 896 KiB are
+ * enough. A thread that makes these calls should have 2 MiB. */
+
+/* The most that a formula may have, and the records of each table. There is a slot for each literal: 2v - 2 for v, 2v - 1 for -v. */
+enum {
+    UNHIDE_CLAUSES = 4096,
+    UNHIDE_LITERALS = 16384,
+    UNHIDE_VARIABLES = 1024,
+    UNHIDE_SLOTS = 2048
+};
+
+/* Refusals. Where several apply, the topmost holds; of -2 and -3 the one at the smaller offset. The place is 0 where none is named. */
+enum unhide_refusal {
+    /* all calls: a slice is shorter than stated (an answer of fewer than four numbers stays as it is), a number of the state is none
+     * that it can have, or (but for Load) tables and state break the rules that every call keeps: then the caller has written into them */
+    UNHIDE_SHAPE = -1,
+    /* the passes and Run: a pass is open, other than the one that this call resumes */
+    UNHIDE_OTHER_PASS = -4,
+    /* the passes and Run: the mark is set, no assignment satisfies the formula */
+    UNHIDE_MARKED = -5,
+    /* Stamp: the list is not all 2V literals, each once. Place: the index of the first wrong entry, 0 for a wrong length */
+    UNHIDE_ORDER = -8,
+    /* Merge when it opens, Stamp: a standing clause has one literal, or a variable with a value. Place: the first such clause, counted from 1 */
+    UNHIDE_UNSETTLED = -6,
+    /* Stamp: two different literals imply each other */
+    UNHIDE_CYCLE = -7,
+    /* Failed, Sweep: the stamps are not fresh */
+    UNHIDE_STALE = -9,
+    /* Load: the text breaks the grammar. Place: the offset in the text */
+    UNHIDE_GRAMMAR = -2,
+    /* Load: the text is beyond a limit, or has more or fewer clauses than its header says. Place: the offset in the text */
+    UNHIDE_LIMIT = -3,
+    /* Write: the output is too short. Place: the length that is needed, at most 135,184 */
+    UNHIDE_OUTPUT = -10
+};
+
+/* A clause: its `length` literals stand in the table of literals from `start` on. `standing` is 1, or 0 for a clause that was dropped,
+ * which has length 0. */
+struct unhide_clause {
+    uint32_t start, length, standing;
+};
+
+/* A variable: the literal that stands for its class of equivalent literals (the variable itself where it was not merged), and its value,
+ * 1, -1 or 0 for none. Only a variable that stands for its class has a value. */
+struct unhide_variable {
+    int32_t class_literal, value;
+};
+
+/* The stamp of a literal is two records, in two tables. The times are those at which the walk through the implications entered
+ * and left the literal. */
+struct unhide_times {
+    uint32_t discovery, finish;
+};
+
+/* The links are the literal from which the walk entered it, and the literal at which it had started; there they are the literal itself. */
+struct unhide_links {
+    int32_t parent, start;
+};
+
+enum unhide_pass {
+    UNHIDE_NO_PASS = 0,
+    UNHIDE_PROPAGATE = 1,
+    UNHIDE_MERGE = 2,
+    UNHIDE_SWEEP = 3
+};
+
+struct unhide_state {
+    /* V and N, dropped clauses counted */
+    uint32_t variables, clauses;
+    /* the open pass, a number of enum unhide_pass; the clauses that it has visited in this time through, 0 with no pass open; whether this
+     * time through has changed something, 1 or 0, and 0 unless the pass is Propagate */
+    uint32_t pass, cursor, changed;
+    /* 1 or 0: the stamps are fresh; no assignment satisfies the formula */
+    uint32_t fresh, mark;
+};
+
+/* All that a formula needs. These are 155,676 bytes: too many for a small stack. */
+struct unhide_tables {
+    struct unhide_clause clauses[UNHIDE_CLAUSES];
+    int32_t literals[UNHIDE_LITERALS];
+    struct unhide_variable variables[UNHIDE_VARIABLES];
+    struct unhide_times times[UNHIDE_SLOTS];
+    struct unhide_links links[UNHIDE_SLOTS];
+    struct unhide_state state;
+};
+
+/* What a call answers where it was made, 0 where it has nothing to say:
+ *   `value`   Propagate, Merge, Sweep: visits made; Failed: values set; Run: rounds made; Write: bytes written
+ *   the rest  Propagate, Merge, Sweep: standing clauses and literals that are gone by this call, and 1 if the pass is still open
+ * Where it is refused, `value` is the place of the refusal, and the rest stays. */
+struct unhide_answer {
+    uint64_t value, clauses_gone, literals_gone, open;
+};
+
+/* The calls take the records as numbers one behind the other, so they must have no padding. */
+typedef char unhide_clause_has_no_padding[sizeof(struct unhide_clause) == 3 * sizeof(uint32_t) ? 1 : -1];
+typedef char unhide_variable_has_no_padding[sizeof(struct unhide_variable) == 2 * sizeof(int32_t) ? 1 : -1];
+typedef char unhide_times_has_no_padding[sizeof(struct unhide_times) == 2 * sizeof(uint32_t) ? 1 : -1];
+typedef char unhide_links_has_no_padding[sizeof(struct unhide_links) == 2 * sizeof(int32_t) ? 1 : -1];
+typedef char unhide_state_has_no_padding[sizeof(struct unhide_state) == 7 * sizeof(uint32_t) ? 1 : -1];
+typedef char unhide_answer_has_no_padding[sizeof(struct unhide_answer) == 4 * sizeof(uint64_t) ? 1 : -1];
+
+/* ---- the calls on slices */
+
+int64_t unhide_load(const uint8_t *text, size_t text_len,
+                    uint32_t *clauses, size_t clauses_len, int32_t *literals, size_t literals_len,
+                    int32_t *variables, size_t variables_len,
+                    const uint32_t *times, size_t times_len, const int32_t *links, size_t links_len,
+                    uint32_t *state, size_t state_len, uint64_t *answer, size_t answer_len);
+
+int64_t unhide_propagate(uint32_t *clauses, size_t clauses_len, int32_t *literals, size_t literals_len,
+                         int32_t *variables, size_t variables_len,
+                         const uint32_t *times, size_t times_len, const int32_t *links, size_t links_len,
+                         uint32_t *state, size_t state_len, uint64_t *answer, size_t answer_len, uint16_t n);
+
+int64_t unhide_merge(uint32_t *clauses, size_t clauses_len, int32_t *literals, size_t literals_len,
+                     int32_t *variables, size_t variables_len,
+                     const uint32_t *times, size_t times_len, const int32_t *links, size_t links_len,
+                     uint32_t *state, size_t state_len, uint64_t *answer, size_t answer_len, uint16_t n);
+
+int64_t unhide_stamp(const uint32_t *clauses, size_t clauses_len, const int32_t *literals, size_t literals_len,
+                     const int32_t *variables, size_t variables_len,
+                     uint32_t *times, size_t times_len, int32_t *links, size_t links_len,
+                     uint32_t *state, size_t state_len, uint64_t *answer, size_t answer_len, const int32_t *order, size_t order_len);
+
+int64_t unhide_failed(const uint32_t *clauses, size_t clauses_len, const int32_t *literals, size_t literals_len,
+                      int32_t *variables, size_t variables_len,
+                      const uint32_t *times, size_t times_len, const int32_t *links, size_t links_len,
+                      uint32_t *state, size_t state_len, uint64_t *answer, size_t answer_len);
+
+int64_t unhide_sweep(uint32_t *clauses, size_t clauses_len, int32_t *literals, size_t literals_len,
+                     const int32_t *variables, size_t variables_len,
+                     const uint32_t *times, size_t times_len, const int32_t *links, size_t links_len,
+                     uint32_t *state, size_t state_len, uint64_t *answer, size_t answer_len, uint16_t n);
+
+int64_t unhide_run(uint32_t *clauses, size_t clauses_len, int32_t *literals, size_t literals_len,
+                   int32_t *variables, size_t variables_len,
+                   uint32_t *times, size_t times_len, int32_t *links, size_t links_len,
+                   uint32_t *state, size_t state_len, uint64_t *answer, size_t answer_len, uint16_t count);
+
+int64_t unhide_write(const uint32_t *clauses, size_t clauses_len, const int32_t *literals, size_t literals_len,
+                     const int32_t *variables, size_t variables_len,
+                     const uint32_t *times, size_t times_len, const int32_t *links, size_t links_len,
+                     const uint32_t *state, size_t state_len, uint64_t *answer, size_t answer_len, uint8_t *out, size_t out_len);
+
+/* ---- the calls on a struct of tables */
+
+/* A part of the tables as the calls take it: a pointer and a length in numbers. */
+#define UNHIDE_LENT(type, part) (type *)&(part), sizeof(part) / (sizeof(type))
+
+static inline int64_t unhide_tables_load(struct unhide_tables *tables, const uint8_t *text, size_t text_len, struct unhide_answer *answer)
+{
+    return unhide_load(text, text_len,
+                       UNHIDE_LENT(uint32_t, tables->clauses), UNHIDE_LENT(int32_t, tables->literals),
+                       UNHIDE_LENT(int32_t, tables->variables), UNHIDE_LENT(const uint32_t, tables->times),
+                       UNHIDE_LENT(const int32_t, tables->links), UNHIDE_LENT(uint32_t, tables->state),
+                       UNHIDE_LENT(uint64_t, *answer));
+}
+
+static inline int64_t unhide_tables_propagate(struct unhide_tables *tables, uint16_t n, struct unhide_answer *answer)
+{
+    return unhide_propagate(UNHIDE_LENT(uint32_t, tables->clauses), UNHIDE_LENT(int32_t, tables->literals),
+                            UNHIDE_LENT(int32_t, tables->variables), UNHIDE_LENT(const uint32_t, tables->times),
+                            UNHIDE_LENT(const int32_t, tables->links), UNHIDE_LENT(uint32_t, tables->state),
+                            UNHIDE_LENT(uint64_t, *answer), n);
+}
+
+static inline int64_t unhide_tables_merge(struct unhide_tables *tables, uint16_t n, struct unhide_answer *answer)
+{
+    return unhide_merge(UNHIDE_LENT(uint32_t, tables->clauses), UNHIDE_LENT(int32_t, tables->literals),
+                        UNHIDE_LENT(int32_t, tables->variables), UNHIDE_LENT(const uint32_t, tables->times),
+                        UNHIDE_LENT(const int32_t, tables->links), UNHIDE_LENT(uint32_t, tables->state),
+                        UNHIDE_LENT(uint64_t, *answer), n);
+}
+
+static inline int64_t unhide_tables_stamp(struct unhide_tables *tables, const int32_t *order, size_t order_len, struct unhide_answer *answer)
+{
+    return unhide_stamp(UNHIDE_LENT(const uint32_t, tables->clauses), UNHIDE_LENT(const int32_t, tables->literals),
+                        UNHIDE_LENT(const int32_t, tables->variables), UNHIDE_LENT(uint32_t, tables->times),
+                        UNHIDE_LENT(int32_t, tables->links), UNHIDE_LENT(uint32_t, tables->state),
+                        UNHIDE_LENT(uint64_t, *answer), order, order_len);
+}
+
+static inline int64_t unhide_tables_failed(struct unhide_tables *tables, struct unhide_answer *answer)
+{
+    return unhide_failed(UNHIDE_LENT(const uint32_t, tables->clauses), UNHIDE_LENT(const int32_t, tables->literals),
+                         UNHIDE_LENT(int32_t, tables->variables), UNHIDE_LENT(const uint32_t, tables->times),
+                         UNHIDE_LENT(const int32_t, tables->links), UNHIDE_LENT(uint32_t, tables->state),
+                         UNHIDE_LENT(uint64_t, *answer));
+}
+
+static inline int64_t unhide_tables_sweep(struct unhide_tables *tables, uint16_t n, struct unhide_answer *answer)
+{
+    return unhide_sweep(UNHIDE_LENT(uint32_t, tables->clauses), UNHIDE_LENT(int32_t, tables->literals),
+                        UNHIDE_LENT(const int32_t, tables->variables), UNHIDE_LENT(const uint32_t, tables->times),
+                        UNHIDE_LENT(const int32_t, tables->links), UNHIDE_LENT(uint32_t, tables->state),
+                        UNHIDE_LENT(uint64_t, *answer), n);
+}
+
+static inline int64_t unhide_tables_run(struct unhide_tables *tables, uint16_t count, struct unhide_answer *answer)
+{
+    return unhide_run(UNHIDE_LENT(uint32_t, tables->clauses), UNHIDE_LENT(int32_t, tables->literals),
+                      UNHIDE_LENT(int32_t, tables->variables), UNHIDE_LENT(uint32_t, tables->times),
+                      UNHIDE_LENT(int32_t, tables->links), UNHIDE_LENT(uint32_t, tables->state),
+                      UNHIDE_LENT(uint64_t, *answer), count);
+}
+
+static inline int64_t unhide_tables_write(const struct unhide_tables *tables, uint8_t *out, size_t out_len, struct unhide_answer *answer)
+{
+    return unhide_write(UNHIDE_LENT(const uint32_t, tables->clauses), UNHIDE_LENT(const int32_t, tables->literals),
+                        UNHIDE_LENT(const int32_t, tables->variables), UNHIDE_LENT(const uint32_t, tables->times),
+                        UNHIDE_LENT(const int32_t, tables->links), UNHIDE_LENT(const uint32_t, tables->state),
+                        UNHIDE_LENT(uint64_t, *answer), out, out_len);
+}
+
+#undef UNHIDE_LENT
+
+/* ---- looking at the tables, between any two calls */
+
+/* Clause i, from 1 to the state's clauses. */
+static inline const struct unhide_clause *unhide_clause_at(const struct unhide_tables *tables, uint32_t i)
+{
+    return &tables->clauses[i - 1];
+}
+
+/* The literals of clause i; there are as many as its length says. */
+static inline const int32_t *unhide_literals_at(const struct unhide_tables *tables, uint32_t i)
+{
+    return tables->literals + tables->clauses[i - 1].start;
+}
+
+/* Variable v, from 1 to the state's variables. */
+static inline const struct unhide_variable *unhide_variable_at(const struct unhide_tables *tables, uint32_t v)
+{
+    return &tables->variables[v - 1];
+}
+
+/* The slot of a literal v or -v, with v from 1 to UNHIDE_VARIABLES: the record of its stamp, counted from 0. */
+static inline uint32_t unhide_slot(int32_t literal)
+{
+    return literal > 0 ? 2 * (uint32_t)literal - 2 : 2 * (uint32_t)-literal - 1;
+}
+
+/* The stamp of a literal. It says something about the formula only while the stamps are fresh. */
+static inline const struct unhide_times *unhide_times_at(const struct unhide_tables *tables, int32_t literal)
+{
+    return &tables->times[unhide_slot(literal)];
+}
+
+static inline const struct unhide_links *unhide_links_at(const struct unhide_tables *tables, int32_t literal)
+{
+    return &tables->links[unhide_slot(literal)];
+}
 
 #ifdef __cplusplus
 }

@@ -1,7 +1,7 @@
-/* The stack that the C call takes, on the formula with the deepest walk and on one whose propagation goes through the clauses many times.
+/* The stack that `unhide_text` and `unhide_run` take, on the formula with the deepest walk and on one whose propagation goes through the clauses many times.
  *
- *     stack SIZE    makes both calls in a thread with a stack of SIZE bytes: one that needs more ends with a signal
- *     stack         prints the least size, in steps of a page, with which both calls return
+ *     stack TEXT RUN    makes the calls in threads with stacks of so many bytes: a call that needs more ends the program with a signal
+ *     stack             prints for each of the two the least size, in steps of a page, with which it returns
  */
 #define _XOPEN_SOURCE 700
 #include <pthread.h>
@@ -13,15 +13,17 @@
 
 #include "unhide.h"
 
-enum { VARIABLES = 1024, PAGE = 4096, MOST = 4 << 20 };
+enum { VARIABLES = 1024, PAGE = 4096, LEAST = 16384, MOST = 4 << 20 };
 
 static char deep[65536], far[65536];
 static uint8_t out[135184];
+static struct unhide_tables tables;
 
 /* 1 -> 2 -> .. -> 1024 -> -1023 -> .. -> -1: a walk from 1 enters 2,047 literals before it leaves one. */
 static void write_deep(void) {
     char *at = deep + sprintf(deep, "p cnf %d %d\n", VARIABLES, VARIABLES);
-    for (int v = 1; v < VARIABLES; v++)
+    int v;
+    for (v = 1; v < VARIABLES; v++)
         at += sprintf(at, "%d %d 0\n", -v, v + 1);
     sprintf(at, "%d %d 0\n", -VARIABLES, -(VARIABLES - 1));
 }
@@ -29,19 +31,33 @@ static void write_deep(void) {
 /* A unit at the end of a chain that stands in reverse: each time through the clauses sets one value. */
 static void write_far(void) {
     char *at = far + sprintf(far, "p cnf %d %d\n", VARIABLES, VARIABLES);
-    for (int v = VARIABLES; v > 1; v--)
+    int v;
+    for (v = VARIABLES; v > 1; v--)
         at += sprintf(at, "%d %d 0\n", -(v - 1), v);
     sprintf(at, "1 0\n");
 }
 
-static void *calls(void *result) {
-    *(int *)result = unhide_text((const uint8_t *)deep, strlen(deep), 2, out, sizeof out) > 0
-        && unhide_text((const uint8_t *)far, strlen(far), 2, out, sizeof out) > 0;
+static int text_returns(const char *text) {
+    return unhide_text((const uint8_t *)text, strlen(text), 2, out, sizeof out) > 0;
+}
+
+static int run_returns(const char *text) {
+    struct unhide_answer answer;
+    return unhide_tables_load(&tables, (const uint8_t *)text, strlen(text), &answer) == 0 && unhide_tables_run(&tables, 2, &answer) == 0;
+}
+
+static void *texts(void *result) {
+    *(int *)result = text_returns(deep) && text_returns(far);
     return NULL;
 }
 
-/* Whether both calls return with a stack of so many bytes. A stack that is too small ends the process. */
-static int returns_in(size_t size) {
+static void *runs(void *result) {
+    *(int *)result = run_returns(deep) && run_returns(far);
+    return NULL;
+}
+
+/* Whether the calls return with a stack of so many bytes. A stack that is too small ends the process. */
+static int returns_in(void *(*calls)(void *), size_t size) {
     pthread_attr_t attributes;
     pthread_t thread;
     int result = 0;
@@ -52,28 +68,33 @@ static int returns_in(size_t size) {
 }
 
 /* The same in a process of its own, so that it can be tried. */
-static int tried(size_t size) {
+static int tried(void *(*calls)(void *), size_t size) {
+    int status = 1;
     pid_t child = fork();
     if (child == 0)
-        _exit(returns_in(size) ? 0 : 1);
-    int status = 1;
+        _exit(returns_in(calls, size) ? 0 : 1);
     waitpid(child, &status, 0);
     return WIFEXITED(status) && WEXITSTATUS(status) == 0;
+}
+
+static size_t least(void *(*calls)(void *)) {
+    size_t low = LEAST, high = MOST;
+    while (high - low > PAGE) {
+        size_t middle = (low + high) / 2 / PAGE * PAGE;
+        if (tried(calls, middle))
+            high = middle;
+        else
+            low = middle;
+    }
+    return high;
 }
 
 int main(int argc, char **argv) {
     write_deep();
     write_far();
-    if (argc > 1)
-        return returns_in(strtoul(argv[1], NULL, 10)) ? 0 : 1;
-    size_t low = 16384, high = MOST;
-    while (high - low > PAGE) {
-        size_t middle = (low + high) / 2 / PAGE * PAGE;
-        if (tried(middle))
-            high = middle;
-        else
-            low = middle;
-    }
-    printf("%zu\n", high);
+    if (argc == 3)
+        return returns_in(texts, strtoul(argv[1], NULL, 10)) && returns_in(runs, strtoul(argv[2], NULL, 10)) ? 0 : 1;
+    printf("unhide_text %lu\n", (unsigned long)least(texts));
+    printf("unhide_run %lu\n", (unsigned long)least(runs));
     return 0;
 }

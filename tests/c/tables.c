@@ -1,0 +1,120 @@
+/* The calls on a struct of tables: answers, refusals with their places, and the helpers that look at the tables. It is C and C++.
+ * What differs is printed, and the exit status is then 1. */
+#include <stdio.h>
+#include <string.h>
+
+#include "unhide.h"
+
+static int differs;
+
+static void compare(const char *name, long expected, long found) {
+    if (expected == found)
+        return;
+    printf("differs: %s: expected %ld, found %ld\n", name, expected, found);
+    differs = 1;
+}
+
+static struct unhide_tables tables;
+static struct unhide_answer answer;
+
+static const int32_t order[] = {1, -1, 2, -2, 3, -3, 4, -4};
+
+/* Compares what a call returns and the first value of its answer. */
+static void compare_call(const char *name, long expected, long value, int64_t result) {
+    char named[64];
+    compare(name, expected, (long)result);
+    sprintf(named, "%s, value", name);
+    compare(named, value, (long)answer.value);
+}
+
+static void compare_rest(const char *name, long clauses_gone, long literals_gone, long open) {
+    char named[64];
+    sprintf(named, "%s, clauses gone", name);
+    compare(named, clauses_gone, (long)answer.clauses_gone);
+    sprintf(named, "%s, literals gone", name);
+    compare(named, literals_gone, (long)answer.literals_gone);
+    sprintf(named, "%s, open", name);
+    compare(named, open, (long)answer.open);
+}
+
+static int64_t load(const char *text) {
+    return unhide_tables_load(&tables, (const uint8_t *)text, strlen(text), &answer);
+}
+
+static int64_t write_out(uint8_t *out, size_t length) {
+    return unhide_tables_write(&tables, out, length, &answer);
+}
+
+static void compare_passes(void) {
+    uint8_t out[64];
+    compare_call("load", 0, 0, load("p cnf 4 3\n-1 2 0\n-2 3 0\n1 3 4 0\n"));
+    compare("variables", 4, (long)tables.state.variables);
+    compare("clauses", 3, (long)tables.state.clauses);
+    compare_call("propagate", 0, 3, unhide_tables_propagate(&tables, 65535, &answer));
+    compare_rest("propagate", 0, 0, 0);
+    compare_call("merge, first step", 0, 1, unhide_tables_merge(&tables, 1, &answer));
+    compare_rest("merge, first step", 0, 0, 1);
+    compare("pass", UNHIDE_MERGE, (long)tables.state.pass);
+    compare("cursor", 1, (long)tables.state.cursor);
+    compare_call("merge, the rest", 0, 2, unhide_tables_merge(&tables, 9, &answer));
+    compare_call("stamp", 0, 0, unhide_tables_stamp(&tables, order, 8, &answer));
+    compare("fresh", 1, (long)tables.state.fresh);
+    compare_call("failed", 0, 0, unhide_tables_failed(&tables, &answer));
+    compare_call("sweep", 0, 3, unhide_tables_sweep(&tables, 65535, &answer));
+    compare_rest("sweep", 0, 1, 0);
+    compare("pass at the end", UNHIDE_NO_PASS, (long)tables.state.pass);
+    compare_call("write", 0, 30, write_out(out, 64));
+    compare("written", 0, memcmp(out, "p cnf 4 3\n-1 2 0\n-2 3 0\n3 4 0\n", 30));
+    compare_call("run", 0, 1, unhide_tables_run(&tables, 9, &answer));
+}
+
+static void compare_records(void) {
+    load("p cnf 4 3\n-1 2 0\n-2 3 0\n1 3 4 0\n");
+    unhide_tables_stamp(&tables, order, 8, &answer);
+    compare("slot of 1", 0, (long)unhide_slot(1));
+    compare("slot of -1", 1, (long)unhide_slot(-1));
+    compare("slot of -1024", 2047, (long)unhide_slot(-1024));
+    compare("start of clause 3", 4, (long)unhide_clause_at(&tables, 3)->start);
+    compare("length of clause 3", 3, (long)unhide_clause_at(&tables, 3)->length);
+    compare("clause 3 stands", 1, (long)unhide_clause_at(&tables, 3)->standing);
+    compare("first literal of clause 3", 1, (long)unhide_literals_at(&tables, 3)[0]);
+    compare("class of 2", 2, (long)unhide_variable_at(&tables, 2)->class_literal);
+    compare("value of 2", 0, (long)unhide_variable_at(&tables, 2)->value);
+    compare("discovery of 1", 1, (long)unhide_times_at(&tables, 1)->discovery);
+    compare("finish of 1", 6, (long)unhide_times_at(&tables, 1)->finish);
+    compare("parent of 3", 2, (long)unhide_links_at(&tables, 3)->parent);
+    compare("start of 3", 1, (long)unhide_links_at(&tables, 3)->start);
+    compare("parent of -3", -3, (long)unhide_links_at(&tables, -3)->parent);
+}
+
+static void compare_refusals(void) {
+    uint8_t out[64];
+    static const int32_t repeated[] = {1, -1, 2, -2, 3, -3, 1, -4};
+    compare_call("grammar", UNHIDE_GRAMMAR, 10, load("p cnf 1 1\n01 0\n"));
+    compare_call("limit", UNHIDE_LIMIT, 10, load("p cnf 1 1\n2 0\n"));
+    compare("tables kept", 3, (long)tables.state.clauses);
+    compare_call("order", UNHIDE_ORDER, 6, unhide_tables_stamp(&tables, repeated, 8, &answer));
+    compare_call("output", UNHIDE_OUTPUT, 32, write_out(out, 31));
+    unhide_tables_sweep(&tables, 1, &answer);
+    compare_call("other pass", UNHIDE_OTHER_PASS, 0, unhide_tables_failed(&tables, &answer));
+    unhide_tables_sweep(&tables, 9, &answer);
+    compare_call("stale", UNHIDE_STALE, 0, unhide_tables_sweep(&tables, 9, &answer));
+    load("p cnf 2 2\n1 2 0\n1 0\n");
+    compare_call("unsettled", UNHIDE_UNSETTLED, 2, unhide_tables_merge(&tables, 9, &answer));
+    load("p cnf 2 2\n-1 2 0\n1 -2 0\n");
+    compare_call("cycle", UNHIDE_CYCLE, 0, unhide_tables_stamp(&tables, order, 4, &answer));
+    load("p cnf 1 1\n0\n");
+    compare("mark", 1, (long)tables.state.mark);
+    compare_call("marked", UNHIDE_MARKED, 0, unhide_tables_run(&tables, 1, &answer));
+    tables.state.variables = 1025;
+    compare_call("shape", UNHIDE_SHAPE, 0, unhide_tables_propagate(&tables, 1, &answer));
+}
+
+int main(void) {
+    compare_passes();
+    compare_records();
+    compare_refusals();
+    if (!differs)
+        printf("ok tables\n");
+    return differs;
+}
