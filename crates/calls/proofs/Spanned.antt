@@ -28,7 +28,7 @@ use Rattle.round_order.specs.Order.{orderOf}
 use Rattle.run.specs.Run.{programme, follow, round, unchanged, Rounds, rounds, runFrom, runCall}
 use Rattle.run.specs.Steps.{Runs}
 use Rattle.run.proofs.Running.{called}
-use Rattle.run.proofs.Keeping.{follow-runs, round-runs}
+use Rattle.run.proofs.RoundKeeps.{follow-runs, round-runs}
 use Rattle.run.proofs.Calling.{granted-runs, call-refused, call-granted}
 use Rattle.calls.proofs.Recorded.{stamp-kept}
 

@@ -45,7 +45,7 @@ pub enum Verdict {
     Fits { v: u32, n: u32, body: usize },
 }
 
-pub fn is_separator(b: u8) -> bool
+fn is_separator(b: u8) -> bool
     ensures { λ r. ⌜ r ≡ isSep b ⌝ }
 {
     if b == b' ' {
@@ -60,7 +60,7 @@ pub fn is_separator(b: u8) -> bool
     b == b'\n'
 }
 
-pub fn is_digit(b: u8) -> bool
+fn is_digit(b: u8) -> bool
     ensures { λ r. ⌜ r ≡ isDigit b ⌝ }
 {
     if b < b'0' { false } else { b <= b'9' }
@@ -68,7 +68,7 @@ pub fn is_digit(b: u8) -> bool
 
 // ---- runs of bytes
 
-pub fn separators_end(text: &[u8], at: usize) -> usize
+fn separators_end(text: &[u8], at: usize) -> usize
     ensures { λ r. ⌜ r ≡ at + span isSep (drop at (now (text .entry))) ⌝ }
 {
     let mut i = at;
@@ -81,7 +81,7 @@ pub fn separators_end(text: &[u8], at: usize) -> usize
     i
 }
 
-pub fn word_end(text: &[u8], at: usize) -> usize
+fn word_end(text: &[u8], at: usize) -> usize
     ensures { λ r. ⌜ r ≡ at + span isWordByte (drop at (now (text .entry))) ⌝ }
 {
     let mut i = at;
@@ -94,7 +94,7 @@ pub fn word_end(text: &[u8], at: usize) -> usize
     i
 }
 
-pub fn digits_end(text: &[u8], at: usize) -> usize
+fn digits_end(text: &[u8], at: usize) -> usize
     ensures { λ r. ⌜ r ≡ at + span isDigit (drop at (now (text .entry))) ⌝ }
 {
     let mut i = at;
@@ -120,7 +120,7 @@ fn with_digit(n: u32, b: u8) -> u32
 }
 
 // The decimal value of some digits, or 65,535 if it is larger.
-pub fn decimal_value(part: &[u8]) -> u32
+fn decimal_value(part: &[u8]) -> u32
     ensures { λ r. ⌜ r ≡ min (decimal (now (part .entry))) 65535 ⌝ }
 {
     let mut n: u32 = 0;
@@ -326,7 +326,7 @@ fn read_clause_count(text: &[u8], v: u32, at: usize) -> Header
     }
 }
 
-pub fn read_header(text: &[u8]) -> Header
+fn read_header(text: &[u8]) -> Header
     ensures { λ r. ⌜ r ≡ header (now (text .entry)) ⌝ }
 {
     let begin = match comments_end(text) {

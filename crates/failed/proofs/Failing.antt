@@ -18,7 +18,7 @@ use Rattle.failed.specs.Failed.{Found, found, assert, failedAt, failedFr
 use Rattle.failed.specs.Steps.{foundOf, Rooted, Stamped, Shared, Failable}
 use Rattle.failed.specs.declared.Tally.{Tally}
 use Rattle.failed.proofs.Climbing.{stamped-rooted, failed-below, slot-ranged}
-use Rattle.failed.proofs.Keeping.{Kept, kept-at, at-most}
+use Rattle.failed.proofs.Valuing.{Kept, kept-at, at-most}
 
 -- ---- one literal
 

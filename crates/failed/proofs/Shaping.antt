@@ -21,7 +21,7 @@ use Rattle.visits.proofs.Forming.{formed-values, formed-marked, formed-shape}
 use Rattle.visits.proofs.Entered.{entered-formed}
 use Rattle.failed.specs.Failed.{Found, found, failedFrom, withVariables, failedFresh, unlessStale, failedBy, failedCall}
 use Rattle.failed.specs.Steps.{Stamped}
-use Rattle.failed.proofs.Keeping.{Kept, failed-kept}
+use Rattle.failed.proofs.Valuing.{Kept, failed-kept}
 use Rattle.failed.proofs.Calling.{shape-stamped}
 
 module _ (t : Tables) (st : State) where

@@ -146,7 +146,7 @@ fn state_after(st: State, opposite: bool) -> State
 }
 
 // The call on fresh stamps, for every content of the clause and literal tables, which it does not read.
-pub fn failed_fresh(variables: &mut [i32], times: &[u32], links: &[i32], st: State) -> Outcome
+fn failed_fresh(variables: &mut [i32], times: &[u32], links: &[i32], st: State) -> Outcome
     requires { ⌜ Stamped (st .v) (now times) (now links) × Variables (st .v) (now variables) ⌝ }
     ensures { λ r. ⌜ ((clauses : List ℕ) (literals : List ℤ) → after r (returned (unlent clauses) (unlent literals) variables times links)
         ≡ failedFresh (lent (unlent clauses) (unlent literals) variables times links) st) ⌝ }

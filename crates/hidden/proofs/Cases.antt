@@ -6,7 +6,7 @@ use mathlib.Core.List.{[], _∷_}
 use Rattle.base.specs.Lists.{any, filter, first, anyBelow}
 use Rattle.literal.specs.Literals.{twin}
 use Rattle.walk.specs.Walk.{Stamps}
-use Rattle.walk.specs.Ready.{stamps}
+use Rattle.walk.specs.Compressed.{stamps}
 use Rattle.hidden.specs.Hidden.{holds, insert, byDiscovery, passes, scanAt, scan, hiddenTautology, unhidden, shorten, without, loop, start, linesPos, linesNeg, figure5}
 use Rattle.hidden.specs.Failed.{sameStart, holdsBoth, lowest, failedSlot}
 

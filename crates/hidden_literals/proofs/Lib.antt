@@ -1,4 +1,4 @@
-pub mod Keeping
+pub mod Loops
 pub mod Hiding
 pub mod Shortening
 pub mod Shortened

@@ -14,7 +14,7 @@ use Rattle.walk.specs.Walk.{Stamps}
 use Rattle.walk.specs.Forest.{discoveryAt, finishAt, parentAt}
 use Rattle.hidden.specs.Hidden.{passes, scanAt, scan}
 use Rattle.stamps.specs.Slots.{Child}
-use Rattle.hidden_literals.proofs.Keeping.{shown-lt, shown-le}
+use Rattle.hidden_literals.proofs.Loops.{shown-lt, shown-le}
 use Rattle.hidden_literals.specs.Stamped.{Stamped}
 use Rattle.hidden_tautologies.specs.Judged.{Two, Both}
 

@@ -10,7 +10,7 @@ use lib.ListN.{length, take}
 use Rattle.base.specs.Decide.{same-or}
 use Rattle.base.specs.Lists.{absent}
 use Rattle.base.proofs.Lists.{absent-not, absent-is}
-use Rattle.walk.specs.Ready.{adjOf}
+use Rattle.walk.specs.Compressed.{adjOf}
 use Rattle.implications.specs.Skew.{Skew}
 use Rattle.literal.specs.Literals.{twin}
 use Rattle.implications.specs.Edges.{outs, Built}

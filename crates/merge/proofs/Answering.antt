@@ -15,12 +15,12 @@ use Rattle.tables.specs.Calls.{After}
 use Rattle.visits.specs.Formed.{Counted}
 use Rattle.visits.specs.Visited.{standsAt}
 use Rattle.visits.proofs.Counting.{formed-counted}
-use Rattle.visits.proofs.Keeping.{FormedTo}
+use Rattle.visits.proofs.StoreKeeps.{FormedTo}
 use Rattle.visits.proofs.Advancing.{advanced}
 use Rattle.merge.specs.Merge.{mergeClause, mergeFrom}
 use Rattle.merge.specs.Visits.{Mergeable}
 use Rattle.merge.specs.Steps.{Resumable}
-use Rattle.merge.proofs.Keeping.{formed-visits}
+use Rattle.merge.proofs.VisitKeeps.{formed-visits}
 
 -- a call goes from clause k to clause k + m
 module _ {st : State} {k : ℕ} {c : List ℕ} {l w : List ℤ} (R : Resumable st k c l w) (m : ℕ) (few : m ≤ st .n - k) where

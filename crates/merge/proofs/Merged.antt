@@ -34,7 +34,7 @@ use Rattle.tables.specs.Passes.{valued, unsettled, firstUnsettled}
 use Rattle.shape.specs.Shape.{Variable}
 use Rattle.visits.specs.Formed.{Formed}
 use Rattle.visits.proofs.Forming.{part-length, stands-one}
-use Rattle.visits.proofs.Keeping.{FormedTo}
+use Rattle.visits.proofs.StoreKeeps.{FormedTo}
 use Rattle.table_graph.specs.Pairs.{Listed}
 use Rattle.table_graph.proofs.Listing.{formed-listed, from-clauses, froms-mem, slot-literal}
 use Rattle.table_graph.proofs.Chain.{listed-skew}

@@ -33,7 +33,7 @@ use Rattle.visits.proofs.Stores.{recorded, recorded-here, recorded-other, store
 use Rattle.visits.proofs.Forming.{clause-fits, record-inside, recorded-same}
 use Rattle.visits.proofs.Known.{known-row}
 use Rattle.visits.proofs.Visiting.{visit-beside}
-use Rattle.visits.proofs.Keeping.{FormedTo, formed-cases}
+use Rattle.visits.proofs.StoreKeeps.{FormedTo, formed-cases}
 use Rattle.visits.proofs.Advancing.{advance-cases}
 use Rattle.merge.specs.Merge.{mergedClasses, mergeClause, mergeFrom, mergeOpen, mergeBy, mergeCall}
 use Rattle.merge.specs.Visits.{substituted}
@@ -41,7 +41,7 @@ use Rattle.merge.proofs.Merged.{classes-formed}
 use Rattle.merge.proofs.Equal.{opening-keeps, opening-adds-none, clash-stands}
 use Rattle.merge.proofs.Repeats.{distinct-short}
 use Rattle.merge.proofs.Visiting.{merge-shrinks}
-use Rattle.merge.proofs.Keeping.{formed-visit, mapped}
+use Rattle.merge.proofs.VisitKeeps.{formed-visit, mapped}
 use Rattle.merge.proofs.Calling.{open-cases, settled-cases, opens-formed, resumes-resumable}
 use Rattle.merge.proofs.Truth.{Classed, substituted-true, dropped-true}
 

@@ -34,7 +34,7 @@ ghost use Rattle.merge.specs.Steps.{Resumable, Openable};
 // ---- the opening
 
 // Replaces the class of each of v variables by its representative: `rep` has for each slot the least slot of its component. So older classes pass through the new.
-pub fn regroup(variables: &mut [i32], rep: &[u32], v: usize)
+fn regroup(variables: &mut [i32], rep: &[u32], v: usize)
     requires { ⌜ Regroups v (now rep) (now variables) ⌝ }
     ensures { λ _. ⌜ now (variables .exit) ≡ regrouped (through (now (rep .entry))) v (now (variables .entry)) ⌝ }
 {
@@ -49,7 +49,7 @@ pub fn regroup(variables: &mut [i32], rep: &[u32], v: usize)
 }
 
 // The opening on a lent place for the representatives; what they are then does not matter.
-pub fn regroup_by(
+fn regroup_by(
     v: usize,
     n: usize,
     clauses: &[u32],
@@ -71,13 +71,7 @@ pub fn regroup_by(
 }
 
 // Whether some v and −v share a component; if none do, the classes of the variables become the components' smallest variables.
-pub fn merge_classes(
-    v: u32,
-    n: u32,
-    clauses: &[u32],
-    literals: &[i32],
-    variables: &mut [i32],
-) -> bool
+fn merge_classes(v: u32, n: u32, clauses: &[u32], literals: &[i32], variables: &mut [i32]) -> bool
     requires { ⌜ Formed v n n false (now clauses) (now literals) (now variables) ⌝ }
     ensures { λ r. ⌜ (r ≡ clashes (implications (slotsFrom (now (clauses .entry)) (now (literals .entry)) n 0)) v)
         × (now (variables .exit) ≡ openedClasses r (implications (slotsFrom (now (clauses .entry)) (now (literals .entry)) n 0)) v (now (variables .entry))) ⌝ }
@@ -175,7 +169,7 @@ fn visit_clause(clauses: &mut [u32], literals: &mut [i32], variables: &[i32], k:
 }
 
 // The visits to the clauses from `k` on, up to clause `end`.
-pub fn visit_some(clauses: &mut [u32], literals: &mut [i32], variables: &[i32], k: u32, end: u32)
+fn visit_some(clauses: &mut [u32], literals: &mut [i32], variables: &[i32], k: u32, end: u32)
     requires { ⌜ Mergeable k end (now clauses) (now literals) (now variables) ⌝ }
     ensures { λ _. ⌜ ((times : List ℕ) (links : List ℤ) → returned clauses literals variables (unlent times) (unlent links)
         ≡ visits (mergeClause (now (variables .entry))) (end - k) k (lent clauses literals variables (unlent times) (unlent links))) ⌝ }
@@ -190,7 +184,7 @@ pub fn visit_some(clauses: &mut [u32], literals: &mut [i32], variables: &[i32], 
 // ---- the call
 
 // The visits of a call that stands before clause `cursor`, and its answer.
-pub fn merge_from(
+fn merge_from(
     clauses: &mut [u32],
     literals: &mut [i32],
     variables: &[i32],
@@ -242,7 +236,7 @@ pub fn merge_open(
 }
 
 // Opens the pass unless refusal 6 names a clause, by its number, which counts from 1.
-pub fn merge_settled(
+fn merge_settled(
     clauses: &mut [u32],
     literals: &mut [i32],
     variables: &mut [i32],

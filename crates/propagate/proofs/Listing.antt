@@ -19,7 +19,7 @@ use Rattle.tables.specs.Fates.{Fate, kept, left, dropped, unit, conflict, store
 use Rattle.tables.specs.Passes.{valued, unsettled}
 use Rattle.visits.proofs.Forming.{part-length, clause-fits}
 use Rattle.visits.proofs.Fitting.{fit-member}
-use Rattle.visits.proofs.Keeping.{FormedIn}
+use Rattle.visits.proofs.StoreKeeps.{FormedIn}
 use Rattle.occurrences.specs.Chains.{ownerOf, Before, Linking, Linkable}
 use Rattle.occurrences.specs.Pending.{Covered, HasChain, PendingAll}
 use Rattle.occurrences.proofs.Pending.{covered-clear}

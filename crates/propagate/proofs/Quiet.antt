@@ -26,7 +26,7 @@ use Rattle.visits.proofs.Forming.{part-inside, part-length, clause-fits, record
 use Rattle.visits.proofs.Fitting.{filter-shorter, fit-member}
 use Rattle.visits.proofs.Known.{abs-signed, class-ranged, class-own}
 use Rattle.visits.proofs.Visiting.{fate-dropped, fate-standing}
-use Rattle.visits.proofs.Keeping.{FormedIn, formed-cases}
+use Rattle.visits.proofs.StoreKeeps.{FormedIn, formed-cases}
 use Rattle.visits.proofs.Looking.{dropped-settled, valued-unsettled, unit-unsettled}
 use Rattle.propagate.specs.Propagate.{going, onward, visited, remaining, notFalse, propagateClause, propagateVisit, propagateVisits}
 use Rattle.propagate.proofs.Parting.{fate-true, fate-left}

@@ -8,7 +8,7 @@ use mathlib.Core.List.{List, []}
 use lib.ListN.{length, getD}
 use lib.IntN.{ℤ}
 use Rattle.tables.specs.Tables.{Tables, tables, lengthOf}
-use Rattle.visits.proofs.Keeping.{FormedIn}
+use Rattle.visits.proofs.StoreKeeps.{FormedIn}
 use Rattle.occurrences.specs.Pending.{Skippable, Covered}
 use Rattle.propagate.specs.Propagate.{propagateClause, going, contradicted, onward, propagateVisit, propagateVisits, Reached, reached}
 use Rattle.visits.specs.Visited.{visitOf, visitAt}

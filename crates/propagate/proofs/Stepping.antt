@@ -15,8 +15,8 @@ use Rattle.propagate.specs.Propagate.{Progress, going, settled, contradi
 use Rattle.visits.specs.Visited.{Visitable, visitedAs, Visit, visitOf, visitAt}
 use Rattle.propagate.specs.Steps.{standAfter, StandsBefore}
 use Rattle.visits.specs.declared.Visited.{Visited}
-use Rattle.visits.proofs.Keeping.{FormedIn}
-use Rattle.propagate.proofs.Keeping.{formed-visit, formed-conflict, conflict-stands}
+use Rattle.visits.proofs.StoreKeeps.{FormedIn}
+use Rattle.propagate.proofs.VisitKeeps.{formed-visit, formed-conflict, conflict-stands}
 
 -- ---- where the pass goes on
 

@@ -366,7 +366,7 @@ fn visit_listed(
 }
 
 // As many visits as `steps` says, or as the pass has left, from clause `cursor` on. A pass that goes through the clauses more than a few times skips the visits that change nothing from then on.
-pub fn visit_some(
+fn visit_some(
     clauses: &mut [u32],
     literals: &mut [i32],
     variables: &mut [i32],
@@ -417,7 +417,7 @@ fn answer(st: State, fresh: bool, counts: Counts, stand: Stand) -> Outcome
 }
 
 // The visits of a call that stands before clause `cursor`, and its answer.
-pub fn propagate_from(
+fn propagate_from(
     clauses: &mut [u32],
     literals: &mut [i32],
     variables: &mut [i32],

@@ -67,14 +67,20 @@ fn report(outcome: Outcome) -> State {
     outcome.state
 }
 
+// The smallest i32, which is no literal and has no magnitude in i32.
+const LEAST: i32 = -2147483648;
+
 // A space and a literal, or 0.
 fn print_literal(l: i32) {
+    if l == LEAST {
+        return;
+    }
     if l < 0 {
         print(b" -");
-        io::print_decimal(STDOUT_FILENO, -(l as i64) as u64);
-    } else {
-        print_number(l as u64);
+        io::print_decimal(STDOUT_FILENO, (-l) as u64);
+        return;
     }
+    print_number(l as u64);
 }
 
 // Discovery, finish, parent and start.

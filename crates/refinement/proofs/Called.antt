@@ -16,7 +16,7 @@ use Rattle.entry.specs.declared.Entry.{Entry}
 use Rattle.entry.specs.declared.Entry.the-variants.{No, Opens, Resumes}
 use Rattle.entry.proofs.Entering.{opens-entered, resumes-entered}
 use Rattle.visits.proofs.Entered.{entered-formed, entered-cursor}
-use Rattle.visits.proofs.Keeping.{FormedTo}
+use Rattle.visits.proofs.StoreKeeps.{FormedTo}
 use Rattle.visits.proofs.Advancing.{advance-cases}
 use Rattle.propagate.specs.Propagate.{Progress, going, settled, contradicted, begin, propagateVisits, propagateFrom, replied, propagateBy, propagateCall}
 use Rattle.propagate.proofs.Stepping.{Good}

@@ -28,7 +28,7 @@ use Rattle.visits.proofs.Entered.{entered-formed}
 use Rattle.failed.specs.Failed.{Found, found, assert, failedAt, failedFrom, withVariables, failedReply, failedFresh, unlessStale, failedBy, failedCall}
 use Rattle.failed.specs.Steps.{Stamped}
 use Rattle.failed.proofs.Climbing.{failed-below, slot-ranged}
-use Rattle.failed.proofs.Keeping.{kept-true}
+use Rattle.failed.proofs.Valuing.{kept-true}
 use Rattle.failed.proofs.Calling.{shape-stamped}
 use Rattle.failed.proofs.Shaping.{failed-shape}
 use Rattle.sound.specs.Formula.{Clause}

@@ -27,11 +27,11 @@ use Rattle.entry.proofs.Entering.{Entered, opens-entered, resumes-entered}
 use Rattle.visits.specs.Formed.{Formed}
 use Rattle.visits.proofs.Entered.{NoMerge, entered-formed, entered-cursor}
 use Rattle.visits.proofs.Visiting.{SameStamps, visits-beside}
-use Rattle.visits.proofs.Keeping.{formed-shape-as}
+use Rattle.visits.proofs.StoreKeeps.{formed-shape-as}
 use Rattle.visits.proofs.Advancing.{advance-cases}
 use Rattle.sweep.specs.Sweep.{sweepClause, sweepFrom, unlessStale, sweepBy, sweepCall}
 use Rattle.sweep.proofs.Visiting.{sweep-shrinks}
-use Rattle.sweep.proofs.Keeping.{formed-visits}
+use Rattle.sweep.proofs.VisitKeeps.{formed-visits}
 use Rattle.sound.specs.Formula.{Clause}
 use Rattle.sound.specs.Sweep as sound
 use Rattle.moves.specs.Core.{Core, load, withClauses}

@@ -13,7 +13,7 @@ use Rattle.tables.specs.Fates.{Fate, store, fateAt}
 use Rattle.tables.specs.Fates as fates
 use Rattle.propagate.specs.Propagate.{Progress, going, settled, contradicted, onward, changes, visited, notFalse, remaining, propagateClause, propagateVisit, propagateVisits}
 use Rattle.propagate.proofs.Parting.{fate-true, fate-left}
-use Rattle.visits.proofs.Keeping.{FormedIn, formed-cases}
+use Rattle.visits.proofs.StoreKeeps.{FormedIn, formed-cases}
 use Rattle.propagate.proofs.Stepping.{Good, visit-good}
 use Rattle.moves.specs.Core as core
 use Rattle.moves.specs.Moves.{Freshness, spent, Moves, stay, go}

@@ -37,7 +37,7 @@ use Rattle.run.specs.Steps.{Runs}
 use Rattle.run.proofs.Resting.{rests-runs}
 use Rattle.run.proofs.Running.{runs-opens, runs-granted}
 use Rattle.run.proofs.Settling.{propagate-rests, propagate-settled, merge-opens, merge-rests}
-use Rattle.run.proofs.Keeping.{follow-runs, round-runs}
+use Rattle.run.proofs.RoundKeeps.{follow-runs, round-runs}
 use Rattle.run.proofs.Calling.{granted-runs}
 use Rattle.call_lists.specs.Lists.{propagate, merge, stamp, failed, sweep}
 use Rattle.refinement.proofs.Made.{Made, made-none, made-call, made-then}

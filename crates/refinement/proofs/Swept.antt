@@ -19,14 +19,14 @@ use Rattle.tables.specs.Fates as fates
 use Rattle.visits.proofs.Stores.{recorded, storedAt}
 use Rattle.visits.proofs.Forming.{clause-fits, part-length, recorded-same}
 use Rattle.visits.proofs.Fitting.{fit-slots}
-use Rattle.visits.proofs.Keeping.{FormedIn, formed-cases}
+use Rattle.visits.proofs.StoreKeeps.{FormedIn, formed-cases}
 use Rattle.sound.specs.Formula.{Clause, dropped, standing}
 use Rattle.sound.specs.Sweep.{sweepSlots, onStanding, visit, visitFirst, visitFrom}
 use Rattle.moves.specs.Core as core
 use Rattle.moves.proofs.Records.{shown, sweep-agree, sweep-fate}
 use Rattle.sweep.specs.Sweep.{sweepClause}
 use Rattle.sweep.proofs.Parting.{shorten-shorter}
-use Rattle.sweep.proofs.Keeping.{formed-visit}
+use Rattle.sweep.proofs.VisitKeeps.{formed-visit}
 use Rattle.refinement.specs.Represented.{Represented}
 use Rattle.refinement.proofs.Propagated.{literalsAt, stands-as, drops-as, put-represented}
 

@@ -18,7 +18,7 @@ pub fn end_line() {
     print(b"\n");
 }
 
-pub fn print_refusal(refusal: Refusal) {
+fn print_refusal(refusal: Refusal) {
     print(b"refused");
     print_number(refusal.number());
     print_number(refusal.place());

@@ -12,7 +12,7 @@ use Rattle.tables.specs.Tables.{Tables}
 use Rattle.settle.specs.Settle.{Standing}
 use Rattle.run.specs.Run.{programme, follow, round, unchanged, Rounds, rounds, runFrom}
 use Rattle.run.specs.Steps.{Runs}
-use Rattle.run.proofs.Keeping.{follow-runs, round-stops, round-goes, round-runs}
+use Rattle.run.proofs.RoundKeeps.{follow-runs, round-stops, round-goes, round-runs}
 
 -- tables as long as others
 pub record Sized (t t′ : Tables) : Type 0 where

@@ -8,7 +8,7 @@ use lib.ListN.{length, getD, replicate}
 use lib.Dec.{ltb, eqb}
 use Rattle.base.specs.Lists.{first, anyBelow}
 use Rattle.walk.specs.Walk.{Stamps, edges, startWalk}
-use Rattle.walk.specs.Ready.{stamps, adjOf, Graph}
+use Rattle.walk.specs.Compressed.{stamps, adjOf, Graph}
 use Rattle.implications.specs.Skew.{Skew}
 use Rattle.literal.specs.Literals.{twin}
 use Rattle.walk.specs.Forest.{Reach}
@@ -74,7 +74,7 @@ pub record Finishes (finishes : List ℕ) : Type 0 where
   pub apart : (s u : ℕ) → s < length finishes → u < length finishes → getD finishes s 0 ≡ getD finishes u 0 → s ≡ u
 
 -- what `groups` asks: a graph of pairs of slots that taking twins reverses, and a place for each slot in every column
-pub record Ready (offsets targets d f p s order rep : List ℕ) : Type 0 where
+pub record Mirrored (offsets targets d f p s order rep : List ℕ) : Type 0 where
   pub graph : Graph offsets targets (length rep)
   pub pairs : (v : ℕ) × (length rep ≡ 2 * v)
   pub skew : Skew (adjOf offsets targets) twin (length rep)

@@ -6,7 +6,7 @@ use mathlib.Core.Bool.{Bool, true, false, false≢true}
 use Rattle.state.specs.declared.State.{State}
 use Rattle.tables.specs.Tables.{Tables}
 use Rattle.tables.specs.Passes.{firstUnsettled}
-use Rattle.visits.proofs.Keeping.{FormedTo}
+use Rattle.visits.proofs.StoreKeeps.{FormedTo}
 use Rattle.settle.specs.Settle.{Standing, propagated, merged, grouped, settleFor, settle}
 use Rattle.settle.specs.Steps.{standingIn, Passed, afterMerge, afterPropagate, bothPasses}
 use Rattle.settle.specs.Own.{owns}

@@ -22,7 +22,7 @@ use Rattle.tables.specs.Fates.{Fate, store, visit, visits}
 use Rattle.visits.specs.Formed.{FitClause}
 use Rattle.visits.proofs.Placing.{shortened-same}
 use Rattle.visits.proofs.Forming.{part-inside, clause-fits}
-use Rattle.visits.proofs.Keeping.{FormedTo, formed-cases}
+use Rattle.visits.proofs.StoreKeeps.{FormedTo, formed-cases}
 use Rattle.table_graph.proofs.Listing.{formed-listed, slots-in}
 use Rattle.merge.specs.Merge.{edgesOf, clashes, representative, regrouped, mergedClasses, mergeClause}
 use Rattle.merge.proofs.Regrouped.{class-at, regrouped-as}

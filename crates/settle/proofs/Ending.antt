@@ -14,7 +14,7 @@ use Rattle.tables.specs.Tables.{Tables}
 use Rattle.tables.specs.Clauses.{literalCount}
 use Rattle.tables.specs.Passes.{unsettled, firstUnsettled}
 use Rattle.visits.specs.Formed.{Formed}
-use Rattle.visits.proofs.Keeping.{FormedIn}
+use Rattle.visits.proofs.StoreKeeps.{FormedIn}
 use Rattle.visits.proofs.Looking.{FoundFrom, found-none, found-next, found-end}
 use Rattle.propagate.specs.Propagate.{Progress, going, settled, contradicted, onward, propagateVisits, begin}
 use Rattle.settle.specs.Settle.{enough}

@@ -19,7 +19,7 @@ use Rattle.scc.proofs.Forward.{cyclic-found, reach-within}
 use Rattle.state.specs.declared.State.{State}
 use Rattle.tables.specs.Tables.{Tables, classOf}
 use Rattle.tables.specs.Clauses.{slotsFrom}
-use Rattle.visits.proofs.Keeping.{FormedTo}
+use Rattle.visits.proofs.StoreKeeps.{FormedTo}
 use Rattle.table_graph.proofs.Listing.{formed-listed, slots-in}
 use Rattle.merge.specs.Merge.{edgesOf, clashes, representative, regrouped}
 use Rattle.merge.proofs.Opening.{none-clash}

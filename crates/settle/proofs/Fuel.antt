@@ -5,7 +5,7 @@ use mathlib.Core.Path.{_≡_, refl, sym, ap, _∙_}
 use mathlib.Core.Bool.{Bool, true, false}
 use Rattle.state.specs.declared.State.{State}
 use Rattle.tables.specs.Tables.{Tables}
-use Rattle.visits.proofs.Keeping.{FormedTo}
+use Rattle.visits.proofs.StoreKeeps.{FormedTo}
 use Rattle.settle.specs.Settle.{Standing, propagated, merged, grouped, settleFor, settle}
 use Rattle.settle.specs.Steps.{standingIn, Passed, passed, bothPasses}
 use Rattle.settle.specs.Own.{owns}

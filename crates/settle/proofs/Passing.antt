@@ -12,7 +12,7 @@ use Rattle.tables.specs.Tables.{Tables}
 use Rattle.tables.specs.Passes.{firstUnsettled}
 use Rattle.visits.specs.Formed.{Formed}
 use Rattle.merge.specs.Merge.{edgesOf, clashes}
-use Rattle.visits.proofs.Keeping.{FormedTo}
+use Rattle.visits.proofs.StoreKeeps.{FormedTo}
 use Rattle.settle.specs.Settle.{Standing, propagated, merged, grouped}
 use Rattle.settle.specs.Steps.{standingIn, Passed, passed, afterMerge, afterPropagate, bothPasses}
 use Rattle.settle.specs.Own.{owns}

@@ -22,11 +22,11 @@ use Rattle.visits.proofs.Stores.{recorded-other, recorded-here}
 use Rattle.visits.proofs.Placing.{shortened-same}
 use Rattle.visits.proofs.Forming.{part-inside, part-length, clause-fits, record-inside, stands-one}
 use Rattle.visits.proofs.Visiting.{fate-dropped, fate-standing}
-use Rattle.visits.proofs.Keeping.{FormedIn}
+use Rattle.visits.proofs.StoreKeeps.{FormedIn}
 use Rattle.visits.proofs.Looking.{dropped-settled, valued-unsettled}
 use Rattle.propagate.specs.Propagate.{Progress, contradicted, onward, visited, remaining, notFalse, propagateClause, propagateVisit}
 use Rattle.propagate.proofs.Parting.{fate-true, fate-left}
-use Rattle.propagate.proofs.Keeping.{formed-visit, formed-conflict}
+use Rattle.propagate.proofs.VisitKeeps.{formed-visit, formed-conflict}
 use Rattle.settle.proofs.Measure.{total, total-after}
 use Rattle.propagate.proofs.Unvalued.{Untouched, untouched}
 

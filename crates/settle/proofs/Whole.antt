@@ -11,7 +11,7 @@ use Rattle.tables.specs.Tables.{Tables, classOf}
 use Rattle.tables.specs.Passes.{firstUnsettled}
 use Rattle.visits.specs.Formed.{Formed}
 use Rattle.visits.proofs.Visiting.{SameStamps}
-use Rattle.visits.proofs.Keeping.{FormedIn}
+use Rattle.visits.proofs.StoreKeeps.{FormedIn}
 use Rattle.propagate.specs.Propagate.{Progress, going, settled, contradicted, begin, Reached, propagateVisits, replied, propagateFrom}
 use Rattle.propagate.proofs.Stepping.{Good}
 use Rattle.propagate.proofs.Shaped.{tablesAt, visits-stamps, visits-classes, begin-tables, begin-good}

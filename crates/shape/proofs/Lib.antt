@@ -2,5 +2,5 @@ pub mod Rows
 pub mod Listing
 pub mod Clausing
 pub mod Reading
-pub mod Keeping
+pub mod Shrinking
 pub mod Cases

@@ -23,11 +23,11 @@ use Rattle.sound.specs.Sweep.{visit, visitFirst, visitFrom, sweepFirst}
 use Rattle.sound.specs.Kept.{Shaped, Since}
 use Rattle.sound.proofs.Truth.{true-or, not-both}
 use Rattle.sound.proofs.Stamped.{stamped-linked}
-use Rattle.sound.proofs.Sound.{Ready, paths-hold, sweep-since, sweep-keeps, resumed}
+use Rattle.sound.proofs.Sound.{StampedFormula, paths-hold, sweep-since, sweep-keeps, resumed}
 use Rattle.sound.proofs.Walked.{stamp-ready}
 
 -- a failed literal is false, its complement true, in every assignment of what stands; also after a sweep that stopped
-pub failed-false : (vars : ℕ) (f : List Clause) (σ : Stamps) (R : Ready vars f σ) (g : List Clause) → Since (graph f) f g → (τ : Assignment) → Models τ g
+pub failed-false : (vars : ℕ) (f : List Clause) (σ : Stamps) (R : StampedFormula vars f σ) (g : List Clause) → Since (graph f) f g → (τ : Assignment) → Models τ g
     → (s x : ℕ) → s < 2 * vars → Failed (2 * vars) σ s x → True τ (twin x)
 failed-false vars f σ R g S τ M s x lt k =
     let F = R .stamped .forest in
@@ -43,7 +43,7 @@ failed-false vars f σ R g S τ M s x lt k =
 -- the clauses now are a sweep of the stamped formula that has come to the cursor
 pub record Fresh (vars : ℕ) (σ : Stamps) (cursor : ℕ) (now : List Clause) : Type 0 where
   pub then : List Clause
-  pub ready : Ready vars then σ
+  pub ready : StampedFormula vars then σ
   pub swept : now ≡ sweepFirst cursor σ then
 
 pub fresh-stamp : (vars : ℕ) (f : List Clause) (order : List ℕ) → Shaped vars f → Lists (2 * vars) order → cyclic (graph f) (2 * vars) ≡ false → Fresh vars (formulaStamps vars order f) 0 f

@@ -16,7 +16,7 @@ use Rattle.sound.specs.Sweep.{sweepFirst}
 use Rattle.sound.specs.Kept.{Detour, Kept, same, round, implied, Since, none, each}
 use Rattle.sound.proofs.Graph.{not-standing, edge-pair, reads-edge}
 use Rattle.sound.proofs.Rule.{rule}
-use Rattle.sound.proofs.Sound.{Ready, graph-below, sweep-since, nth-mem}
+use Rattle.sound.proofs.Sound.{StampedFormula, graph-below, sweep-since, nth-mem}
 
 -- ---- clauses by number
 
@@ -38,7 +38,7 @@ dropped-round : {adj : ℕ → List ℕ} {a b : ℕ} → Kept adj (standing (a �
 dropped-round (round p q) = (p, q)
 dropped-round (implied long l m r) = absurd (omega (arith, long))
 
-module _ (vars : ℕ) (f : List Clause) (σ : Stamps) (R : Ready vars f σ) (g : List Clause) (S : Since (graph f) f g) where
+module _ (vars : ℕ) (f : List Clause) (σ : Stamps) (R : StampedFormula vars f σ) (g : List Clause) (S : Since (graph f) f g) where
   reach-kept : PairsWhole f g → {p q : ℕ} → Reach (graph f) p q → Reach (graph g) p q
   reach-kept whole {p} {q} r =
       reach-implies (graph f) (Reach (graph g) p) (λ x y k. rule (graph f) σ (R .stamped .forest) (R .acyclic) (Reach (graph g) p) (λ s t es m.
@@ -66,7 +66,7 @@ whole-pairs : (f g : List Clause) → Whole f g → PairsWhole f g
 whole-pairs f g w i a b e = ⊎-elim (λ k. inl (k ∙ e)) (λ k. inr k) (w i)
 
 -- CR 13, of a sweep that stopped after any number of visits
-module _ (vars : ℕ) (f : List Clause) (σ : Stamps) (R : Ready vars f σ) (k : ℕ) where
+module _ (vars : ℕ) (f : List Clause) (σ : Stamps) (R : StampedFormula vars f σ) (k : ℕ) where
   pub sweep-reach : PairsWhole f (sweepFirst k σ f) → (p q : ℕ) → Reach (graph f) p q → Reach (graph (sweepFirst k σ f)) p q
   sweep-reach w p q r = reach-kept vars f σ R (sweepFirst k σ f) (sweep-since vars f σ R k) w r
 

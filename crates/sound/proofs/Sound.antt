@@ -127,7 +127,7 @@ reach-true f τ M r k = reach-implies (graph f) (True τ) (λ x y n. let p = edg
 -- ---- the theorem
 
 -- f is shaped, and σ are the stamps of its graph, which is acyclic
-pub record Ready (vars : ℕ) (f : List Clause) (σ : Stamps) : Type 0 where
+pub record StampedFormula (vars : ℕ) (f : List Clause) (σ : Stamps) : Type 0 where
   pub shaped : Shaped vars f
   pub stamped : Stamped (graph f) (2 * vars) σ
   pub sized : length (σ .discoveries) ≡ 2 * vars
@@ -142,7 +142,7 @@ graph-below vars f shaped s t m = edge-below (map literalsIn f) vars (shaped-bel
 range-within : (vars : ℕ) (C : List ℕ) → ((l : ℕ) → List·Memᴰ l C → l < 2 * vars) → Within (2 * vars) C
 range-within vars C below l k = (below l k, twin-below vars l (below l k))
 
-module _ (vars : ℕ) (f : List Clause) (σ : Stamps) (R : Ready vars f σ) where
+module _ (vars : ℕ) (f : List Clause) (σ : Stamps) (R : StampedFormula vars f σ) where
   module _ (g : List Clause) (S : Since (graph f) f g) (τ : Assignment) where
     stand : {d : Clause} → Models τ g → List·Memᴰ d g → (D : List ℕ) → d ≡ standing D → Sat τ D
     stand M m D e = M D (subst (λ (x : Clause). List·Memᴰ x g) e m)

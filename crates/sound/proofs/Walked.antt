@@ -17,7 +17,7 @@ use Rattle.scc.specs.Forward.{Acyclic}
 use Rattle.sound.specs.Kept.{Shaped}
 use Rattle.scc.proofs.Forward.{cyclic-none, none-cyclic}
 use Rattle.sound.proofs.Graph.{shaped-below}
-use Rattle.sound.proofs.Sound.{Ready, sweep-keeps}
+use Rattle.sound.proofs.Sound.{StampedFormula, sweep-keeps}
 
 module _ (vars : ℕ) (f : List Clause) (shaped : Shaped vars f) where
   pub cyclic-exact : (cyclic (graph f) (2 * vars) ≡ false) ↔ Acyclic (graph f)
@@ -25,7 +25,7 @@ module _ (vars : ℕ) (f : List Clause) (shaped : Shaped vars f) where
   cyclic-exact = (cyclic-none (map literalsIn f) vars (shaped-below vars f shaped), none-cyclic (map literalsIn f) vars (shaped-below vars f shaped))
 
   module _ (order : List ℕ) (o : Lists (2 * vars) order) (uncyclic : cyclic (graph f) (2 * vars) ≡ false) where
-    pub stamp-ready : Ready vars f (formulaStamps vars order f)
+    pub stamp-ready : StampedFormula vars f (formulaStamps vars order f)
     unfolding graph
     stamp-ready =
         record {

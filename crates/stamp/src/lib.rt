@@ -27,7 +27,7 @@ pub enum Ruling {
 }
 
 // Refusal 8: the first entry of an order that is no literal of the variables 1 to v, or stands before; the order's length if there is none.
-pub fn check_order(order: &[i32], v: u32) -> usize
+fn check_order(order: &[i32], v: u32) -> usize
     requires { ⌜ v ≤ 1024 ⌝ }
     ensures { λ r. ⌜ r ≡ firstBad v (now (order .entry)) ⌝ }
 {

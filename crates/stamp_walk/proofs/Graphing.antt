@@ -12,7 +12,7 @@ use Rattle.literal.specs.Literals.{slotOf}
 use Rattle.literal.proofs.Laws.{slot-variable}
 use Rattle.literal.proofs.Twins.{twin-below}
 use Rattle.walk.specs.Walk.{Stamps, stampAll}
-use Rattle.walk.specs.Ready.{stamps}
+use Rattle.walk.specs.Compressed.{stamps}
 use Rattle.walk.proofs.Theorems.{Stamped, stamp-theorem}
 use Rattle.implications.specs.Clauses.{froms, tos, implications, Once, empty, more}
 use Rattle.implications.proofs.Implications.{tos-mem}

@@ -8,7 +8,7 @@ use lib.ListN.{length, getD, take, replicate}
 use Rattle.base.specs.Lists.{filter, absent}
 use Rattle.base.proofs.Lists.{mem-filter, filter-same}
 use Rattle.walk.specs.Walk.{Stamps, arrive, leave, edge, edges, enters, startWalk, fresh, stampAll}
-use Rattle.walk.specs.Ready.{adjOf, stamps, Graph}
+use Rattle.walk.specs.Compressed.{adjOf, stamps, Graph}
 use Rattle.walk.proofs.Drive.{fresh-le}
 use Rattle.walk.proofs.Run.{mem-below, graph-inside}
 use Rattle.implications.specs.Edges.{outs, Built}

@@ -7,7 +7,7 @@ ghost use lib.ListN.{length, getD, drop, replicate};
 ghost use Rattle.base.specs.Lists.{absent, interleave};
 ghost use Rattle.literal.specs.Literals.{slotOf, litAt};
 ghost use Rattle.walk.specs.Walk.{stampAll};
-ghost use Rattle.walk.specs.Ready.{adjOf, stamps, Graph};
+ghost use Rattle.walk.specs.Compressed.{adjOf, stamps, Graph};
 ghost use Rattle.scc.specs.Forward.{forward};
 ghost use Rattle.implications.specs.Edges.{outs};
 ghost use Rattle.scc.specs.Groups.{blank};
@@ -26,7 +26,7 @@ pub fn list_slots(order: &[i32], slots: &mut [u32])
 }
 
 // Whether an edge goes to a slot that does not finish before its own: then two different slots reach each other.
-pub fn any_backward(from: &[u32], to: &[u32], finishes: &[u32]) -> bool
+fn any_backward(from: &[u32], to: &[u32], finishes: &[u32]) -> bool
     requires { ⌜ Finished (now from) (now to) (now finishes) ⌝ }
     ensures { λ r. ⌜ ((t : ℕ) (d p s : List ℕ) → r ≡ not (forward (stamps t d (now (finishes .entry)) p s) (now (from .entry)) (now (to .entry)))) ⌝ }
 {
@@ -72,7 +72,7 @@ pub fn copy_links(parents: &[u32], starts: &[u32], links: &mut [i32])
 }
 
 // Stamps every slot of `order`, whose roots a column marks: it starts at each root, then at each slot not yet entered. `roots` is scratch.
-pub fn stamp_order(
+fn stamp_order(
     order: &[u32],
     root: &[bool],
     roots: &mut [u32],
@@ -117,7 +117,7 @@ pub fn stamp_order(
 }
 
 // Stamps every slot of `order` over the edges of two columns. All but the edges, the order and the four stamp columns is scratch.
-pub fn stamp_edges(
+fn stamp_edges(
     from: &[u32],
     to: &[u32],
     order: &[u32],
@@ -154,7 +154,7 @@ pub fn stamp_edges(
 }
 
 // Stamps every slot of `order` over the graph of the first n clauses; whether the graph is cyclic. All but the tables, the order and the four stamp columns is scratch.
-pub fn stamp_graph(
+fn stamp_graph(
     v: usize,
     n: usize,
     clauses: &[u32],

@@ -5,7 +5,7 @@ use lib.IntN.{ℤ}
 use Rattle.base.specs.Lists.{evens, odds}
 use Rattle.literal.specs.Literals.{slotOf}
 use Rattle.walk.specs.Walk.{Stamps}
-use Rattle.walk.specs.Ready.{stamps}
+use Rattle.walk.specs.Compressed.{stamps}
 
 abbrev pub columns : List ℕ → List ℤ → Stamps
 columns times links = stamps 0 (evens times) (odds times) (map slotOf (evens links)) (map slotOf (odds links))

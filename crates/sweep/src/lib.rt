@@ -102,7 +102,7 @@ fn sweep_visits(
 // ---- the call
 
 // Sweep from clause `cursor` on: as many visits as `steps` says, or as are left. The two tables of slots serve every visit.
-pub fn sweep_from(
+fn sweep_from(
     clauses: &mut [u32],
     literals: &mut [i32],
     times: &[u32],

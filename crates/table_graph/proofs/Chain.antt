@@ -7,7 +7,7 @@ use mathlib.Core.List.{List, List·Memᴰ}
 use lib.ListN.{length, take, replicate, length-replicate}
 use lib.IntN.{ℤ}
 use Rattle.base.proofs.Lists.{front-zeros}
-use Rattle.walk.specs.Ready.{adjOf, Graph}
+use Rattle.walk.specs.Compressed.{adjOf, Graph}
 use Rattle.walk.specs.Forest.{Reach, here, on}
 use Rattle.literal.specs.Literals.{twin}
 use Rattle.implications.specs.Skew.{Skew}
@@ -15,7 +15,7 @@ use Rattle.implications.specs.Edges.{Built}
 use Rattle.implications.specs.Clauses.{froms, tos, implications}
 use Rattle.implications.proofs.Csr.{built-adj, built-graph}
 use Rattle.implications.proofs.Implications.{implications-skew, built-skew, tos-mem}
-use Rattle.scc.specs.Groups.{leastMutual, Ready}
+use Rattle.scc.specs.Groups.{leastMutual, Mirrored}
 use Rattle.scc.proofs.Least.{least-mutual, representative-is}
 use Rattle.tables.specs.Clauses.{slotsFrom}
 use Rattle.table_graph.specs.Pairs.{Listed, Room}
@@ -55,7 +55,7 @@ module _ {v n : ℕ} {cs : List ℕ} {ls : List ℤ} (L : Listed v n cs ls) {d f
   skew = built-skew clauses offsets targets v r (slots-in L) B
 
   -- it is fit for the walks
-  pub ready : Ready offsets (take r targets) d f p s order rep
+  pub ready : Mirrored offsets (take r targets) d f p s order rep
   ready =
       record {
         graph = subst (Graph offsets (take r targets)) (sym (S .reps))

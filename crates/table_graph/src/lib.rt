@@ -13,7 +13,7 @@ ghost use Rattle.scc.specs.Groups.{leastMutual};
 ghost use Rattle.table_graph.specs.Components.{Scratch};
 
 // Stores the edges of the clause (a ∨ b), twin a → b and twin b → a, at k and k + 1.
-pub fn put_pair(a: u32, b: u32, k: usize, from: &mut [u32], to: &mut [u32])
+fn put_pair(a: u32, b: u32, k: usize, from: &mut [u32], to: &mut [u32])
     requires { ⌜ (a < 65536) × ((b < 65536) × ((k + 2 ≤ length (now from)) × (k + 2 ≤ length (now to)))) ⌝ }
     ensures { λ _. ⌜ (now (from .exit) ≡ sets (now (from .entry)) k (twin a ∷ twin b ∷ [])) × (now (to .exit) ≡ sets (now (to .entry)) k (b ∷ a ∷ [])) ⌝ }
 {
@@ -56,7 +56,7 @@ pub fn list_pairs(
 }
 
 // Builds the compressed graph of the two-literal clauses, and returns how many edges it has. The columns `from` and `to` are scratch.
-pub fn build_graph(
+fn build_graph(
     v: usize,
     n: usize,
     clauses: &[u32],
@@ -78,7 +78,7 @@ pub fn build_graph(
 // The strongly connected components of the implication graph of the tables, each with its least slot as representative.
 
 // Finds the components: for each slot the least slot that it reaches and that reaches it. All but the tables and `rep` is scratch.
-pub fn find_components(
+fn find_components(
     v: usize,
     n: usize,
     clauses: &[u32],

@@ -11,6 +11,6 @@ pub mod Searching
 pub mod Entered
 pub mod Visiting
 pub mod Composing
-pub mod Keeping
+pub mod StoreKeeps
 pub mod Advancing
 pub mod Looking

@@ -15,7 +15,7 @@ use Rattle.tables.specs.Tables.{startOf, lengthOf, standing, classOf}
 use Rattle.tables.specs.Clauses.{literalsOf}
 use Rattle.tables.specs.Fates.{putPart}
 use Rattle.shape.specs.Shape.{Parts, Literals, Clauses}
-use Rattle.shape.proofs.Keeping.{parts-shrink, literals-kept}
+use Rattle.shape.proofs.Shrinking.{parts-shrink, literals-kept}
 use Rattle.visits.specs.Formed.{Formed, FitClause}
 use Rattle.visits.proofs.Parts.{put-length, put-before, put-behind, put-at, put-view, put-other}
 

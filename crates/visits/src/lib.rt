@@ -23,7 +23,7 @@ ghost use Rattle.visits.specs.Settled.{Asked};
 ghost use Rattle.visits.specs.Visited.{Placed, recordAfter, standsAt};
 
 // A number that is kept for a literal's variable, with the literal's sign.
-pub fn signed_by(l: i32, x: i32) -> i32
+fn signed_by(l: i32, x: i32) -> i32
     requires { ⌜ Small x ⌝ }
     ensures { λ r. ⌜ r ≡ signBy (nonNeg l) x ⌝ }
 {
@@ -49,7 +49,7 @@ fn own_truth(variables: &[i32], c: i32) -> i32
 }
 
 // 1 for a true literal, -1 for a false one, 0 for one that has no value: as the value of its class literal says.
-pub fn truth(variables: &[i32], l: i32) -> i32
+fn truth(variables: &[i32], l: i32) -> i32
     requires { ⌜ Known (now variables) l ⌝ }
     ensures { λ r. ⌜ r ≡ truth (now (variables .entry)) l ⌝ }
 {

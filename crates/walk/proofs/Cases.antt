@@ -5,7 +5,7 @@ use mathlib.Core.List.{List, [], _∷_}
 use lib.ListN.{length, replicate}
 use Rattle.walk.specs.Walk.{Stamps, arrive, leave, edge, edges, enters, startWalk, stampAll}
 use Rattle.base.specs.Lists.{absent, filter}
-use Rattle.walk.specs.Ready.{adjOf, stamps}
+use Rattle.walk.specs.Compressed.{adjOf, stamps}
 
 run : List ℕ → List ℕ → List ℕ → Stamps
 run offsets targets order =

@@ -8,7 +8,7 @@ use mathlib.Core.List.{List, [], _∷_, _++_, append-nil, List·Memᴰ}
 use lib.ListN.{length, drop, replicate, length-replicate}
 use Rattle.base.proofs.Lists.{drop-done}
 use Rattle.walk.specs.Walk.{Stamps, edge, edges, startWalk, fresh}
-use Rattle.walk.specs.Ready.{Graph, Columns, adjOf, stamps}
+use Rattle.walk.specs.Compressed.{Graph, Columns, adjOf, stamps}
 use Rattle.walk.proofs.Run.{Less, less-refl, columns-less, edge-cases, edges-less, enters-less, graph-inside}
 
 -- ---- the fill

@@ -10,7 +10,7 @@ use lib.ListN.{length, getD, set, take, length-set}
 use lib.Seq.{slice, slice-cons, slice-empty}
 use Rattle.base.proofs.Lists.{mem-take, mem-drop, each-mem}
 use Rattle.walk.specs.Walk.{Stamps, arrive, leave, edge, edges, enters, fresh}
-use Rattle.walk.specs.Ready.{Graph, Columns, adjOf, stamps}
+use Rattle.walk.specs.Compressed.{Graph, Columns, adjOf, stamps}
 
 -- ---- one step
 

@@ -19,7 +19,7 @@ use Rattle.base.specs.Decide.{same-or, le-or, zero-or}
 use Rattle.base.specs.Lists.{filter}
 use Rattle.base.proofs.Lists.{mem-filter, getD-zeros, getD-inside}
 use Rattle.walk.specs.Walk.{Stamps, edge, edges, startWalk, fresh, stampAll}
-use Rattle.walk.specs.Ready.{stamps}
+use Rattle.walk.specs.Compressed.{stamps}
 use Rattle.walk.specs.Forest.{discoveryAt, finishAt, parentAt, startAt, Holds, Parted, Above, self, up, Reach, here, on, Top, Under, Forest}
 use Rattle.walk.proofs.Run.{Less, less-refl, less-trans, edge-new, edge-old}
 use Rattle.walk.proofs.Drive.{fresh-all, fresh-le}

@@ -3,10 +3,10 @@ ghost use mathlib.Core.Path.{_≡_};
 ghost use Prim.Native.Nat.{ℕ, _+_, _<_, _≤_};
 ghost use lib.ListN.{length, getD, replicate};
 ghost use Rattle.walk.specs.Walk.{enters, startWalk, edge, edges, fresh};
-ghost use Rattle.walk.specs.Ready.{adjOf, stamps, Graph, Columns};
+ghost use Rattle.walk.specs.Compressed.{adjOf, stamps, Graph, Columns};
 
 // Enters `slot`, coming from `parent`, in the tree that starts at `start`: stamps it, walks its edges, and returns the time.
-pub fn enter(
+fn enter(
     slot: usize,
     parent: u32,
     start: u32,
@@ -47,7 +47,7 @@ pub fn enter(
 }
 
 // Walks the edges of `slot`, entering each literal that is not yet entered, and returns the time.
-pub fn walk_edges(
+fn walk_edges(
     slot: usize,
     start: u32,
     time: u32,
@@ -92,7 +92,7 @@ pub fn walk_edges(
 }
 
 // Starts at `slot`, if it is not yet entered, and returns the time.
-pub fn start_at(
+fn start_at(
     slot: u32,
     time: u32,
     offsets: &[u32],

@@ -21,7 +21,7 @@ use Rattle.printing.specs.Printing.{literalText, clauseText, clausesText, heade
 use Rattle.printing.proofs.Storing.{digits-within, header-length}
 use Rattle.write.specs.Writable.{InClause, InClauses, total}
 use Rattle.write.specs.Gathered.{gathered, unitFor, classFor, clauseFor, unitAt, classAt, clauseAt}
-use Rattle.write.specs.Ready.{Ready}
+use Rattle.write.specs.Printable.{Printable}
 use Rattle.write.proofs.Gathering.{gathered-every}
 
 -- ---- a number and its digits
@@ -179,7 +179,7 @@ standing-count clauses literals n = at-most-one (λ cs. length cs) refl (λ xs y
 
 -- ---- tables that are ready
 
-pub ready : (t : Tables) (st : State) → Shape t st → Ready (t .clauses) (t .literals) (t .variables) (st .v) (st .n)
+pub ready : (t : Tables) (st : State) → Shape t st → Printable (t .clauses) (t .literals) (t .variables) (st .v) (st .n)
 ready t st S = record {
   v-limit = S .v-limit;
   n-limit = S .n-limit;
@@ -191,7 +191,7 @@ ready t st S = record {
   classes = λ w l. S .variables w l .class;
 }
 
-module _ (clauses : List ℕ) (literals variables : List ℤ) (v n : ℕ) (R : Ready clauses literals variables v n) where
+module _ (clauses : List ℕ) (literals variables : List ℤ) (v n : ℕ) (R : Printable clauses literals variables v n) where
   pub units-in : InClauses v (gathered (unitAt variables) v 0)
   units-in = in-gathered v (unitAt variables) v (λ k l. unit-in v (k + 1) (valueOf variables (k + 1)) (omega arith) (omega arith))
 

@@ -18,7 +18,7 @@ use Rattle.printing.specs.Stored.{Stored, EachSmall}
 use Rattle.printing.proofs.Storing.{stored-then, sets-nil}
 use Rattle.write.specs.Write.{writtenClauses, writeText, afterWrite, writeInto, writeCall}
 use Rattle.write.specs.Gathered.{gathered, unitAt, classAt, clauseAt, formula}
-use Rattle.write.specs.Ready.{Standing, Ready}
+use Rattle.write.specs.Printable.{Standing, Printable}
 use Rattle.write.proofs.Gathering.{units-gathered, classes-gathered, standing-gathered, text-append, header-then}
 use Rattle.write.proofs.Bounds.{units-count, classes-count, standing-count}
 
@@ -29,7 +29,7 @@ pub empty-length : length (clauseText []) ≡ 2
 unfolding clauseText
 empty-length = refl
 
-pub standing-ready : (clauses : List ℕ) (literals variables : List ℤ) (v n : ℕ) → Ready clauses literals variables v n → Standing clauses literals n
+pub standing-ready : (clauses : List ℕ) (literals variables : List ℤ) (v n : ℕ) → Printable clauses literals variables v n → Standing clauses literals n
 standing-ready clauses literals variables v n R = record {
   n-limit = R .n-limit;
   rows = R .rows;
@@ -47,7 +47,7 @@ formula-count clauses literals variables v n =
       length-append (gathered (classAt variables) v 0) (gathered (clauseAt clauses literals) n 0),
     )
 
-pub formula-below : (clauses : List ℕ) (literals variables : List ℤ) (v n : ℕ) → Ready clauses literals variables v n → length (formula clauses literals variables v n) < 10000
+pub formula-below : (clauses : List ℕ) (literals variables : List ℤ) (v n : ℕ) → Printable clauses literals variables v n → length (formula clauses literals variables v n) < 10000
 formula-below clauses literals variables v n R =
     omega (
       arith,
@@ -65,7 +65,7 @@ pub written-marked : (t : Tables) (st : State) → st .mark ≡ true → written
 unfolding writtenClauses
 written-marked t st e = rw e
 
-pub written-unmarked : (t : Tables) (st : State) → st .mark ≡ false → Ready (t .clauses) (t .literals) (t .variables) (st .v) (st .n)
+pub written-unmarked : (t : Tables) (st : State) → st .mark ≡ false → Printable (t .clauses) (t .literals) (t .variables) (st .v) (st .n)
     → writtenClauses t st ≡ formula (t .clauses) (t .literals) (t .variables) (st .v) (st .n)
 unfolding writtenClauses
 written-unmarked t st e R = rw e (λ i.
@@ -80,7 +80,7 @@ text-marked t st e = ap (textOf (st .v)) (written-marked t st e) ∙ header-then
 pub stored-marked : (t : Tables) (st : State) {o o₁ o₂ : List ℕ} {p r : ℕ} → st .mark ≡ true → Stored (headerText (st .v) 1) 0 o o₁ p → Stored (clauseText []) p o₁ o₂ r → Stored (writeText t st) 0 o o₂ r
 stored-marked t st {o} {o₁} {o₂} {p} {r} e a b = subst (λ (s : List ℕ). Stored s 0 o o₂ r) (sym (text-marked t st e)) (stored-then a b)
 
-module _ (t : Tables) (st : State) (R : Ready (t .clauses) (t .literals) (t .variables) (st .v) (st .n)) where
+module _ (t : Tables) (st : State) (R : Printable (t .clauses) (t .literals) (t .variables) (st .v) (st .n)) where
   abbrev units : List (List ℤ)
   units = gathered (unitAt (t .variables)) (st .v) 0
 

@@ -1,4 +1,4 @@
 pub mod Write
 pub mod Writable
 pub mod Gathered
-pub mod Ready
+pub mod Printable

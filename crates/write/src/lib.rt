@@ -13,7 +13,7 @@ ghost use Rattle.printing.specs.Printing.{clausesText};
 ghost use Rattle.printing.specs.Stored.{Stored, EachSmall};
 ghost use Rattle.write.specs.Write.{writeText, afterWrite, writeInto, writeCall};
 ghost use Rattle.write.specs.Gathered.{gathered, unitFor, classFor, clauseFor, unitAt, classAt, clauseAt, formula};
-ghost use Rattle.write.specs.Ready.{Standing, Ready};
+ghost use Rattle.write.specs.Printable.{Standing, Printable};
 use printing::put_clause;
 use printing::put_header;
 use state::Answer;
@@ -191,7 +191,7 @@ fn put_formula(
     variables: &[i32],
     st: State,
 ) -> usize
-    requires { ⌜ Ready (now clauses) (now literals) (now variables) (st .v) (st .n) ⌝ }
+    requires { ⌜ Printable (now clauses) (now literals) (now variables) (st .v) (st .n) ⌝ }
     ensures { λ r. ⌜ ((times : List ℕ) (links : List ℤ) → Stored (writeText (lent clauses literals variables (unlent times) (unlent links)) st) 0 (now (out .entry)) (now (out .exit)) r) ⌝ }
 {
     if st.mark {
@@ -209,14 +209,14 @@ fn put_formula(
 }
 
 // Write for tables and a state that are known to be as the shape rule has them: the text, or refusal 10 with the length needed.
-pub fn write_text(
+fn write_text(
     clauses: &[u32],
     literals: &[i32],
     variables: &[i32],
     st: State,
     out: &mut [u8],
 ) -> Answer
-    requires { ⌜ Ready (now clauses) (now literals) (now variables) (st .v) (st .n) ⌝ }
+    requires { ⌜ Printable (now clauses) (now literals) (now variables) (st .v) (st .n) ⌝ }
     ensures { λ r. ⌜ ((times : List ℕ) (links : List ℤ) → afterWrite r (now (out .exit)) ≡ writeInto (writeText (lent clauses literals variables (unlent times) (unlent links)) st) (now (out .entry))) ⌝ }
 {
     // measured first, on an empty part of the output, so that a refused call stores nothing

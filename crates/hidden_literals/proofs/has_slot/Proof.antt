@@ -1,6 +1,6 @@
 -- `hidden_literals::has_slot` meets its contract. Assumes nothing.
 use Rattle.discovery_order.proofs.Sorting.{slot-at}
-use Rattle.hidden_literals.proofs.Keeping.{Halving, halving-done, halving-up, halving-down, among-at}
+use Rattle.hidden_literals.proofs.Loops.{Halving, halving-done, halving-up, halving-down, among-at}
 use mathlib.Core.Path.{sym}
 use native.Mathlib.Omega.{arith}
 use Prim.Native.Nat.{_+_, _-_, _/_, _≤_, _<_}

@@ -1,5 +1,5 @@
 -- `hidden_literals::keep_inner` meets its contract. Assumes nothing.
-use Rattle.hidden_literals.proofs.Keeping.{Narrowing, narrowing-none, narrowing-time, narrowing-stays, narrowing-goes, narrowing-done}
+use Rattle.hidden_literals.proofs.Loops.{Narrowing, narrowing-none, narrowing-time, narrowing-stays, narrowing-goes, narrowing-done}
 use borrow.Author.Needs.{needs}
 use Rattle.hidden_literals.proofs.keep_inner.Statement.{statement}
 use Rattle.hidden_literals.proofs.keep_inner.Tie as tie

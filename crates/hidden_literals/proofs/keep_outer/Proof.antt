@@ -1,5 +1,5 @@
 -- `hidden_literals::keep_outer` meets its contract. Assumes nothing.
-use Rattle.hidden_literals.proofs.Keeping.{Widening, widening-none, widening-time, widening-stays, widening-goes, widening-done}
+use Rattle.hidden_literals.proofs.Loops.{Widening, widening-none, widening-time, widening-stays, widening-goes, widening-done}
 use lib.ListN.{length, length-set}
 use native.Mathlib.Omega.{arith}
 use Prim.Native.Nat.{_-_}

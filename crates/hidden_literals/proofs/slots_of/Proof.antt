@@ -1,6 +1,6 @@
 -- `hidden_literals::slots_of` meets its contract. Assumes nothing.
 use Rattle.literal.proofs.Signed.{read}
-use Rattle.hidden_literals.proofs.Keeping.{Mapping, mapping-more, mapping-done, literal-has, slot-bound}
+use Rattle.hidden_literals.proofs.Loops.{Mapping, mapping-more, mapping-done, literal-has, slot-bound}
 use Rattle.literal.specs.Literals.{slotOf}
 use lib.IntN.{pos}
 use lib.ListN.{length, getD}

@@ -1,5 +1,5 @@
 -- `hidden_literals::twins_of` meets its contract. Assumes nothing.
-use Rattle.hidden_literals.proofs.Keeping.{Mapping, mapping-more, mapping-done}
+use Rattle.hidden_literals.proofs.Loops.{Mapping, mapping-more, mapping-done}
 use Rattle.literal.specs.Literals.{twin}
 use lib.ListN.{length}
 use Prim.Native.Nat.{_-_}

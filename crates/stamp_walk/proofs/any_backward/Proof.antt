@@ -6,7 +6,7 @@ use mathlib.Core.Bool.{not}
 use mathlib.Core.List.{List}
 use lib.ListN.{length, drop}
 use borrow.Author.Needs.{needs}
-use Rattle.walk.specs.Ready.{stamps}
+use Rattle.walk.specs.Compressed.{stamps}
 use Rattle.scc.specs.Forward.{forward}
 use Rattle.stamp_walk.proofs.Copying.{forward-on, forward-stops, forward-end}
 use Rattle.stamp_walk.proofs.any_backward.Statement.{statement}

@@ -6,7 +6,7 @@ use mathlib.Core.List.{List}
 use lib.ListN.{length, take}
 use lib.Seq.{length-take-le}
 use borrow.Author.Needs.{needs}
-use Rattle.walk.specs.Ready.{Graph}
+use Rattle.walk.specs.Compressed.{Graph}
 use Rattle.implications.specs.Edges.{Built}
 use Rattle.stamp_walk.proofs.Walking.{graph-fits, stamps-as, columns-of}
 use Rattle.stamp_walk.proofs.stamp_edges.Statement.{statement}

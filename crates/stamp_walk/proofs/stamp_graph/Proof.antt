@@ -9,7 +9,7 @@ use lib.Seq.{length-take-le}
 use borrow.Author.Needs.{needs}
 use Rattle.base.specs.Lists.{absent}
 use Rattle.walk.specs.Walk.{stampAll}
-use Rattle.walk.specs.Ready.{stamps}
+use Rattle.walk.specs.Compressed.{stamps}
 use Rattle.implications.specs.Edges.{outs}
 use Rattle.implications.specs.Clauses.{froms, tos, implications}
 use Rattle.scc.specs.Groups.{blank}

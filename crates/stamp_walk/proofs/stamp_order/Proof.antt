@@ -11,7 +11,7 @@ use borrow.Author.Needs.{needs}
 use Rattle.base.proofs.Lists.{mem-filter, getD-mem}
 use Rattle.walk.proofs.Drive.{begun, starts-columns}
 use Rattle.walk.proofs.Run.{mem-below}
-use Rattle.walk.specs.Ready.{Graph, Columns, stamps}
+use Rattle.walk.specs.Compressed.{Graph, Columns, stamps}
 use Rattle.walk.specs.Walk.{Stamps, fresh}
 use Rattle.stamp_walk.proofs.Walking.{stamped}
 use Rattle.stamp_walk.proofs.stamp_order.Statement.{statement}

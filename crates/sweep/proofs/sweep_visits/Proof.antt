@@ -1,5 +1,5 @@
 -- `sweep::sweep_visits` meets its contract. Assumes nothing.
-use Rattle.sweep.proofs.Keeping.{Sweeping, sweeping-none, sweeping-next, sweeping-more, sweeping-done}
+use Rattle.sweep.proofs.VisitKeeps.{Sweeping, sweeping-none, sweeping-next, sweeping-more, sweeping-done}
 use Rattle.stamps.specs.Columns.{columns}
 use Rattle.tables.specs.Tables.{tables}
 use Rattle.visits.proofs.Composing.{visit-tables}

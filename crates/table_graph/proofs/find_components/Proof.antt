@@ -1,9 +1,9 @@
 -- `table_graph::find_components` meets its contract. Assumes nothing.
 use Rattle.table_graph.proofs.Chain.{ready, same-least}
 use Rattle.tables.specs.Clauses.{slotsFrom}
-use Rattle.scc.specs.Groups.{Ready, leastMutual}
+use Rattle.scc.specs.Groups.{Mirrored, leastMutual}
 use Rattle.implications.specs.Clauses.{implications}
-use Rattle.walk.specs.Ready.{adjOf}
+use Rattle.walk.specs.Compressed.{adjOf}
 use lib.Seq.{length-take-le}
 use lib.ListN.{length, take}
 use native.Mathlib.Omega.{arith}
@@ -32,7 +32,7 @@ module _ (c : tie.After-build-graph) where
   long : length offsets′ ≡ 2 * c .before .before .before .before .before .before .before .before .before .before .before .before .before .before .before .before .args .v + 1
   long = c .build-graph .kept .1 .1 .1 .1 .1 .1 .0 ∙ c .before .before .before .before .before .before .before .before .before .before .before .before .before .before .before .before .pre .0 .marks
 
-  fit : Ready offsets′ (take count targets′) (c .before .before .before .before .before .before .before .before .before .before .before .before .before .before .before .before .args .discoveries .now) (c .before .before .before .before .before .before .before .before .before .before .before .before .before .before .before .before .args .finishes .now) (c .before .before .before .before .before .before .before .before .before .before .before .before .before .before .before .before .args .parents .now) (c .before .before .before .before .before .before .before .before .before .before .before .before .before .before .before .before .args .starts .now) (c .before .before .before .before .before .before .before .before .before .before .before .before .before .before .before .before .args .order .now) (c .before .before .before .before .before .before .before .before .before .before .before .before .before .before .before .before .args .rep .now)
+  fit : Mirrored offsets′ (take count targets′) (c .before .before .before .before .before .before .before .before .before .before .before .before .before .before .before .before .args .discoveries .now) (c .before .before .before .before .before .before .before .before .before .before .before .before .before .before .before .before .args .finishes .now) (c .before .before .before .before .before .before .before .before .before .before .before .before .before .before .before .before .args .parents .now) (c .before .before .before .before .before .before .before .before .before .before .before .before .before .before .before .before .args .starts .now) (c .before .before .before .before .before .before .before .before .before .before .before .before .before .before .before .before .args .order .now) (c .before .before .before .before .before .before .before .before .before .before .before .before .before .before .before .before .args .rep .now)
   fit = ready (c .before .before .before .before .before .before .before .before .before .before .before .before .before .before .before .before .pre .0 .listed) (c .before .before .before .before .before .before .before .before .before .before .before .before .before .before .before .before .pre .1) offsets′ targets′ count long (c .build-graph .ensures)
 
   least : (q : ℕ) → q < 2 * c .before .before .before .before .before .before .before .before .before .before .before .before .before .before .before .before .args .v → leastMutual (adjOf offsets′ (take count targets′)) (length (c .before .before .before .before .before .before .before .before .before .before .before .before .before .before .before .before .args .rep .now)) q

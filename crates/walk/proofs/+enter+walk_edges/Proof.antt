@@ -5,7 +5,7 @@ use native.Mathlib.Omega.{arith}
 use lib.ListN.{length, getD, set, length-set}
 use borrow.Author.Needs.{needs}
 use Rattle.walk.specs.Walk.{enters, fresh}
-use Rattle.walk.specs.Ready.{Graph, Columns, adjOf, stamps}
+use Rattle.walk.specs.Compressed.{Graph, Columns, adjOf, stamps}
 use Rattle.walk.proofs.Run.{Going, fresh-set, arrived, walked, finished, going-step, going-done, edge-new, edge-old, stamps-eq}
 use native.Mathlib.Nat.{le-refl, le-trans}
 use mathlib.Core.Logic.{⊎-elim}

@@ -2,7 +2,7 @@
 use Prim.Native.Nat.{_-_}
 use mathlib.Core.Path.{sym, _∙_}
 use Rattle.walk.specs.Walk.{startWalk}
-use Rattle.walk.specs.Ready.{adjOf, stamps}
+use Rattle.walk.specs.Compressed.{adjOf, stamps}
 use Rattle.walk.proofs.Run.{edge-new, edge-old}
 use borrow.Author.Needs.{needs}
 use Rattle.walk.proofs.start_at.Statement.{statement}

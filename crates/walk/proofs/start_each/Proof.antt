@@ -5,7 +5,7 @@ use native.Mathlib.Omega.{arith}
 use lib.ListN.{length, getD, drop}
 use borrow.Author.Needs.{needs}
 use Rattle.base.proofs.Lists.{drop-step, drop-done}
-use Rattle.walk.specs.Ready.{Graph, Columns, stamps}
+use Rattle.walk.specs.Compressed.{Graph, Columns, stamps}
 use Rattle.walk.proofs.Drive.{Starting, starting-as, starting-step, starting-done}
 use Rattle.walk.proofs.start_each.Statement.{statement}
 use Rattle.walk.proofs.start_each.Tie as tie

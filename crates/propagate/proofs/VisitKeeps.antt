@@ -16,7 +16,7 @@ use Rattle.tables.specs.Fates.{Fate, conflict, store, fateAt, shortened, droppe
 use Rattle.visits.specs.Formed.{Formed, FitClause}
 use Rattle.visits.proofs.Forming.{clause-fits, part-length, formed-values}
 use Rattle.visits.proofs.Fitting.{fit-none, fit-filter, filter-shorter}
-use Rattle.visits.proofs.Keeping.{FormedIn, formed-shortened, formed-dropped, formed-cases}
+use Rattle.visits.proofs.StoreKeeps.{FormedIn, formed-shortened, formed-dropped, formed-cases}
 use Rattle.visits.proofs.MadeTrue.{true-classes, true-variables}
 use Rattle.propagate.specs.Propagate.{notFalse, remaining, propagateClause}
 use Rattle.propagate.proofs.Parting.{fate-true, fate-left}

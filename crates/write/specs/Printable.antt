@@ -16,7 +16,7 @@ pub record Standing (clauses : List ℕ) (literals : List ℤ) (n : ℕ) : Type 
   pub parts : Parts n clauses
   pub ranged : (i : ℕ) → i < n → (k : ℕ) → k < lengthOf clauses i → Literal 1024 (getD literals (startOf clauses i + k) (pos 0))
 
-pub record Ready (clauses : List ℕ) (literals variables : List ℤ) (v n : ℕ) : Type 0 where
+pub record Printable (clauses : List ℕ) (literals variables : List ℤ) (v n : ℕ) : Type 0 where
   pub v-limit : v ≤ 1024
   pub n-limit : n ≤ 4096
   pub rows : 3 * n ≤ length clauses

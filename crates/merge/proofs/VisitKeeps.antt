@@ -17,7 +17,7 @@ use Rattle.tables.specs.Clauses.{literalsOf}
 use Rattle.tables.specs.Fates.{Fate, left, dropped, store, visit, visits}
 use Rattle.visits.specs.Formed.{FitClause, Known}
 use Rattle.visits.proofs.Forming.{clause-fits, part-length}
-use Rattle.visits.proofs.Keeping.{FormedTo, formed-shortened, formed-dropped, formed-cases}
+use Rattle.visits.proofs.StoreKeeps.{FormedTo, formed-shortened, formed-dropped, formed-cases}
 use Rattle.visits.proofs.Visiting.{visit-beside}
 use Rattle.visits.proofs.Known.{class-ranged, class-own}
 use Rattle.merge.specs.Merge.{mergeClause}

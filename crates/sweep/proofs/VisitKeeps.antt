@@ -20,7 +20,7 @@ use Rattle.tables.specs.Fates.{Fate, left, dropped, store, visit, visits, short
 use Rattle.visits.specs.Formed.{FitClause}
 use Rattle.visits.proofs.Forming.{clause-fits, part-length}
 use Rattle.visits.proofs.Fitting.{fit-slots}
-use Rattle.visits.proofs.Keeping.{FormedIn, formed-shortened, formed-dropped, formed-cases}
+use Rattle.visits.proofs.StoreKeeps.{FormedIn, formed-shortened, formed-dropped, formed-cases}
 use Rattle.visits.proofs.Visiting.{visits-next, visits-none}
 use Rattle.sweep.specs.Sweep.{sweepClause}
 use Rattle.sweep.specs.Visits.{Sweepable, SweepableFrom}
