@@ -28,7 +28,8 @@ use Rattle.dimacs.specs.Text.{judgeText, bodyOf}
 use Rattle.dimacs.specs.declared.Verdict.{Verdict}
 use Rattle.dimacs.specs.declared.Verdict.the-variants.{Refused, Fits}
 use Rattle.load.specs.Load.{loadBy, loadCall}
-use Rattle.propagate.specs.Propagate.{Progress, going, settled, contradicted, begin, replied, propagateVisits, propagateFrom, propagateBy, propagateCall}
+use Rattle.propagate.specs.Propagate.{replied, propagateFrom, propagateBy, propagateCall}
+use Rattle.propagate_visits.specs.Visits.{Progress, going, settled, contradicted, begin, propagateVisits}
 use Rattle.merge.specs.Merge.{edgesOf, clashes, mergeOpen, mergeSettled, mergeBy, mergeCall}
 use Rattle.stamp.specs.Stamp.{firstBad, stampAcyclic, stampSettled, stampOrdered, stampBy, stampCall}
 use Rattle.failed.specs.Failed.{failedFresh, unlessStale as unlessFresh, failedBy, failedCall}

@@ -16,7 +16,8 @@ use Rattle.tables.specs.Calls.{After}
 use Rattle.entry.specs.Entry.{openingOf}
 use Rattle.entry.specs.declared.Opening.{Opening}
 use Rattle.entry.specs.declared.Opening.the-variants.{Denied, Granted}
-use Rattle.propagate.specs.Propagate.{Progress, going, settled, contradicted, onward, visited, changes, propagateClause, propagateVisit, propagateVisits, begin, propagateFrom}
+use Rattle.propagate.specs.Propagate.{propagateFrom}
+use Rattle.propagate_visits.specs.Visits.{Progress, going, settled, contradicted, onward, visited, changes, propagateClause, propagateVisit, propagateVisits, begin}
 use Rattle.propagate.proofs.Shaped.{tablesAt, begin-tables, replied-tables}
 use Rattle.merge.specs.Merge.{edgesOf, clashes, mergedClasses, mergeClause, mergeOpen}
 use Rattle.stamp.specs.Stamp.{stampOrdered}

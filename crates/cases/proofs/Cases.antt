@@ -26,7 +26,8 @@ use Rattle.dimacs.specs.Text.{judge, judgeText, clausesOf}
 use Rattle.load.specs.Load.{clauseRecords, literalPlaces, variableRecords, laid, loadCall}
 use Rattle.printing.specs.Printing.{digits, clauseText, clausesText, textOf}
 use Rattle.write.specs.Write.{writtenClauses, writeText, writeCall}
-use Rattle.propagate.specs.Propagate.{propagateClause, propagateVisit, propagateVisits, propagateFrom, propagateCall}
+use Rattle.propagate.specs.Propagate.{propagateFrom, propagateCall}
+use Rattle.propagate_visits.specs.Visits.{propagateClause, propagateVisit, propagateVisits}
 use Rattle.merge.specs.Merge.{clashes, representative, regrouped, mergedClasses, mergeClause, mergeOpen, mergeSettled, mergeCall}
 use Rattle.hidden.specs.Hidden.{holds, insert, byDiscovery, passes, scanAt, scan, hiddenTautology, unhidden, shorten}
 use Rattle.hidden.specs.Failed.{sameStart, holdsBoth, lowest, failedSlot}

@@ -10,7 +10,7 @@ use lib.Dec.{leb, ltb, eqb}
 use borrow.Author.Tests.{lt-ltb, le-ltb, le-leb, lt-leb, leb-true, leb-false, ltb-true}
 use Rattle.dimacs.specs.Words.{Word, word, wordsAt, span, isDigit}
 use Rattle.dimacs.specs.Tokens.{Meaning, bad, nought, literal, meaning, tokenBy, tokenOf, decimal}
-use Rattle.dimacs.specs.Text.{Left, left, judge, judgeEnd}
+use Rattle.dimacs.specs.Text.{Budget, budget, judge, judgeEnd}
 use Rattle.dimacs.specs.Header.{number, withinLimit, after, header, headerRest, comments, expect, lineEnd, pCnf}
 use Rattle.dimacs.specs.declared.Token.{Token}
 use Rattle.dimacs.specs.declared.Token.the-variants.{End, Zero, Literal, Bad}
@@ -96,7 +96,7 @@ told-literal {text} {at} t b m start next (some (literal c k) s n f) q =
     }
 
 -- ---- the definition's step at each kind of token
-module _ (v : ℕ) (l : Left) (end : ℕ) (ok : Verdict) {text : List ℕ} {at start next : ℕ} where
+module _ (v : ℕ) (l : Budget) (end : ℕ) (ok : Verdict) {text : List ℕ} {at start next : ℕ} where
   pub judge-bad : Seen text at bad start next → judge v l (wordsAt (drop at text) at) end ok ≡ Refused (Grammar start)
   unfolding judge
   judge-bad s = rw (s .words, s .means, judge)
@@ -106,7 +106,7 @@ module _ (v : ℕ) (l : Left) (end : ℕ) (ok : Verdict) {text : List ℕ} {at s
   judge-extra s e = rw (s .words, s .means, judge, le-ltb 0 (l .clauses) (omega (arith, e)))
 
   pub judge-zero : Seen text at nought start next → (l .clauses ≡ 0 → ⊥)
-      → judge v l (wordsAt (drop at text) at) end ok ≡ judge v (left (l .clauses - 1) (l .literals) false) (wordsAt (drop next text) next) end ok
+      → judge v l (wordsAt (drop at text) at) end ok ≡ judge v (budget (l .clauses - 1) (l .literals) false) (wordsAt (drop next text) next) end ok
   unfolding judge
   judge-zero s n = rw (s .words, s .means, judge, lt-ltb 0 (l .clauses) (omega (arith, n)))
 
@@ -133,7 +133,7 @@ module _ (v : ℕ) (l : Left) (end : ℕ) (ok : Verdict) {text : List ℕ} {at s
         )
 
     pub judge-literal : (l .clauses ≡ 0 → ⊥) → magnitude ≤ v → (l .literals ≡ 0 → ⊥)
-        → judge v l (wordsAt (drop at text) at) end ok ≡ judge v (left (l .clauses) (l .literals - 1) true) (wordsAt (drop next text) next) end ok
+        → judge v l (wordsAt (drop at text) at) end ok ≡ judge v (budget (l .clauses) (l .literals - 1) true) (wordsAt (drop next text) next) end ok
     unfolding judge
     judge-literal n h m =
         rw (
@@ -157,7 +157,7 @@ module _ (v : ℕ) (l : Left) (end : ℕ) (ok : Verdict) {text : List ℕ} {at s
     tests t e = subst (λ (b : Bool). (ltb 0 (l .clauses) && (b && ltb 0 (l .literals))) ≡ t) leb-cut e
 
     pub judge-fits : (ltb 0 (l .clauses) && (leb magnitude v && ltb 0 (l .literals))) ≡ true
-        → judge v l (wordsAt (drop at text) at) end ok ≡ judge v (left (l .clauses) (l .literals - 1) true) (wordsAt (drop next text) next) end ok
+        → judge v l (wordsAt (drop at text) at) end ok ≡ judge v (budget (l .clauses) (l .literals - 1) true) (wordsAt (drop next text) next) end ok
     unfolding judge
     judge-fits e = rw (s .seen .words, s .seen .means, judge, tests true e)
 
@@ -175,18 +175,18 @@ fits-left v clauses literals magnitude e = go (ltb 0 clauses) (leb magnitude v) 
     go true false b t e = absurd (false≢true e)
     go false a b t e = absurd (false≢true e)
 
-pub judge-end : (v : ℕ) (l : Left) (end : ℕ) (ok : Verdict) (text : List ℕ) (at : ℕ) → wordsAt (drop at text) at ≡ []
+pub judge-end : (v : ℕ) (l : Budget) (end : ℕ) (ok : Verdict) (text : List ℕ) (at : ℕ) → wordsAt (drop at text) at ≡ []
     → judge v l (wordsAt (drop at text) at) end ok ≡ judgeEnd l end ok
 unfolding judge
 judge-end v l end ok text at e = rw e
 
-pub end-unfinished : (l : Left) (end : ℕ) (ok : Verdict) → l .unfinished ≡ true → judgeEnd l end ok ≡ Refused (Grammar end)
+pub end-unfinished : (l : Budget) (end : ℕ) (ok : Verdict) → l .unfinished ≡ true → judgeEnd l end ok ≡ Refused (Grammar end)
 end-unfinished l end ok e = rw (e, judgeEnd)
 
-pub end-fits : (l : Left) (end : ℕ) (ok : Verdict) → l .unfinished ≡ false → l .clauses ≡ 0 → judgeEnd l end ok ≡ ok
+pub end-fits : (l : Budget) (end : ℕ) (ok : Verdict) → l .unfinished ≡ false → l .clauses ≡ 0 → judgeEnd l end ok ≡ ok
 end-fits l end ok e z = rw (e, judgeEnd, z)
 
-pub end-few : (l : Left) (end : ℕ) (ok : Verdict) → l .unfinished ≡ false → (l .clauses ≡ 0 → ⊥) → judgeEnd l end ok ≡ Refused (Limit end)
+pub end-few : (l : Budget) (end : ℕ) (ok : Verdict) → l .unfinished ≡ false → (l .clauses ≡ 0 → ⊥) → judgeEnd l end ok ≡ Refused (Limit end)
 end-few l end ok e n =
     let q : l .clauses ≡ suc (l .clauses - 1) = omega (arith, n) in
     rw (e, judgeEnd, q)
@@ -260,7 +260,7 @@ header-n text v n body e =
     rest-n (d .0) text (d .1) v n body (d .3)
 
 -- ---- the judgement of the words is a refusal, or the verdict that it was handed
-pub judge-is : (v : ℕ) (l : Left) (ws : List Word) (end : ℕ) (ok : Verdict) → (judge v l ws end ok ≡ ok) ⊎ ((r : Refusal) × (judge v l ws end ok ≡ Refused r))
+pub judge-is : (v : ℕ) (l : Budget) (ws : List Word) (end : ℕ) (ok : Verdict) → (judge v l ws end ok ≡ ok) ⊎ ((r : Refusal) × (judge v l ws end ok ≡ Refused r))
 unfolding judge
 judge-is v l [] end ok = go (l .unfinished) refl (l .clauses) refl
   where
@@ -269,11 +269,11 @@ judge-is v l [] end ok = go (l .unfinished) refl (l .clauses) refl
     go false t zero e = inl (rw (t, judgeEnd, e))
     go false t (suc k) e = inr (Limit end, rw (t, judgeEnd, e))
 judge-is v l (w ∷ ws) end ok = go (meaning (w .bytes)) refl (ltb 0 (l .clauses)) refl
-    (judge-is v (left (l .clauses - 1) (l .literals) false) ws end ok) (judge-is v (left (l .clauses) (l .literals - 1) true) ws end ok)
+    (judge-is v (budget (l .clauses - 1) (l .literals) false) ws end ok) (judge-is v (budget (l .clauses) (l .literals - 1) true) ws end ok)
   where
     go : (m : Meaning) → meaning (w .bytes) ≡ m → (t : Bool) → ltb 0 (l .clauses) ≡ t
-        → (judge v (left (l .clauses - 1) (l .literals) false) ws end ok ≡ ok) ⊎ ((r : Refusal) × (judge v (left (l .clauses - 1) (l .literals) false) ws end ok ≡ Refused r))
-        → (judge v (left (l .clauses) (l .literals - 1) true) ws end ok ≡ ok) ⊎ ((r : Refusal) × (judge v (left (l .clauses) (l .literals - 1) true) ws end ok ≡ Refused r))
+        → (judge v (budget (l .clauses - 1) (l .literals) false) ws end ok ≡ ok) ⊎ ((r : Refusal) × (judge v (budget (l .clauses - 1) (l .literals) false) ws end ok ≡ Refused r))
+        → (judge v (budget (l .clauses) (l .literals - 1) true) ws end ok ≡ ok) ⊎ ((r : Refusal) × (judge v (budget (l .clauses) (l .literals - 1) true) ws end ok ≡ Refused r))
         → (judge v l (w ∷ ws) end ok ≡ ok) ⊎ ((r : Refusal) × (judge v l (w ∷ ws) end ok ≡ Refused r))
     go bad m t e a b = inr (Grammar (w .at), rw (m, judge))
     go nought m true e a b = rw (m, judge, e) a

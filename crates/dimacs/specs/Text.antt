@@ -14,45 +14,46 @@ use Rattle.dimacs.specs.declared.Header.the-variants.{NoHeader, Fields}
 use Rattle.dimacs.specs.declared.Verdict.{Verdict}
 use Rattle.dimacs.specs.declared.Verdict.the-variants.{Refused, Fits}
 
--- what is left to a text: clauses and literals; and whether a clause has begun
-pub record Left : Type 0 where
+-- what a text may still have: clauses and literals; and whether a clause has begun
+pub record Budget : Type 0 where
   pub clauses : ℕ
   pub literals : ℕ
   pub unfinished : Bool
 
-abbrev pub left : ℕ → ℕ → Bool → Left
-left clauses literals unfinished = record { clauses = clauses; literals = literals; unfinished = unfinished }
+abbrev pub budget : ℕ → ℕ → Bool → Budget
+budget clauses literals unfinished = record { clauses = clauses; literals = literals; unfinished = unfinished }
 
 -- the text's end
-abbrev pub judgeEnd : Left → ℕ → Verdict → Verdict
+abbrev pub judgeEnd : Budget → ℕ → Verdict → Verdict
 judgeEnd l end ok = elim (l .unfinished) [ true ↦ Refused (Grammar end) | false ↦ elim (l .clauses) [ zero ↦ ok | suc _ ↦ Refused (Limit end) ] ]
 
 -- the words from left to right; `end` is the text's length, `ok` the verdict where nothing is wrong
-unfoldable pub judge : ℕ → Left → List Word → ℕ → Verdict → Verdict
+unfoldable pub judge : ℕ → Budget → List Word → ℕ → Verdict → Verdict
 judge v l [] end ok = judgeEnd l end ok
 judge v l (w ∷ ws) end ok =
     elim (meaning (w .bytes)) [
       | bad ↦ Refused (Grammar (w .at))
       | nought ↦ elim (ltb 0 (l .clauses)) [
-        | true ↦ judge v (left (l .clauses - 1) (l .literals) false) ws end ok
+        | true ↦ judge v (budget (l .clauses - 1) (l .literals) false) ws end ok
         | false ↦ Refused (Limit (w .at))
       ]
       | literal _ n ↦ elim (ltb 0 (l .clauses) && (leb n v && ltb 0 (l .literals))) [
-        | true ↦ judge v (left (l .clauses) (l .literals - 1) true) ws end ok
+        | true ↦ judge v (budget (l .clauses) (l .literals - 1) true) ws end ok
         | false ↦ Refused (Limit (w .at))
       ]
     ]
 
 abbrev pub judgeBody : List ℕ → Header → Verdict
 judgeBody text (NoHeader r) = Refused r
-judgeBody text (Fields v n at) = judge v (left n 16384 false) (wordsAt (drop at text) at) (length text) (Fits v n at)
+judgeBody text (Fields v n at) = judge v (budget n 16384 false) (wordsAt (drop at text) at) (length text) (Fits v n at)
 
 unfoldable pub judgeText : List ℕ → Verdict
 judgeText text = judgeBody text (header text)
 
-abbrev pub signed : Bool → ℕ → ℤ
-signed true n = negℤ (pos n)
-signed false n = pos n
+-- a literal by its sign, which is `true` for negative, and its variable
+abbrev pub literalOf : Bool → ℕ → ℤ
+literalOf true n = negℤ (pos n)
+literalOf false n = pos n
 
 -- the clauses that the words spell, behind the literals of one that has begun
 unfoldable pub clausesOf : List ℤ → List Word → List (List ℤ)
@@ -61,7 +62,7 @@ clausesOf begun (w ∷ ws) =
     elim (meaning (w .bytes)) [
       | bad ↦ []
       | nought ↦ begun ∷ clausesOf [] ws
-      | literal negative n ↦ clausesOf (begun ++ (signed negative n ∷ [])) ws
+      | literal negative n ↦ clausesOf (begun ++ (literalOf negative n ∷ [])) ws
     ]
 
 -- the text's clauses as written

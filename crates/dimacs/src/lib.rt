@@ -8,7 +8,7 @@ ghost use lib.Dec.{leb, ltb};
 ghost use Rattle.dimacs.specs.Words.{isSep, isWordByte, isDigit, span, wordsAt};
 ghost use Rattle.dimacs.specs.Tokens.{decimal, numeral, meaning, tokenBy, tokenOf};
 ghost use Rattle.dimacs.specs.Header.{comments, expect, number, lineEnd, headerRest, header};
-ghost use Rattle.dimacs.specs.Text.{judge, judgeEnd, judgeText, left};
+ghost use Rattle.dimacs.specs.Text.{judge, judgeEnd, judgeText, budget};
 use state::Refusal;
 
 // What stands at an offset of the text's body: `start` is its first byte, `next` the byte after it. A magnitude above 65,535
@@ -347,7 +347,7 @@ fn read_header(text: &[u8]) -> Header
 
 // The text's end: whether a clause has begun, and how many are missing.
 fn judge_end(clauses: u32, unfinished: bool, end: usize, ok: Verdict) -> Verdict
-    ensures { λ r. ⌜ r ≡ judgeEnd (left clauses 0 unfinished) end ok ⌝ }
+    ensures { λ r. ⌜ r ≡ judgeEnd (budget clauses 0 unfinished) end ok ⌝ }
 {
     if unfinished {
         return Verdict::Refused(Refusal::Grammar(end));
@@ -374,7 +374,7 @@ fn literal_fits(v: u32, clauses: u32, literals: u32, magnitude: u32) -> bool
 // The tokens from `body` on, against what is left to the text.
 fn judge_words(text: &[u8], v: u32, n: u32, body: usize) -> Verdict
     requires { ⌜ v < 65535 ⌝ }
-    ensures { λ r. ⌜ r ≡ judge v (left n 16384 false) (wordsAt (drop body (now (text .entry))) body) (length (now (text .entry))) (Verdict.Fits v n body) ⌝ }
+    ensures { λ r. ⌜ r ≡ judge v (budget n 16384 false) (wordsAt (drop body (now (text .entry))) body) (length (now (text .entry))) (Verdict.Fits v n body) ⌝ }
 {
     let mut at = body;
     let mut clauses = n;

@@ -10,7 +10,7 @@ use Rattle.state.specs.declared.Refusal.the-variants.{Grammar, Limit}
 use Rattle.dimacs.specs.Words.{Word, wordsAt, isDigit, span}
 use Rattle.dimacs.specs.Tokens.{Meaning, bad, nought, literal, meaning, decimal}
 use Rattle.dimacs.specs.Header.{comments, expect, withinLimit, number, lineEnd, after, pCnf, header, headerRest}
-use Rattle.dimacs.specs.Text.{Left, left, judge, judgeEnd, judgeBody, judgeText}
+use Rattle.dimacs.specs.Text.{Budget, budget, judge, judgeEnd, judgeBody, judgeText}
 use Rattle.dimacs.specs.declared.Piece.{Piece}
 use Rattle.dimacs.specs.declared.Piece.the-variants.{Wrong, Got}
 use Rattle.dimacs.specs.declared.Header.{Header}
@@ -96,7 +96,7 @@ abbrev VerdictBy : Verdict → Type 0
 VerdictBy (Refused r) = OfText r
 VerdictBy (Fits v n body) = Unit {0}
 
-judge-by : (v : ℕ) (l : Left) (ws : List Word) (end : ℕ) (ok : Verdict) → VerdictBy ok → VerdictBy (judge v l ws end ok)
+judge-by : (v : ℕ) (l : Budget) (ws : List Word) (end : ℕ) (ok : Verdict) → VerdictBy ok → VerdictBy (judge v l ws end ok)
 unfolding judge
 judge-by v l [] end ok h = go (l .unfinished) refl (l .clauses) refl
   where
@@ -105,9 +105,9 @@ judge-by v l [] end ok h = go (l .unfinished) refl (l .clauses) refl
     go false t zero e = rw (t, judgeEnd, e) h
     go false t (suc k) e = rw (t, judgeEnd, e) (limit end)
 judge-by v l (w ∷ ws) end ok h =
-    go (meaning (w .bytes)) refl (judge-by v (left (l .clauses - 1) (l .literals) false) ws end ok h) (judge-by v (left (l .clauses) (l .literals - 1) true) ws end ok h)
+    go (meaning (w .bytes)) refl (judge-by v (budget (l .clauses - 1) (l .literals) false) ws end ok h) (judge-by v (budget (l .clauses) (l .literals - 1) true) ws end ok h)
   where
-    go : (m : Meaning) → meaning (w .bytes) ≡ m → VerdictBy (judge v (left (l .clauses - 1) (l .literals) false) ws end ok) → VerdictBy (judge v (left (l .clauses) (l .literals - 1) true) ws end ok) → VerdictBy (judge v l (w ∷ ws) end ok)
+    go : (m : Meaning) → meaning (w .bytes) ≡ m → VerdictBy (judge v (budget (l .clauses - 1) (l .literals) false) ws end ok) → VerdictBy (judge v (budget (l .clauses) (l .literals - 1) true) ws end ok) → VerdictBy (judge v l (w ∷ ws) end ok)
     go bad m a b = rw (m, judge) (grammar (w .at))
     go nought m a b = ended (ltb 0 (l .clauses)) refl
       where
@@ -126,7 +126,7 @@ text-by text = go (header text) (header-by text)
   where
     go : (x : Header) → HeaderBy x → VerdictBy (judgeBody text x)
     go (NoHeader r) h = h
-    go (Fields v n at) h = judge-by v (left n 16384 false) (wordsAt (drop at text) at) (length text) (Fits v n at) tt
+    go (Fields v n at) h = judge-by v (budget n 16384 false) (wordsAt (drop at text) at) (length text) (Fits v n at) tt
 
 pub refused-of-text : (text : List ℕ) (r : Refusal) → judgeText text ≡ Refused r → OfText r
 refused-of-text text r e = subst VerdictBy e (text-by text)

@@ -21,13 +21,12 @@ use Rattle.tables.specs.Calls.{After}
 use Rattle.dimacs.specs.Text.{judgeText, textClauses}
 use Rattle.dimacs.specs.declared.Verdict.{Verdict}
 use Rattle.dimacs.specs.declared.Verdict.the-variants.{Refused, Fits}
-use Rattle.printing.specs.Printing.{textOf}
+use Rattle.printing.specs.Printing.{textOf, refusedLine}
 use Rattle.write.specs.Writable.{InClauses, total, Writable}
 use Rattle.write.specs.Write.{AfterWrite, afterWrite, writtenClauses, writeText, writeInto}
 use Rattle.roundtrip.proofs.Accepted.{text-within}
 use Rattle.roundtrip.proofs.ReadBack.{bodyAt, judged, read-back}
 use Rattle.roundtrip.proofs.Written.{written-in}
-use Rattle.printing.specs.Printing.{refusedLine}
 use Rattle.simplify.specs.Texts.{emptyTables, simplifyIn, simplifyText, resultOf, shown, shownAfter, unhideText}
 use Rattle.state.proofs.Numbers.{number-bounds}
 use Rattle.equivalence.specs.Equivalent.{Equivalent}

@@ -6,7 +6,7 @@ use mathlib.Core.List.{List, [], _∷_}
 use lib.ListN.{length}
 use lib.Dec.{ltb, eqb}
 use lib.IntN.{ℤ}
-use Rattle.stamps.specs.Columns.{columns}
+use Rattle.stamp_columns.specs.Columns.{columns}
 use Rattle.implications.specs.Clauses.{implications}
 use Rattle.scc.specs.Groups.{cyclic}
 use Rattle.state.specs.States.{closed, marked}
@@ -23,7 +23,8 @@ use Rattle.entry.specs.declared.Entry.{Entry}
 use Rattle.entry.specs.declared.Entry.the-variants.{No, Opens, Resumes}
 use Rattle.entry.specs.declared.Opening.{Opening}
 use Rattle.entry.specs.declared.Opening.the-variants.{Denied, Granted}
-use Rattle.propagate.specs.Propagate.{Progress, going, settled, contradicted, propagateVisits, replied, propagateFrom, propagateBy, propagateCall, begin}
+use Rattle.propagate.specs.Propagate.{replied, propagateFrom, propagateBy, propagateCall}
+use Rattle.propagate_visits.specs.Visits.{Progress, going, settled, contradicted, propagateVisits, begin}
 use Rattle.merge.specs.Merge.{edgesOf, clashes, mergeOpen, mergeSettled, mergeBy, mergeCall}
 use Rattle.stamp.specs.Stamp.{firstBad, stampAcyclic, stampSettled, stampOrdered, stampBy, stampCall}
 use Rattle.failed.specs.Failed.{Found, found, failedFrom, failedReply, failedFresh, failedBy, failedCall}

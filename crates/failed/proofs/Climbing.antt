@@ -16,13 +16,13 @@ use Rattle.literal.proofs.Laws.{lit-var}
 use Rattle.literal.proofs.Twins.{twin-below}
 use Rattle.walk.specs.Walk.{Stamps}
 use Rattle.walk.specs.Forest.{discoveryAt, finishAt, parentAt, startAt, Holds}
-use Rattle.stamps.specs.Columns.{columns}
+use Rattle.stamp_columns.specs.Columns.{columns}
 use Rattle.hidden.specs.Hidden.{holds}
 use Rattle.hidden.specs.Failed.{sameStart, failedSlot}
 use Rattle.hidden.proofs.Intervals.{true-holds, inside}
 use Rattle.hidden.proofs.Failed.{Linked, climb, failed-slot, failed-climb}
 use Rattle.hidden.proofs.FreshColumns.{fresh-linked}
-use Rattle.stamps.specs.Slots.{Child}
+use Rattle.stamp_columns.specs.Slots.{Child}
 use Rattle.failed.specs.Steps.{Rooted, Stamped, Shared}
 
 -- ---- fresh stamps

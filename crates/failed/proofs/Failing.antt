@@ -10,7 +10,7 @@ use lib.IntN.{ℤ}
 use Rattle.literal.specs.Literals.{litAt, twin}
 use Rattle.literal.proofs.Twins.{twin-below}
 use Rattle.walk.specs.Walk.{Stamps}
-use Rattle.stamps.specs.Columns.{columns}
+use Rattle.stamp_columns.specs.Columns.{columns}
 use Rattle.hidden.specs.Failed.{sameStart, failedSlot}
 use Rattle.tables.specs.Values.{isTrue, isFalse, setTrue}
 use Rattle.visits.specs.Formed.{Variables, Known}

@@ -6,7 +6,7 @@ use Prim.Native.Nat.{_*_}
 use native.Mathlib.Omega.{arith}
 use mathlib.Core.Path.{_≡_, refl}
 use mathlib.Core.Bool.{Bool, true, false}
-use Rattle.stamps.specs.Columns.{columns}
+use Rattle.stamp_columns.specs.Columns.{columns}
 use Rattle.state.specs.States.{closed, marked}
 use Rattle.state.specs.declared.State.{State}
 use Rattle.state.specs.declared.Pass.the-variants.{Idle}

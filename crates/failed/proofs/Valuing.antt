@@ -12,7 +12,7 @@ use lib.ListN.{length, length-set}
 use lib.IntN.{ℤ}
 use Rattle.literal.specs.Literals.{Literal, litAt, twin}
 use Rattle.literal.proofs.Twins.{twin-below}
-use Rattle.stamps.specs.Columns.{columns}
+use Rattle.stamp_columns.specs.Columns.{columns}
 use Rattle.hidden.specs.Failed.{sameStart, failedSlot}
 use Rattle.tables.specs.Tables.{classOf}
 use Rattle.tables.specs.Values.{isTrue, isFalse, setTrue}

@@ -8,7 +8,7 @@ use lib.IntN.{ℤ}
 use Rattle.literal.specs.Literals.{Literal}
 use Rattle.walk.specs.Forest.{startAt}
 use Rattle.stamps.specs.Fresh.{startIn, FreshStamps}
-use Rattle.stamps.specs.Columns.{columns}
+use Rattle.stamp_columns.specs.Columns.{columns}
 use Rattle.hidden.specs.Failed.{sameStart}
 use Rattle.state.specs.declared.State.{State}
 use Rattle.visits.specs.Formed.{Variables}

@@ -11,7 +11,7 @@ ghost use Prim.Native.Nat.{ℕ, _+_, _*_, _≤_, _<_};
 ghost use lib.ListN.{length};
 ghost use lib.IntN.{ℤ};
 ghost use Rattle.literal.specs.Literals.{twin};
-ghost use Rattle.stamps.specs.Columns.{columns};
+ghost use Rattle.stamp_columns.specs.Columns.{columns};
 ghost use Rattle.hidden.specs.Hidden.{holds};
 ghost use Rattle.hidden.specs.Failed.{sameStart, failedSlot};
 ghost use Rattle.tables.specs.Lent.{lent, returned, unlent};
@@ -48,10 +48,10 @@ fn holds(times: &[u32], a: u32, b: u32) -> bool
     requires { ⌜ (2 * a + 1 < length (now times)) × (2 * b + 1 < length (now times)) ⌝ }
     ensures { λ r. ⌜ ((links : List ℤ) → r ≡ holds (columns (now (times .entry)) links) a b) ⌝ }
 {
-    if stamps::discovery(times, b) < stamps::discovery(times, a) {
+    if stamp_columns::discovery(times, b) < stamp_columns::discovery(times, a) {
         return false;
     }
-    stamps::finish(times, b) <= stamps::finish(times, a)
+    stamp_columns::finish(times, b) <= stamp_columns::finish(times, a)
 }
 
 // The slot that has failed, where the literal of slot s and its complement have the same start: the first from s along the parents that holds the complement too.
@@ -63,7 +63,7 @@ fn climb(times: &[u32], links: &[i32], s: u32) -> u32
     let t = literal::twin_of(s);
     let mut x = s;
     while !holds(times, x, t) {
-        x = stamps::parent(links, x);
+        x = stamp_columns::parent(links, x);
     }
     x
 }

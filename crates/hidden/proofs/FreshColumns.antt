@@ -13,8 +13,8 @@ use Rattle.literal.proofs.Laws.{slot-below}
 use Rattle.walk.specs.Walk.{Stamps}
 use Rattle.walk.specs.Forest.{discoveryAt, finishAt, parentAt, startAt, Holds, Parted}
 use Rattle.stamps.specs.Fresh.{discoveryIn, finishIn, parentIn, startIn, NestedOrApart, FreshStamps}
-use Rattle.stamps.specs.Columns.{columns}
-use Rattle.stamps.proofs.Columns.{column-discovery, column-finishes, column-parents, column-starts, to-times, to-columns}
+use Rattle.stamp_columns.specs.Columns.{columns}
+use Rattle.stamp_columns.proofs.Columns.{column-discovery, column-finishes, column-parents, column-starts, to-times, to-columns}
 use Rattle.stamps.proofs.Local.{same-slot, same-finish}
 use Rattle.hidden.proofs.Intervals.{Nested}
 use Rattle.hidden.proofs.Failed.{Linked}

@@ -20,8 +20,8 @@ use Rattle.literal.proofs.Signed.{abs-neg, small-neg}
 use Rattle.literal.proofs.Laws.{slot-below}
 use Rattle.walk.specs.Walk.{Stamps}
 use Rattle.walk.specs.Forest.{discoveryAt, finishAt}
-use Rattle.stamps.specs.Columns.{columns}
-use Rattle.stamps.specs.Slots.{Slots}
+use Rattle.stamp_columns.specs.Columns.{columns}
+use Rattle.stamp_columns.specs.Slots.{Slots}
 use Rattle.discovery_order.proofs.Sorting.{slot-at}
 use Rattle.hidden_literals.specs.Stamped.{Searched, Lits, Sorted}
 use Rattle.hidden_literals.specs.Figures.{least, inner, outer, among, keptBy}

@@ -17,11 +17,11 @@ use Rattle.literal.proofs.Laws.{slot-below, slot-twin}
 use Rattle.literal.proofs.Twins.{twin-below}
 use Rattle.walk.specs.Walk.{Stamps}
 use Rattle.walk.specs.Forest.{discoveryAt, finishAt, Parted}
-use Rattle.stamps.specs.Columns.{columns}
+use Rattle.stamp_columns.specs.Columns.{columns}
 use Rattle.hidden.specs.Hidden.{byDiscovery, shorten}
 use Rattle.hidden.proofs.Intervals.{Nested, Within}
 use Rattle.hidden.proofs.Sorted.{Rising, sorted-out, sorted-rising}
-use Rattle.stamps.specs.Slots.{Slots}
+use Rattle.stamp_columns.specs.Slots.{Slots}
 use Rattle.discovery_order.proofs.Sorting.{length-sorted}
 use Rattle.hidden_literals.specs.Stamped.{Lits, Sorted, Inside, Clause}
 use Rattle.hidden_literals.specs.Figures.{least, inner, outer, keptBy}

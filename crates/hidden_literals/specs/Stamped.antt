@@ -7,8 +7,8 @@ use lib.IntN.{ℤ, pos, negℤ}
 use Rattle.literal.specs.Literals.{Literal, slotOf}
 use Rattle.walk.specs.Forest.{discoveryAt, finishAt}
 use Rattle.stamps.specs.Fresh.{FreshStamps}
-use Rattle.stamps.specs.Slots.{Slots}
-use Rattle.stamps.specs.Columns.{columns}
+use Rattle.stamp_columns.specs.Slots.{Slots}
+use Rattle.stamp_columns.specs.Columns.{columns}
 use Rattle.hidden.proofs.Intervals.{Nested}
 
 -- fresh stamps of v variables

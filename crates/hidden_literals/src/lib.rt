@@ -5,11 +5,11 @@ ghost use Prim.Native.Nat.{ℕ, _+_, _*_, _-_, _<_, _≤_};
 ghost use lib.ListN.{length, getD, drop, take, replicate};
 ghost use lib.IntN.{ℤ, pos};
 ghost use Rattle.literal.specs.Literals.{slotOf, twin};
-ghost use Rattle.stamps.specs.Columns.{columns};
+ghost use Rattle.stamp_columns.specs.Columns.{columns};
 ghost use Rattle.hidden.specs.Hidden.{byDiscovery, shorten};
 ghost use Rattle.hidden_literals.specs.Stamped.{Searched, Lits, Sorted, Inside, Clause};
 ghost use Rattle.hidden_literals.specs.Figures.{inner, outer, among, keptBy};
-ghost use Rattle.stamps.specs.Slots.{Slots};
+ghost use Rattle.stamp_columns.specs.Slots.{Slots};
 
 // ---- the slots of a clause
 
@@ -51,7 +51,7 @@ fn keep_inner(slots: &mut [u32], times: &[u32]) -> usize
     while 0 < i {
         i -= 1;
         let x = slots[i];
-        let f = stamps::finish(times, x);
+        let f = stamp_columns::finish(times, x);
         if f <= finished {
             n -= 1;
             slots[n] = x;
@@ -71,7 +71,7 @@ fn keep_outer(slots: &mut [u32], times: &[u32]) -> usize
     let mut i = 0;
     while i < slots.len() {
         let x = slots[i];
-        let f = stamps::finish(times, x);
+        let f = stamp_columns::finish(times, x);
         i += 1;
         if finished <= f {
             slots[n] = x;
@@ -87,7 +87,7 @@ fn has_slot(slots: &[u32], times: &[u32], s: u32) -> bool
     requires { ⌜ Slots (now times) (now slots) × (2 * s + 1 < length (now times)) × Searched (now times) (now slots) s ⌝ }
     ensures { λ r. ⌜ r ≡ among s (now (slots .entry)) ⌝ }
 {
-    let d = stamps::discovery(times, s);
+    let d = stamp_columns::discovery(times, s);
     let mut low = 0;
     let mut high = slots.len();
     while low < high {
@@ -96,7 +96,7 @@ fn has_slot(slots: &[u32], times: &[u32], s: u32) -> bool
         if m == s {
             return true;
         }
-        if stamps::discovery(times, m) < d {
+        if stamp_columns::discovery(times, m) < d {
             low = mid + 1;
         } else {
             high = mid;

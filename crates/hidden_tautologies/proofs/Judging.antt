@@ -8,13 +8,13 @@ use lib.ListN.{length, getD, length-map}
 use lib.Dec.{eqb}
 use lib.IntN.{ℤ}
 use Rattle.literal.specs.Literals.{slotOf, twin}
-use Rattle.stamps.specs.Columns.{columns}
+use Rattle.stamp_columns.specs.Columns.{columns}
 use Rattle.hidden.specs.Hidden.{byDiscovery, scan, hiddenTautology}
 use Rattle.hidden.proofs.Intervals.{Nested}
-use Rattle.stamps.proofs.Columns.{column-finishes}
+use Rattle.stamp_columns.proofs.Columns.{column-finishes}
 use Rattle.hidden.proofs.FreshColumns.{fresh-nested}
 use Rattle.hidden.proofs.Sorted.{sorted-out}
-use Rattle.stamps.specs.Slots.{Slots}
+use Rattle.stamp_columns.specs.Slots.{Slots}
 use Rattle.hidden_literals.specs.Stamped.{Lits, Inside, Clause}
 use Rattle.hidden_tautologies.specs.Judged.{Both, Judged}
 use Rattle.hidden_literals.proofs.Shortened.{inside-small, inside-twins, clause-within, clause-lits}

@@ -13,7 +13,7 @@ use Rattle.literal.specs.Literals.{twin}
 use Rattle.walk.specs.Walk.{Stamps}
 use Rattle.walk.specs.Forest.{discoveryAt, finishAt, parentAt}
 use Rattle.hidden.specs.Hidden.{passes, scanAt, scan}
-use Rattle.stamps.specs.Slots.{Child}
+use Rattle.stamp_columns.specs.Slots.{Child}
 use Rattle.hidden_literals.proofs.Loops.{shown-lt, shown-le}
 use Rattle.hidden_literals.specs.Stamped.{Stamped}
 use Rattle.hidden_tautologies.specs.Judged.{Two, Both}

@@ -3,7 +3,7 @@ ghost use mathlib.Core.Path.{_≡_};
 ghost use mathlib.Core.List.{[], map};
 ghost use lib.ListN.{length};
 ghost use Rattle.literal.specs.Literals.{slotOf};
-ghost use Rattle.stamps.specs.Columns.{columns};
+ghost use Rattle.stamp_columns.specs.Columns.{columns};
 ghost use Rattle.hidden.specs.Hidden.{byDiscovery, passes, scan, hiddenTautology};
 ghost use Rattle.hidden_tautologies.specs.Judged.{Two, Both, Judged};
 
@@ -12,7 +12,7 @@ fn passes(times: &[u32], links: &[i32], two: bool, neg: u32, pos: u32) -> bool
     requires { ⌜ Two (now times) (now links) neg pos ⌝ }
     ensures { λ r. ⌜ r ≡ passes (columns (now (times .entry)) (now (links .entry))) two neg pos ⌝ }
 {
-    if stamps::finish(times, neg) < stamps::finish(times, pos) {
+    if stamp_columns::finish(times, neg) < stamp_columns::finish(times, pos) {
         return true;
     }
     if !two {
@@ -21,7 +21,7 @@ fn passes(times: &[u32], links: &[i32], two: bool, neg: u32, pos: u32) -> bool
     if pos == literal::twin_of(neg) {
         return true;
     }
-    stamps::parent(links, pos) == neg
+    stamp_columns::parent(links, pos) == neg
 }
 
 // The scan, over the sorted literals and the sorted complements: it stops with its verdict.
@@ -40,7 +40,7 @@ fn scan(times: &[u32], links: &[i32], two: bool, pos: &[u32], neg: &[u32]) -> bo
         }
         let p = pos[i];
         let q = neg[j];
-        if stamps::discovery(times, p) < stamps::discovery(times, q) {
+        if stamp_columns::discovery(times, p) < stamp_columns::discovery(times, q) {
             i += 1;
         } else {
             if !passes(times, links, two, q, p) {

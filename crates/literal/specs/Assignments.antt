@@ -10,13 +10,13 @@ use lib.Signed.{nonNeg}
 abbrev pub Assignment : Type 0
 Assignment = ℕ → Bool
 
-abbrev pub signed : Bool → Bool → Bool
-signed true b = b
-signed false b = not b
+abbrev pub truthBy : Bool → Bool → Bool
+truthBy true b = b
+truthBy false b = not b
 
 -- the truth of a literal
 abbrev pub holds : Assignment → ℤ → Bool
-holds τ l = signed (nonNeg l) (τ (natAbs l))
+holds τ l = truthBy (nonNeg l) (τ (natAbs l))
 
 -- some literal of the clause is true
 abbrev pub someHolds : Assignment → List ℤ → Bool

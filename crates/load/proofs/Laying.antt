@@ -19,7 +19,7 @@ use Rattle.literal.proofs.Laws.{slot-below, slot-same}
 use Rattle.literal.proofs.Distinct.{has-snoc, has-repeat, tautology-snoc, tautology-repeat, distinct-repeat, distinct-new, distinct-empty}
 use Rattle.dimacs.specs.Words.{wordsAt}
 use Rattle.dimacs.specs.Tokens.{bad, nought, literal}
-use Rattle.dimacs.specs.Text.{Left, left, judge, signed, clausesOf}
+use Rattle.dimacs.specs.Text.{Budget, budget, judge, literalOf, clausesOf}
 use Rattle.dimacs.specs.declared.Verdict.the-variants.{Fits}
 use Rattle.dimacs.proofs.Judge.{Seen, SeenLiteral, judge-zero, judge-literal}
 use Rattle.load.specs.Load.{keptOf, clauseRecords, literalPlaces, anyEmpty}
@@ -63,7 +63,7 @@ pub record Laying (text : List ℕ) (body : ℕ) (c₀ : List ℕ) (l₀ : List 
   -- how many literals are left to the text, and whether a clause has begun, as the judgement has them
   pub room : ℕ
   pub unfinished : Bool
-  pub accepted : judge v (left (n - w .progress .clauses) room unfinished) (wordsAt (drop at text) at) (length text) (Fits v n body) ≡ Fits v n body
+  pub accepted : judge v (budget (n - w .progress .clauses) room unfinished) (wordsAt (drop at text) at) (length text) (Fits v n body) ≡ Fits v n body
   pub small : v ≤ 1024
   pub number : (n ≤ 4096) × (w .progress .clauses ≤ n)
   pub fits : w .progress .end + room ≤ 16384
@@ -125,12 +125,12 @@ literal-neg : {v : ℕ} {x : ℤ} → Literal v x → Literal v (negℤ x)
 literal-neg {v} {x} X = record { above = rw (abs-neg x) (X .above); within = rw (abs-neg x) (X .within) }
 
 -- what is left to the text, as the judgement has it
-abbrev leftOf : {text : List ℕ} {body : ℕ} {c₀ : List ℕ} {l₀ : List ℤ} {at : ℕ} {w : Work} → Laying text body c₀ l₀ at w → Left
-leftOf {w = w} L = left (L .n - w .progress .clauses) (L .room) (L .unfinished)
+abbrev budgetOf : {text : List ℕ} {body : ℕ} {c₀ : List ℕ} {l₀ : List ℤ} {at : ℕ} {w : Work} → Laying text body c₀ l₀ at w → Budget
+budgetOf {w = w} L = budget (L .n - w .progress .clauses) (L .room) (L .unfinished)
 
 module _ {text : List ℕ} {body : ℕ} {c₀ : List ℕ} {l₀ : List ℤ} {at : ℕ} {w : Work} (L : Laying text body c₀ l₀ at w) where
   pub not-bad : {from next : ℕ} → Seen text at bad from next → ⊥
-  not-bad s = fits-not-bad (L .v) (leftOf L) (length text) (L .n) body (L .accepted) s
+  not-bad s = fits-not-bad (L .v) (budgetOf L) (length text) (L .n) body (L .accepted) s
 
   -- ---- a literal
   module _ {b : Bool} {m from next : ℕ} (s : SeenLiteral text at b m from next) where
@@ -138,29 +138,29 @@ module _ {text : List ℕ} {body : ℕ} {c₀ : List ℕ} {l₀ : List ℤ} {at 
     lit-small = omega (arith, L .small)
 
     pub lit-range : m ≤ 1024
-    lit-range = omega (arith, fits-range (L .v) (leftOf L) (length text) (L .n) body (L .accepted) s lit-small, L .small)
+    lit-range = omega (arith, fits-range (L .v) (budgetOf L) (length text) (L .n) body (L .accepted) s lit-small, L .small)
 
     lit-clause : L .n - w .progress .clauses ≡ 0 → ⊥
-    lit-clause = fits-clause (L .v) (leftOf L) (length text) (L .n) body (L .accepted) s lit-small
+    lit-clause = fits-clause (L .v) (budgetOf L) (length text) (L .n) body (L .accepted) s lit-small
 
     lit-room : L .room ≡ 0 → ⊥
-    lit-room = fits-room (L .v) (leftOf L) (length text) (L .n) body (L .accepted) s lit-small
+    lit-room = fits-room (L .v) (budgetOf L) (length text) (L .n) body (L .accepted) s lit-small
 
-    lit-is : Literal (L .v) (signed b m)
-    lit-is = fits-literal (L .v) (leftOf L) (length text) (L .n) body (L .accepted) s lit-small
+    lit-is : Literal (L .v) (literalOf b m)
+    lit-is = fits-literal (L .v) (budgetOf L) (length text) (L .n) body (L .accepted) s lit-small
 
-    lit-slot : slotOf (signed b m) < length (w .seen)
-    lit-slot = omega (arith, slot-below (signed b m) 1024 (lit-is .above) (omega (arith, lit-is .within, L .small)), L .long .1 .1)
+    lit-slot : slotOf (literalOf b m) < length (w .seen)
+    lit-slot = omega (arith, slot-below (literalOf b m) 1024 (lit-is .above) (omega (arith, lit-is .within, L .small)), L .long .1 .1)
 
-    lit-accepted : judge (L .v) (left (L .n - w .progress .clauses) (L .room - 1) true) (wordsAt (drop next text) next) (length text) (Fits (L .v) (L .n) body) ≡ Fits (L .v) (L .n) body
+    lit-accepted : judge (L .v) (budget (L .n - w .progress .clauses) (L .room - 1) true) (wordsAt (drop next text) next) (length text) (Fits (L .v) (L .n) body) ≡ Fits (L .v) (L .n) body
     lit-accepted =
-        sym (judge-literal (L .v) (leftOf L) (length text) (Fits (L .v) (L .n) body) s lit-small lit-clause (fits-range (L .v) (leftOf L) (length text) (L .n) body (L .accepted) s lit-small) lit-room)
+        sym (judge-literal (L .v) (budgetOf L) (length text) (Fits (L .v) (L .n) body) s lit-small lit-clause (fits-range (L .v) (budgetOf L) (length text) (L .n) body (L .accepted) s lit-small) lit-room)
         ∙ L .accepted
 
-    lit-more : clausesOf (L .begun) (wordsAt (drop at text) at) ≡ clausesOf (L .begun ++ (signed b m ∷ [])) (wordsAt (drop next text) next)
-    lit-more = clauses-literal (L .begun) (fits-seen (L .v) (leftOf L) (length text) (L .n) body (L .accepted) s lit-small)
+    lit-more : clausesOf (L .begun) (wordsAt (drop at text) at) ≡ clausesOf (L .begun ++ (literalOf b m ∷ [])) (wordsAt (drop next text) next)
+    lit-more = clauses-literal (L .begun) (fits-seen (L .v) (budgetOf L) (length text) (L .n) body (L .accepted) s lit-small)
 
-    pub lit-adding : Adding (length (w .literals)) (length (w .seen)) (w .progress) (signed b m)
+    pub lit-adding : Adding (length (w .literals)) (length (w .seen)) (w .progress) (literalOf b m)
     lit-adding = record {
       literal = record { above = lit-is .above; within = omega (arith, lit-is .within, L .small) };
       number = omega (arith, lit-clause, L .number .0);
@@ -168,9 +168,9 @@ module _ {text : List ℕ} {body : ℕ} {c₀ : List ℕ} {l₀ : List ℤ} {at 
       slots = L .long .1 .1;
     }
 
-    lay-repeat : wasRead (signed b m) w ≡ true → Laying text body c₀ l₀ next w
+    lay-repeat : wasRead (literalOf b m) w ≡ true → Laying text body c₀ l₀ next w
     lay-repeat t =
-        let x : ℤ = signed b m in
+        let x : ℤ = literalOf b m in
         let is : has x (L .begun) ≡ true = sym (L .seenIs x lit-is) ∙ t in
         record {
           v = L .v;
@@ -195,12 +195,12 @@ module _ {text : List ℕ} {body : ℕ} {c₀ : List ℕ} {l₀ : List ℤ} {at 
           beyond = L .beyond;
         }
 
-    lay-new : wasRead (signed b m) w ≡ false
+    lay-new : wasRead (literalOf b m) w ≡ false
         → Laying text body c₀ l₀ next
-        (work (w .clauses) (set (w .literals) (w .progress .end) (signed b m)) (set (w .seen) (slotOf (signed b m)) (w .progress .clauses + 1))
-        (progress (w .progress .clauses) (w .progress .start) (w .progress .end + 1) (w .progress .dropped || wasRead (negℤ (signed b m)) w) (w .progress .mark)))
+        (work (w .clauses) (set (w .literals) (w .progress .end) (literalOf b m)) (set (w .seen) (slotOf (literalOf b m)) (w .progress .clauses + 1))
+        (progress (w .progress .clauses) (w .progress .start) (w .progress .end + 1) (w .progress .dropped || wasRead (negℤ (literalOf b m)) w) (w .progress .mark)))
     lay-new t =
-        let x : ℤ = signed b m in
+        let x : ℤ = literalOf b m in
         let is : has x (L .begun) ≡ false = sym (L .seenIs x lit-is) ∙ t in
         let front : take (w .progress .start) (set (w .literals) (w .progress .end) x) ≡ take (w .progress .start) (w .literals) = take-set-le (w .progress .start) (w .literals) (w .progress .end) x (L .begins) in
         record {
@@ -228,12 +228,12 @@ module _ {text : List ℕ} {body : ℕ} {c₀ : List ℕ} {l₀ : List ℤ} {at 
           beyond = (L .beyond .0, drop-set-lt 16384 (w .literals) (w .progress .end) x (omega (arith, L .fits, lit-room)) ∙ L .beyond .1);
         }
 
-    pub lay-literal : Laying text body c₀ l₀ next (addLiteral (signed b m) w)
-    lay-literal = go (wasRead (signed b m) w) refl
+    pub lay-literal : Laying text body c₀ l₀ next (addLiteral (literalOf b m) w)
+    lay-literal = go (wasRead (literalOf b m) w) refl
       where
-        go : (t : Bool) → wasRead (signed b m) w ≡ t → Laying text body c₀ l₀ next (addLiteral (signed b m) w)
-        go true t = subst (Laying text body c₀ l₀ next) (sym (add-repeat (signed b m) w t)) (lay-repeat t)
-        go false t = subst (Laying text body c₀ l₀ next) (sym (add-new (signed b m) w t)) (lay-new t)
+        go : (t : Bool) → wasRead (literalOf b m) w ≡ t → Laying text body c₀ l₀ next (addLiteral (literalOf b m) w)
+        go true t = subst (Laying text body c₀ l₀ next) (sym (add-repeat (literalOf b m) w t)) (lay-repeat t)
+        go false t = subst (Laying text body c₀ l₀ next) (sym (add-new (literalOf b m) w t)) (lay-new t)
 
 -- ---- a clause's end
 record-is : (c : List ℕ) (k start size standing : ℕ) → 3 * k + 3 ≤ length c
@@ -310,7 +310,7 @@ empty-is begun start end e =
 module _ {text : List ℕ} {body : ℕ} {c₀ : List ℕ} {l₀ : List ℤ} {at : ℕ} {w : Work} (L : Laying text body c₀ l₀ at w) where
   module _ {from next : ℕ} (s : Seen text at nought from next) where
     zero-clause : L .n - w .progress .clauses ≡ 0 → ⊥
-    zero-clause = fits-zero (L .v) (leftOf L) (length text) (L .n) body (L .accepted) s
+    zero-clause = fits-zero (L .v) (budgetOf L) (length text) (L .n) body (L .accepted) s
 
     pub zero-ending : Ending (length (w .clauses)) (w .progress)
     zero-ending = record {
@@ -341,8 +341,8 @@ module _ {text : List ℕ} {body : ℕ} {c₀ : List ℕ} {l₀ : List ℤ} {at 
           begun = [];
           room = L .room;
           unfinished = false;
-          accepted = ap (λ (i : ℕ). judge (L .v) (left i (L .room) false) (wordsAt (drop next text) next) (length text) (Fits (L .v) (L .n) body)) (sym less)
-              ∙ sym (judge-zero (L .v) (leftOf L) (length text) (Fits (L .v) (L .n) body) s zero-clause)
+          accepted = ap (λ (i : ℕ). judge (L .v) (budget i (L .room) false) (wordsAt (drop next text) next) (length text) (Fits (L .v) (L .n) body)) (sym less)
+              ∙ sym (judge-zero (L .v) (budgetOf L) (length text) (Fits (L .v) (L .n) body) s zero-clause)
               ∙ L .accepted;
           small = L .small;
           number = (L .number .0, omega (arith, zero-clause, L .number .1));

@@ -14,7 +14,7 @@ use Rattle.literal.proofs.Signed.{abs-neg}
 use Rattle.dimacs.specs.Words.{isDigit, span, wordsAt}
 use Rattle.dimacs.specs.Tokens.{bad, nought, literal, decimal, decimalFrom, numeral, meaning}
 use Rattle.dimacs.specs.Header.{header}
-use Rattle.dimacs.specs.Text.{Left, left, judge, judgeBody, judgeText, signed, clausesOf}
+use Rattle.dimacs.specs.Text.{Budget, budget, judge, judgeBody, judgeText, literalOf, clausesOf}
 use Rattle.dimacs.specs.declared.Header.{Header}
 use Rattle.dimacs.specs.declared.Header.the-variants.{NoHeader, Fields}
 use Rattle.dimacs.specs.declared.Verdict.the-variants.{Fits}
@@ -62,12 +62,12 @@ literal-pos (x ∷ s) b m e = go (eqb x 45) refl (eqb x 48 && eqb (length s) 0) 
     go false t true w = let q : nought ≡ literal b m = rw (t, meaning, w) at e in absurd (let z : _≡_ {A = ℕ} 0 1 = cc in omega arith)
     go false t false w = numeral-pos false (x ∷ s) b m (rw (t, meaning, w) at e)
 
-pub abs-signed : (b : Bool) (m : ℕ) → natAbs (signed b m) ≡ m
+pub abs-signed : (b : Bool) (m : ℕ) → natAbs (literalOf b m) ≡ m
 abs-signed true m = abs-neg (pos m)
 abs-signed false m = refl
 
 -- ---- in a text that fits, no token is refused
-module _ (v : ℕ) (l : Left) (end n body : ℕ) {text : List ℕ} {at start next : ℕ} (acc : judge v l (wordsAt (drop at text) at) end (Fits v n body) ≡ Fits v n body) where
+module _ (v : ℕ) (l : Budget) (end n body : ℕ) {text : List ℕ} {at start next : ℕ} (acc : judge v l (wordsAt (drop at text) at) end (Fits v n body) ≡ Fits v n body) where
   pub fits-not-bad : Seen text at bad start next → ⊥
   fits-not-bad s = not-fits _ _ v n body (judge-bad v l end (Fits v n body) s) acc
 
@@ -93,7 +93,7 @@ module _ (v : ℕ) (l : Left) (end n body : ℕ) {text : List ℕ} {at start nex
     pub fits-seen : Seen text at (literal negative magnitude) start next
     fits-seen = subst (λ (i : ℕ). Seen text at (literal negative i) start next) fits-exact (s .seen)
 
-    pub fits-literal : Literal v (signed negative magnitude)
+    pub fits-literal : Literal v (literalOf negative magnitude)
     fits-literal = record {
       above = rw (abs-signed negative magnitude) (subst (λ (i : ℕ). 0 < i) fits-exact (literal-pos (s .seen .bytes) negative (s .exact) (s .seen .means)));
       within = rw (abs-signed negative magnitude) fits-range;
@@ -106,7 +106,7 @@ module _ {text : List ℕ} {at start next : ℕ} (begun : List ℤ) where
   clauses-zero s = rw (s .words, s .means, clausesOf)
 
   pub clauses-literal : {b : Bool} {m : ℕ} → Seen text at (literal b m) start next
-      → clausesOf begun (wordsAt (drop at text) at) ≡ clausesOf (begun ++ (signed b m ∷ [])) (wordsAt (drop next text) next)
+      → clausesOf begun (wordsAt (drop at text) at) ≡ clausesOf (begun ++ (literalOf b m ∷ [])) (wordsAt (drop next text) next)
   unfolding clausesOf
   clauses-literal s = rw (s .words, s .means, clausesOf)
 
@@ -116,12 +116,12 @@ clauses-end text at begun e = ap (clausesOf begun) e
 
 -- ---- a text that fits: its header's numbers, and the judgement of its words
 pub fits-ready : (text : List ℕ) (v n body : ℕ) → judgeText text ≡ Fits v n body
-    → (v ≤ 1024) × ((n ≤ 4096) × (judge v (left n 16384 false) (wordsAt (drop body text) body) (length text) (Fits v n body) ≡ Fits v n body))
+    → (v ≤ 1024) × ((n ≤ 4096) × (judge v (budget n 16384 false) (wordsAt (drop body text) body) (length text) (Fits v n body) ≡ Fits v n body))
 unfolding judgeText
 fits-ready text v n body e = go (header text) refl e
   where
     go : (h : Header) → header text ≡ h → judgeBody text h ≡ Fits v n body
-        → (v ≤ 1024) × ((n ≤ 4096) × (judge v (left n 16384 false) (wordsAt (drop body text) body) (length text) (Fits v n body) ≡ Fits v n body))
+        → (v ≤ 1024) × ((n ≤ 4096) × (judge v (budget n 16384 false) (wordsAt (drop body text) body) (length text) (Fits v n body) ≡ Fits v n body))
     go (NoHeader r) h e = absurd (let z : _≡_ {A = ℕ} 0 1 = cc in omega arith)
     go (Fields w m at) h e = ⊎-elim
         (λ ok.
@@ -132,8 +132,8 @@ fits-ready text v n body e = go (header text) refl e
           subst (λ (i : ℕ). i ≤ 1024) ew (header-v text w m at h),
           (
             subst (λ (i : ℕ). i ≤ 4096) em (header-n text w m at h),
-            subst₃ (λ (a b d : ℕ). judge a (left b 16384 false) (wordsAt (drop d text) d) (length text) (Fits a b d) ≡ Fits a b d) ew em ea ok,
+            subst₃ (λ (a b d : ℕ). judge a (budget b 16384 false) (wordsAt (drop d text) d) (length text) (Fits a b d) ≡ Fits a b d) ew em ea ok,
           ),
         ))
-        (λ r. absurd (not-fits (judge w (left m 16384 false) (wordsAt (drop at text) at) (length text) (Fits w m at)) (r .0) v n body (r .1) e))
-        (judge-is w (left m 16384 false) (wordsAt (drop at text) at) (length text) (Fits w m at))
+        (λ r. absurd (not-fits (judge w (budget m 16384 false) (wordsAt (drop at text) at) (length text) (Fits w m at)) (r .0) v n body (r .1) e))
+        (judge-is w (budget m 16384 false) (wordsAt (drop at text) at) (length text) (Fits w m at))

@@ -8,7 +8,7 @@ use lib.ListN.{length, take, drop, set, getD, replicate}
 use lib.IntN.{ℤ, negℤ}
 use Rattle.literal.specs.Literals.{Literal, slotOf}
 use Rattle.dimacs.specs.Words.{wordsAt}
-use Rattle.dimacs.specs.Text.{left, judge, judgeText, clausesOf}
+use Rattle.dimacs.specs.Text.{budget, judge, judgeText, clausesOf}
 use Rattle.dimacs.specs.declared.Verdict.{Verdict}
 use Rattle.dimacs.specs.declared.Verdict.the-variants.{Fits, Refused}
 use Rattle.state.specs.declared.Refusal.the-variants.{Shape}
@@ -89,7 +89,7 @@ pub record Accepted (text : List ℕ) (body clauses literals : ℕ) (seen : List
   pub n : ℕ
   pub variables : v ≤ 1024
   pub number : n ≤ 4096
-  pub fits : judge v (left n 16384 false) (wordsAt (drop body text) body) (length text) (Fits v n body) ≡ Fits v n body
+  pub fits : judge v (budget n 16384 false) (wordsAt (drop body text) body) (length text) (Fits v n body) ≡ Fits v n body
   pub clauseRoom : 12288 ≤ clauses
   pub literalRoom : 16384 ≤ literals
   pub slots : length seen ≡ 2048
@@ -114,7 +114,7 @@ cleared nought t from end = take from t ++ (replicate (end - from) nought ++ dro
 pub record LayReady (text : List ℕ) (v n body clauses literals variables : ℕ) : Type 0 where
   pub small : v ≤ 1024
   pub number : n ≤ 4096
-  pub fits : judge v (left n 16384 false) (wordsAt (drop body text) body) (length text) (Fits v n body) ≡ Fits v n body
+  pub fits : judge v (budget n 16384 false) (wordsAt (drop body text) body) (length text) (Fits v n body) ≡ Fits v n body
   pub clauseRoom : 12288 ≤ clauses
   pub literalRoom : 16384 ≤ literals
   pub variableRoom : 2048 ≤ variables

@@ -6,7 +6,7 @@ ghost use mathlib.Core.List.{List};
 ghost use Prim.Native.Nat.{ℕ, _+_, _*_, _≤_};
 ghost use lib.ListN.{length};
 ghost use lib.IntN.{ℤ, pos};
-ghost use Rattle.dimacs.specs.Text.{signed, bodyOf};
+ghost use Rattle.dimacs.specs.Text.{literalOf, bodyOf};
 ghost use Rattle.dimacs.specs.declared.Verdict;
 ghost use Rattle.state.specs.declared.State.{State};
 ghost use Rattle.tables.specs.Lent.{lent, returned, unlent};
@@ -32,7 +32,7 @@ struct Progress {
 
 fn literal_of(negative: bool, magnitude: u32) -> i32
     requires { ⌜ magnitude ≤ 1024 ⌝ }
-    ensures { λ r. ⌜ r ≡ signed negative magnitude ⌝ }
+    ensures { λ r. ⌜ r ≡ literalOf negative magnitude ⌝ }
 {
     let m = magnitude as i32;
     if negative { -m } else { m }

@@ -10,7 +10,7 @@ use lib.IntN.{ℤ, pos, negℤ, natAbs}
 use lib.Signed.{nonNeg}
 use Rattle.literal.specs.Literals.{eqZ, signBy}
 use Rattle.literal.specs.Clauses.{has, distinct, distinctFrom, tautology}
-use Rattle.literal.specs.Assignments.{Assignment, signed, holds, someHolds}
+use Rattle.literal.specs.Assignments.{Assignment, truthBy, holds, someHolds}
 use Rattle.literal.proofs.Signed.{eqZ-true}
 use Rattle.literal.proofs.Truth.{holds-neg}
 use Rattle.tables.specs.Tables.{classOf}
@@ -79,7 +79,7 @@ class-holds τ w l some e = go (nonNeg l)
     c : ℤ
     c = classOf w (natAbs l)
 
-    go : (b : Bool) → holds τ (signBy b (classOf w (natAbs l))) ≡ signed b (τ (natAbs l))
+    go : (b : Bool) → holds τ (signBy b (classOf w (natAbs l))) ≡ truthBy b (τ (natAbs l))
     go true = sym e
     go false = holds-neg τ (classOf w (natAbs l)) some ∙ ap not (sym e)
 

@@ -17,7 +17,7 @@ use Rattle.hidden.specs.Failed.{sameStart, holdsBoth, lowest, failedSlot}
 use Rattle.stamp.specs.Stamp.{stampsOf}
 use Rattle.sound.specs.Formula.{Clause, dropped, standing, literalsIn, Models, graph}
 use Rattle.sound.proofs.Tests.{once?, clause?, shaped?, lists?, shaped-of, lists-of}
-use Rattle.moves.specs.Core.{Core, Stands, load, put, learn}
+use Rattle.moves.specs.Core.{Core, ModelOf, load, put, learn}
 use Rattle.moves.specs.Moves.{satisfied, spent, change, stamp, failed, Moves, stay, go}
 use Rattle.moves.proofs.Keeps.{demand-3}
 
@@ -42,5 +42,5 @@ p6 =
     (change (satisfied 0 refl (List·Memᴰ·head refl) refl)))
     (change (satisfied 1 refl (List·Memᴰ·head refl) refl))
 
-p6-keeps : (τ : Assignment) → Stands after6 τ ↔ Models τ f6
+p6-keeps : (τ : Assignment) → ModelOf after6 τ ↔ Models τ f6
 p6-keeps = demand-3 f6 p6

@@ -18,12 +18,12 @@ use Rattle.sound.specs.Formula.{Clause, dropped, standing, value, True, Sat, Mo
 use Rattle.sound.proofs.Truth.{true-or, not-both}
 use Rattle.sound.proofs.Sound.{nth-mem, reach-true}
 use Rattle.sound.proofs.Fresh.{Fresh, fresh-stamp, fresh-sweep, sweep-models, failed-true}
-use Rattle.moves.specs.Core.{Core, Stands, load, clauseAt, put, learn, marked, isTrue, isFalse}
+use Rattle.moves.specs.Core.{Core, ModelOf, load, clauseAt, put, learn, marked, isTrue, isFalse}
 use Rattle.moves.specs.Moves.{Change, satisfied, falsified, unit, conflict, contrary, grouped, substituted, tautology, Freshness, spent, fresh, Move, change, spend, stamp, failed, opposite, sweep, Moves, stay, go}
 
 -- the same assignments satisfy both
 abbrev Same : Core → Core → Type 0
-Same k k′ = (τ : Assignment) → Stands k′ τ ↔ Stands k τ
+Same k k′ = (τ : Assignment) → ModelOf k′ τ ↔ ModelOf k τ
 
 -- ---- one clause of a formula
 
@@ -85,7 +85,7 @@ swap-same : (k : Core) (i : ℕ) (C D : List ℕ) → clauseAt k i ≡ standing 
 swap-same k i C D e h = put-same k i (standing D) (λ τ m. subst (λ (x : Clause). Sat τ D ↔ SatC τ x) (sym e) (h τ m))
 
 -- a literal that is true in every assignment of what stands may get its value
-learn-same : (k : Core) (l : ℕ) → ((τ : Assignment) → Stands k τ → True τ l) → Same k (learn (k .class l) k)
+learn-same : (k : Core) (l : ℕ) → ((τ : Assignment) → ModelOf k τ → True τ l) → Same k (learn (k .class l) k)
 learn-same k l true-in τ = (
   λ S. record { unmarked = S .unmarked; models = S .models; classes = S .classes; met = λ s h. S .met s (ap (λ (b : Bool). eqb s (k .class l) || b) h ∙ or-true (eqb s (k .class l))) },
   λ S. record {
@@ -97,7 +97,7 @@ learn-same k l true-in τ = (
 )
 
 -- a mark is right where nothing is left
-marked-same : (k : Core) → ((τ : Assignment) → Stands k τ → ⊥) → Same k (marked k)
+marked-same : (k : Core) → ((τ : Assignment) → ModelOf k τ → ⊥) → Same k (marked k)
 marked-same k none τ = (λ S. clash refl (S .unmarked), λ S. absurd (none τ S))
 
 -- ---- Propagate and Merge
@@ -175,7 +175,7 @@ moves-kept (go ms m) g =
     (two .0, λ τ. Iff·trans (two .1 τ) (one .1 τ))
 
 -- after any list of moves from a load, what stands has the loaded formula's satisfying assignments
-pub demand-3 : {vars : ℕ} (f : List Clause) {k : Core} {w : Freshness} → Moves vars (load f) spent k w → (τ : Assignment) → Stands k τ ↔ Models τ f
+pub demand-3 : {vars : ℕ} (f : List Clause) {k : Core} {w : Freshness} → Moves vars (load f) spent k w → (τ : Assignment) → ModelOf k τ ↔ Models τ f
 demand-3 f ms τ =
     Iff·trans
     (moves-kept ms tt .1 τ)

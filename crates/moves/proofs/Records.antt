@@ -17,12 +17,12 @@ use Rattle.literal.specs.Literals.{slotOf, litAt}
 use Rattle.literal.proofs.Laws.{slot-lit}
 use Rattle.walk.specs.Walk.{Stamps}
 use Rattle.walk.specs.Forest.{finishAt, parentAt}
-use Rattle.stamps.specs.Columns.{columns}
+use Rattle.stamp_columns.specs.Columns.{columns}
 use Rattle.hidden.specs.Hidden.{hiddenTautology, shorten}
 use Rattle.hidden.proofs.Intervals.{Within}
 use Rattle.hidden.proofs.Shorten.{shorten-slots}
 use Rattle.hidden.proofs.Agree.{Agree, tautology-agree, shorten-agree}
-use Rattle.stamps.proofs.Columns.{column-discovery, column-finishes, column-parents, column-starts}
+use Rattle.stamp_columns.proofs.Columns.{column-discovery, column-finishes, column-parents, column-starts}
 use Rattle.tables.specs.Tables.{Tables}
 use Rattle.tables.specs.Fates.{Fate, kept, left, unit, conflict}
 use Rattle.tables.specs.Fates as fates

@@ -18,7 +18,7 @@ pub record Core : Type 0 where
   pub mark : Bool
 
 -- an assignment satisfies what stands
-pub record Stands (k : Core) (τ : Assignment) : Type 0 where
+pub record ModelOf (k : Core) (τ : Assignment) : Type 0 where
   pub unmarked : k .mark ≡ false
   pub models : Models τ (k .clauses)
   pub classes : (s : ℕ) → value τ s ≡ value τ (k .class s)

@@ -6,9 +6,9 @@ use mathlib.Core.Bool.{true, false}
 use mathlib.Core.Logic.{_⊎_}
 use mathlib.Core.List.{List, [], _∷_, map, List·Memᴰ, Sublistᴰ}
 use Rattle.literal.specs.Literals.{twin}
-use Rattle.walk.specs.Walk.{Stamps}
+use Rattle.walk.specs.Walk.{Stamps, Lists}
 use Rattle.walk.specs.Forest.{Reach}
-use Rattle.scc.specs.Groups.{Lists, cyclic}
+use Rattle.scc.specs.Groups.{cyclic}
 use Rattle.hidden.specs.Failed.{sameStart, failedSlot}
 use Rattle.sound.specs.Formula.{dropped, standing, graph, formulaStamps}
 use Rattle.sound.specs.Sweep.{visit, visitFrom}

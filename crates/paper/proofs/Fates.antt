@@ -14,10 +14,10 @@ use Rattle.literal.proofs.Signed.{abs-neg}
 use Rattle.walk.specs.Walk.{Stamps}
 use Rattle.walk.specs.Forest as forest
 use Rattle.stamps.specs.Fresh.{FreshStamps}
-use Rattle.stamps.specs.Columns.{columns}
+use Rattle.stamp_columns.specs.Columns.{columns}
 use Rattle.hidden.specs.Hidden.{holds, hiddenTautology, unhidden, shorten, figure5}
 use Rattle.hidden.proofs.Intervals.{Nested, Within, holds-true, true-holds}
-use Rattle.stamps.proofs.Columns.{column-discovery, column-finishes, column-parents}
+use Rattle.stamp_columns.proofs.Columns.{column-discovery, column-finishes, column-parents}
 use Rattle.hidden.proofs.FreshColumns.{fresh-nested}
 use Rattle.hidden.proofs.Scan.{hidden-of, tautology-means}
 use Rattle.hidden.proofs.Shorten.{unhidden-sub, shorten-slots}

@@ -17,8 +17,8 @@ use Rattle.scc.specs.Groups.{cyclic}
 use Rattle.scc.proofs.Forward.{cyclic-none}
 use Rattle.stamps.specs.Fresh.{FreshStamps}
 use Rattle.hidden.proofs.Agree.{Agree}
-use Rattle.stamps.proofs.Columns.{column-discovery, column-finishes, column-parents, column-starts}
-use Rattle.stamps.specs.Columns.{columns}
+use Rattle.stamp_columns.proofs.Columns.{column-discovery, column-finishes, column-parents, column-starts}
+use Rattle.stamp_columns.specs.Columns.{columns}
 use Rattle.state.specs.declared.State.{State}
 use Rattle.tables.specs.Tables.{Tables}
 use Rattle.table_graph.proofs.Listing.{slots-in}

@@ -12,7 +12,7 @@ use Rattle.base.proofs.Booleans.{clash, bool-or}
 use Rattle.literal.specs.Literals.{slotOf}
 use Rattle.walk.specs.Walk.{Stamps}
 use Rattle.stamps.specs.Fresh.{FreshStamps}
-use Rattle.stamps.specs.Columns.{columns}
+use Rattle.stamp_columns.specs.Columns.{columns}
 use Rattle.hidden.specs.Hidden.{hiddenTautology, shorten}
 use Rattle.hidden.proofs.FreshColumns.{fresh-nested}
 use Rattle.tables.specs.Tables.{Tables, lengthOf, standing}

@@ -10,13 +10,13 @@ use lib.ListN.{length, replicate, length-replicate, length-set}
 use Rattle.base.specs.Decide.{zero-or}
 use Rattle.base.specs.Lists.{absent, filter}
 use Rattle.base.proofs.Lists.{mem-filter}
-use Rattle.walk.specs.Walk.{Stamps, arrive, leave, edge, edges, enters, startWalk, fresh, stampAll}
+use Rattle.walk.specs.Walk.{Stamps, arrive, leave, edge, edges, enters, startWalk, fresh, stampAll, Lists}
 use Rattle.walk.specs.Forest.{discoveryAt}
 use Rattle.walk.proofs.Run.{Less, less-refl, edge-new, edge-old, edge-cases, edges-less, enters-less, fresh-set}
 use Rattle.walk.proofs.Drive.{fresh-le}
 use Rattle.walk.proofs.Depth.{figure-1}
 use Rattle.implications.specs.Clauses.{tos, implications}
-use Rattle.scc.specs.Groups.{blank, Lists}
+use Rattle.scc.specs.Groups.{blank}
 use Rattle.scc.proofs.Forward.{edge-below}
 use Rattle.stamp.specs.Stamp.{stampsOf}
 use Rattle.paper.specs.Figure1.{Figure1, startsBy, Walked}

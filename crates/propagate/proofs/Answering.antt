@@ -11,12 +11,14 @@ use Rattle.tables.specs.Clauses.{gone}
 use Rattle.tables.specs.Calls.{After}
 use Rattle.visits.specs.Formed.{Counted}
 use Rattle.visits.proofs.Counting.{formed-counted}
-use Rattle.propagate.specs.Propagate.{Progress, going, Reached, propagateVisits, propagateFrom, replied}
-use Rattle.propagate.specs.Steps.{progressOf, reachedAs, repliedWith, StandsBefore}
-use Rattle.propagate.specs.declared.Stand.{Stand}
-use Rattle.propagate.specs.declared.Stand.the-variants.{Going, Settled, Contradicted}
-use Rattle.propagate.specs.declared.Reach.{Reach}
-use Rattle.propagate.proofs.Stepping.{Good, visits-good}
+use Rattle.propagate.specs.Propagate.{propagateFrom, replied}
+use Rattle.propagate_visits.specs.Visits.{Progress, going, Reached, propagateVisits}
+use Rattle.propagate.specs.Steps.{repliedWith}
+use Rattle.propagate_visits.specs.Steps.{progressOf, reachedAs, StandsBefore}
+use Rattle.propagate_visits.specs.declared.Stand.{Stand}
+use Rattle.propagate_visits.specs.declared.Stand.the-variants.{Going, Settled, Contradicted}
+use Rattle.propagate_visits.specs.declared.Reach.{Reach}
+use Rattle.propagate_visits.proofs.Stepping.{Good, visits-good}
 
 -- where the pass stands, with its tables, says what is replied
 replied-stand : (fresh : Bool) (before : List ℕ) (st : State) (m : ℕ) (s : Stand) (t : Tables) → replied fresh before st m (progressOf s t) ≡ repliedWith fresh (gone m (st .n) before (t .clauses)) st s t

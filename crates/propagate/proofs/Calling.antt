@@ -15,9 +15,11 @@ use Rattle.entry.proofs.Entering.{opens-entered, resumes-entered}
 use Rattle.visits.specs.Formed.{Formed}
 use Rattle.visits.proofs.Counting.{none-gone}
 use Rattle.visits.proofs.Entered.{entered-formed, entered-cursor}
-use Rattle.propagate.specs.Propagate.{Progress, going, settled, begin, Reached, replied, propagateVisits, propagateFrom, propagateBy, propagateCall}
-use Rattle.propagate.specs.Steps.{repliedWith, StandsBefore}
-use Rattle.propagate.specs.declared.Stand.the-variants.{Settled}
+use Rattle.propagate.specs.Propagate.{replied, propagateFrom, propagateBy, propagateCall}
+use Rattle.propagate_visits.specs.Visits.{Progress, going, settled, begin, Reached, propagateVisits}
+use Rattle.propagate.specs.Steps.{repliedWith}
+use Rattle.propagate_visits.specs.Steps.{StandsBefore}
+use Rattle.propagate_visits.specs.declared.Stand.the-variants.{Settled}
 
 -- ---- with no clause
 

@@ -24,9 +24,9 @@ use Rattle.occurrences.specs.Chains.{ownerOf, Before, Linking, Linkable}
 use Rattle.occurrences.specs.Pending.{Covered, HasChain, PendingAll}
 use Rattle.occurrences.proofs.Pending.{covered-clear}
 use Rattle.occurrences.proofs.Linking.{linking-none}
-use Rattle.propagate.specs.Propagate.{propagateClause}
+use Rattle.propagate_visits.specs.Visits.{propagateClause}
 use Rattle.visits.specs.Visited.{visitedAs, Visit, visitOf, visitAt}
-use Rattle.propagate.specs.Steps.{StandsBefore}
+use Rattle.propagate_visits.specs.Steps.{StandsBefore}
 use Rattle.propagate.specs.Listed.{Listed}
 use Rattle.visits.specs.declared.Visited.{Visited}
 use Rattle.visits.specs.declared.Visited.the-variants.{MadeTrue, Conflict}

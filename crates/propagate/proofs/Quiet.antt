@@ -28,9 +28,9 @@ use Rattle.visits.proofs.Known.{abs-signed, class-ranged, class-own}
 use Rattle.visits.proofs.Visiting.{fate-dropped, fate-standing}
 use Rattle.visits.proofs.StoreKeeps.{FormedIn, formed-cases}
 use Rattle.visits.proofs.Looking.{dropped-settled, valued-unsettled, unit-unsettled}
-use Rattle.propagate.specs.Propagate.{going, onward, visited, remaining, notFalse, propagateClause, propagateVisit, propagateVisits}
-use Rattle.propagate.proofs.Parting.{fate-true, fate-left}
-use Rattle.propagate.proofs.Stepping.{onward-more}
+use Rattle.propagate_visits.specs.Visits.{going, onward, visited, remaining, notFalse, propagateClause, propagateVisit, propagateVisits}
+use Rattle.propagate_visits.proofs.Parting.{fate-true, fate-left}
+use Rattle.propagate_visits.proofs.Stepping.{onward-more}
 use Rattle.propagate.proofs.Unvalued.{own-literal, quiet-clause, left-quiet}
 
 -- ---- a visit to a settled clause

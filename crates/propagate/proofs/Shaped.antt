@@ -18,9 +18,10 @@ use Rattle.entry.proofs.Entering.{opens-entered, resumes-entered}
 use Rattle.visits.proofs.Visiting.{SameStamps, stamps-same, stamps-join, store-stamps}
 use Rattle.visits.proofs.StoreKeeps.{FormedIn, formed-shape-as}
 use Rattle.visits.proofs.Entered.{entered-formed, entered-cursor}
-use Rattle.propagate.specs.Propagate.{Progress, going, settled, contradicted, onward, changes, visited, propagateClause, propagateVisit, propagateVisits, replied, propagateFrom, begin, propagateBy, propagateCall}
-use Rattle.propagate.proofs.VisitKeeps.{visit-classes}
-use Rattle.propagate.proofs.Stepping.{Good, visit-good, visits-good}
+use Rattle.propagate.specs.Propagate.{replied, propagateFrom, propagateBy, propagateCall}
+use Rattle.propagate_visits.specs.Visits.{Progress, going, settled, contradicted, onward, changes, visited, propagateClause, propagateVisit, propagateVisits, begin}
+use Rattle.propagate_visits.proofs.VisitKeeps.{visit-classes}
+use Rattle.propagate_visits.proofs.Stepping.{Good, visit-good, visits-good}
 
 -- ---- what every visit keeps
 

@@ -17,7 +17,7 @@ use Rattle.tables.specs.Passes.{valued}
 use Rattle.visits.specs.Formed.{Variables, FitClause, Known}
 use Rattle.visits.proofs.Fitting.{fit-head, fit-tail, filter-shorter}
 use Rattle.visits.proofs.Known.{known-row}
-use Rattle.propagate.specs.Propagate.{notFalse}
+use Rattle.propagate_visits.specs.Visits.{notFalse}
 
 -- ---- one literal
 

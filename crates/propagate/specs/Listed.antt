@@ -1,5 +1,5 @@
 -- Visits that are skipped: a clause that is not pending would not be changed by a visit, and where each variable occurs is listed. Assumes nothing: these are definitions.
-use Prim.Native.Nat.{ℕ, _+_, _≤_, _<_}
+use Prim.Native.Nat.{ℕ, _≤_, _<_}
 use mathlib.Core.Path.{_≡_}
 use mathlib.Core.Bool.{Bool, false}
 use mathlib.Core.List.{List, [], List·Memᴰ}
@@ -10,9 +10,6 @@ use Rattle.tables.specs.Clauses.{literalsOf}
 use Rattle.tables.specs.Passes.{unsettled}
 use Rattle.occurrences.specs.Chains.{ownerOf}
 use Rattle.occurrences.specs.Pending.{Covered, Walkable}
-use Rattle.propagate.specs.Propagate.{going, propagateVisits}
-use Rattle.propagate.specs.Steps.{progressOf}
-use Rattle.propagate.specs.declared.Reach.{Reach}
 
 -- every literal of the n clauses is in the chain of its variable, and a clause that is not pending is settled
 pub record Listed (n : ℕ) (heads places : List ℕ) (pending blocks : List Bool) (clauses : List ℕ) (literals variables : List ℤ) : Type 0 where
@@ -23,9 +20,3 @@ pub record Listed (n : ℕ) (heads places : List ℕ) (pending blocks : List Boo
   pub room : (4096 ≤ length pending) × (64 ≤ length blocks)
   pub covered : Covered pending blocks
   pub quiet : (i : ℕ) → i < n → getD pending i false ≡ false → unsettled (tables clauses literals variables [] []) i ≡ false
-
--- some visits from clause k on, at most `room`: the visits that follow go on from there
-pub record Advanced (n room k : ℕ) (changed : Bool) (r : Reach) (c : List ℕ) (l w : List ℤ) (c′ : List ℕ) (l′ w′ : List ℤ) : Type 0 where
-  pub made : (0 < r .visits) × (r .visits ≤ room)
-  pub left : (times : List ℕ) (links : List ℤ) (m before : ℕ)
-      → propagateVisits n (r .visits + m) before (going k changed (tables c l w times links)) ≡ propagateVisits n m (before + r .visits) (progressOf (r .stand) (tables c′ l′ w′ times links))

@@ -8,7 +8,7 @@ use Rattle.state.specs.declared.State.{State}
 use Rattle.state.specs.declared.Refusal.the-variants.{Shape}
 use Rattle.state.specs.declared.Pass.{Pass}
 use Rattle.state.specs.declared.Pass.the-variants.{Merge, Sweep}
-use Rattle.stamps.specs.Columns.{columns}
+use Rattle.stamp_columns.specs.Columns.{columns}
 use Rattle.tables.specs.Tables.{Tables}
 use Rattle.tables.specs.Fates.{Fate}
 use Rattle.tables.specs.Passes.{advance}
@@ -28,8 +28,9 @@ use Rattle.dimacs.specs.Text.{judgeText, bodyOf}
 use Rattle.dimacs.specs.declared.Verdict.{Verdict}
 use Rattle.dimacs.specs.declared.Verdict.the-variants as verdict
 use Rattle.load.specs.Load.{laid, loadBy, loadCall}
-use Rattle.propagate.specs.Propagate.{Progress, going, begin, propagateVisits, propagateFrom, propagateBy, propagateCall}
-use Rattle.propagate.proofs.Stepping.{Good}
+use Rattle.propagate.specs.Propagate.{propagateFrom, propagateBy, propagateCall}
+use Rattle.propagate_visits.specs.Visits.{Progress, going, begin, propagateVisits}
+use Rattle.propagate_visits.proofs.Stepping.{Good}
 use Rattle.propagate.proofs.Shaped.{tablesAt, begin-tables, begin-good, replied-tables, visits-stamps}
 use Rattle.merge.specs.Merge.{mergedClasses, mergeClause, mergeOpen, mergeBy, mergeCall}
 use Rattle.merge.proofs.Visiting.{merge-shrinks}

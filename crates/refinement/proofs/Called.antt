@@ -18,8 +18,9 @@ use Rattle.entry.proofs.Entering.{opens-entered, resumes-entered}
 use Rattle.visits.proofs.Entered.{entered-formed, entered-cursor}
 use Rattle.visits.proofs.StoreKeeps.{FormedTo}
 use Rattle.visits.proofs.Advancing.{advance-cases}
-use Rattle.propagate.specs.Propagate.{Progress, going, settled, contradicted, begin, propagateVisits, propagateFrom, replied, propagateBy, propagateCall}
-use Rattle.propagate.proofs.Stepping.{Good}
+use Rattle.propagate.specs.Propagate.{propagateFrom, replied, propagateBy, propagateCall}
+use Rattle.propagate_visits.specs.Visits.{Progress, going, settled, contradicted, begin, propagateVisits}
+use Rattle.propagate_visits.proofs.Stepping.{Good}
 use Rattle.propagate.proofs.Shaped.{begin-good}
 use Rattle.merge.specs.Merge.{mergedClasses, mergeClause, mergeFrom, mergeOpen, mergeBy, mergeCall}
 use Rattle.merge.proofs.Merged.{classes-formed}

@@ -23,7 +23,7 @@ use Rattle.tables.specs.Tables as T
 use Rattle.tables.specs.Long.{Long}
 use Rattle.tables.specs.Values.{classLiteral}
 use Rattle.tables.specs.Clauses.{literalsOf}
-use Rattle.tables.specs.Stands as stands
+use Rattle.tables.specs.Stands.{Stands}
 use Rattle.tables.specs.Calls.{After, refuse}
 use Rattle.shape.specs.Shape.{Shape, settledTo}
 use Rattle.shape.specs.Decision.{shapeOk}
@@ -159,7 +159,7 @@ module _ (text : List ℕ) (v n body : ℕ) (accepted : judgeText text ≡ Fits 
   pub held : Held (loadedClauses (textClauses text)) t′ st′
   held = steps-held ss (loadCall text t st .tables) (loadCall text t st .state) (load-held text v n body accepted t L st)
 
-  pub demand-3 : (τ : Assignment) → stands.Stands t′ st′ τ ↔ Satisfies τ (textClauses text)
+  pub demand-3 : (τ : Assignment) → Stands t′ st′ τ ↔ Satisfies τ (textClauses text)
   demand-3 τ =
       let F = shape-formed (held .shape) in
       Iff·trans (stands-core st′ t′ (held .core) (settledTo (st′ .pass) (st′ .n)) F (held .tied) τ, core-stands st′ t′ (held .core) (settledTo (st′ .pass) (st′ .n)) F (held .tied) τ)

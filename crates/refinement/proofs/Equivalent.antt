@@ -16,7 +16,7 @@ use Rattle.literal.proofs.Signed.{eqZ-true}
 use Rattle.state.specs.declared.State.{State}
 use Rattle.tables.specs.Tables.{Tables, classOf, valueOf}
 use Rattle.tables.specs.Tables as T
-use Rattle.tables.specs.Stands as stands
+use Rattle.tables.specs.Stands.{Stands}
 use Rattle.tables.specs.Values.{classLiteral, ownTruth}
 use Rattle.tables.specs.Clauses.{literalsOf}
 use Rattle.visits.specs.Formed.{Formed}
@@ -38,7 +38,7 @@ module _ (st : State) (t : Tables) (k : core.Core) (sl : ℕ) (F : Formed (st .v
   real i lt = record { each = λ l m. let j = mem-at (literalsOf (t .clauses) (t .literals) i) m in subst (λ (x : ℤ). 0 < natAbs x) (sym (j .2)) (clause-fits F i lt .ranged (j .0) (j .1) .above) }
 
   -- from the tables to the slots
-  pub stands-core : stands.Stands t st τ → core.Stands k τ
+  pub stands-core : Stands t st τ → core.ModelOf k τ
   unfolding value
   stands-core S = record {
     unmarked = R .marks ∙ S .unmarked;
@@ -62,13 +62,13 @@ module _ (st : State) (t : Tables) (k : core.Core) (sl : ℕ) (F : Formed (st .v
   }
 
   -- a fact over slots, of a literal
-  fact-true : core.Stands k τ → (l : ℤ) → Literal (st .v) l → ownTruth (t .variables) l ≡ pos 1 → holds τ l ≡ true
+  fact-true : core.ModelOf k τ → (l : ℤ) → Literal (st .v) l → ownTruth (t .variables) l ≡ pos 1 → holds τ l ≡ true
   fact-true S l L e =
       sym (value-slot τ l (L .above))
       ∙ S .met (slotOf l) (R .facts (slotOf l) (slot-below l (st .v) (L .above) (L .within)) ∙ ap (λ (x : ℤ). eqZ (ownTruth (t .variables) x) (pos 1)) (lit-slot l (L .above)) ∙ ap (λ (x : ℤ). eqZ x (pos 1)) e)
 
   -- and back
-  pub core-stands : core.Stands k τ → stands.Stands t st τ
+  pub core-stands : core.ModelOf k τ → Stands t st τ
   core-stands S = record {
     unmarked = sym (R .marks) ∙ S .unmarked;
     clauses = λ i lt e.

@@ -12,11 +12,11 @@ use lib.Signed.{nonNeg}
 use Rattle.literal.specs.Literals.{Literal, slotOf, litAt, eqZ, signBy}
 use Rattle.literal.proofs.Laws.{slot-below}
 use Rattle.walk.specs.Walk.{Stamps}
-use Rattle.stamps.specs.Columns.{columns}
+use Rattle.stamp_columns.specs.Columns.{columns}
 use Rattle.stamps.specs.Fresh.{discoveryIn, finishIn, parentIn, Holds, NestedOrApart, Parent, Start, FreshStamps}
 use Rattle.stamps.specs.Fresh as stamps
 use Rattle.hidden.proofs.Agree.{Agree}
-use Rattle.stamps.proofs.Columns.{column-discovery, column-finishes, column-parents, column-starts}
+use Rattle.stamp_columns.proofs.Columns.{column-discovery, column-finishes, column-parents, column-starts}
 use Rattle.state.specs.declared.State.{State}
 use Rattle.tables.specs.Tables.{Tables, startOf, lengthOf, classOf, valueOf}
 use Rattle.tables.specs.Tables as T

@@ -9,7 +9,7 @@ use Rattle.literal.specs.Literals.{Literal, slotOf, litAt, twin}
 use Rattle.literal.proofs.Laws.{slot-lit}
 use Rattle.literal.proofs.Twins.{twin-below}
 use Rattle.walk.specs.Walk.{Stamps}
-use Rattle.stamps.specs.Columns.{columns}
+use Rattle.stamp_columns.specs.Columns.{columns}
 use Rattle.hidden.specs.Failed.{sameStart, failedSlot}
 use Rattle.hidden.proofs.Agree.{Agree, same-agree, failed-agree}
 use Rattle.state.specs.States.{closed, marked}

@@ -5,9 +5,9 @@ use mathlib.Core.Bool.{Bool, true, false}
 use mathlib.Core.List.{List, map}
 use lib.IntN.{ℤ}
 use Rattle.literal.specs.Literals.{slotOf}
-use Rattle.walk.specs.Walk.{Stamps}
+use Rattle.walk.specs.Walk.{Stamps, Lists}
 use Rattle.implications.specs.Clauses.{implications}
-use Rattle.scc.specs.Groups.{Lists, cyclic}
+use Rattle.scc.specs.Groups.{cyclic}
 use Rattle.state.specs.declared.State.{State}
 use Rattle.state.specs.declared.Pass.{Pass}
 use Rattle.tables.specs.Tables.{Tables}

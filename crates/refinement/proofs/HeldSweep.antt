@@ -7,7 +7,7 @@ use mathlib.Core.Bool.{Bool, true, false, false≢true}
 use mathlib.Core.List.{List}
 use lib.IntN.{ℤ}
 use Rattle.walk.specs.Walk.{Stamps}
-use Rattle.stamps.specs.Columns.{columns}
+use Rattle.stamp_columns.specs.Columns.{columns}
 use Rattle.stamps.specs.Fresh.{FreshStamps}
 use Rattle.hidden.proofs.Intervals.{Nested}
 use Rattle.hidden.proofs.Agree.{Agree}

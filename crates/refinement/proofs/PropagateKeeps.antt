@@ -9,7 +9,7 @@ use mathlib.Core.List.{List}
 use Rattle.literal.specs.Assignments.{Assignment}
 use Rattle.state.specs.declared.State.{State}
 use Rattle.tables.specs.Tables.{Tables}
-use Rattle.tables.specs.Stands as stands
+use Rattle.tables.specs.Stands.{Stands}
 use Rattle.entry.specs.Entry.{entryOf}
 use Rattle.entry.specs.declared.PassName.the-variants as own
 use Rattle.entry.specs.declared.Entry.{Entry}
@@ -17,8 +17,9 @@ use Rattle.entry.specs.declared.Entry.the-variants.{No, Opens, Resumes}
 use Rattle.entry.proofs.Entering.{opens-entered, resumes-entered}
 use Rattle.visits.specs.Formed.{Formed}
 use Rattle.visits.proofs.Entered.{entered-formed, entered-cursor}
-use Rattle.propagate.specs.Propagate.{Progress, going, settled, contradicted, begin, propagateVisits, propagateFrom, replied, propagateBy, propagateCall}
-use Rattle.propagate.proofs.Stepping.{Good, visits-good}
+use Rattle.propagate.specs.Propagate.{propagateFrom, replied, propagateBy, propagateCall}
+use Rattle.propagate_visits.specs.Visits.{Progress, going, settled, contradicted, begin, propagateVisits}
+use Rattle.propagate_visits.proofs.Stepping.{Good, visits-good}
 use Rattle.propagate.proofs.Shaped.{begin-good}
 use Rattle.moves.specs.Core as core
 use Rattle.moves.proofs.Keeps.{moves-kept}
@@ -28,21 +29,21 @@ use Rattle.refinement.proofs.Equivalent.{stands-core, core-stands}
 use Rattle.refinement.proofs.Propagation.{Tied, Follows, visits-follow}
 
 -- the tables and what they represent are satisfied alike
-tie : (st : State) (t : Tables) (k : core.Core) (s : ℕ) → Formed (st .v) (st .n) s (st .mark) (t .clauses) (t .literals) (t .variables) → Represented (st .v) (st .n) (st .mark) t k → (τ : Assignment) → stands.Stands t st τ ↔ core.Stands k τ
+tie : (st : State) (t : Tables) (k : core.Core) (s : ℕ) → Formed (st .v) (st .n) s (st .mark) (t .clauses) (t .literals) (t .variables) → Represented (st .v) (st .n) (st .mark) t k → (τ : Assignment) → Stands t st τ ↔ core.ModelOf k τ
 tie st t k s F R τ = (stands-core st t k s F R τ, core-stands st t k s F R τ)
 
 module _ (t : Tables) (st : State) (F : Formed (st .v) (st .n) (st .n) false (t .clauses) (t .literals) (t .variables)) (unmarked : st .mark ≡ false) (τ : Assignment) where
   k : core.Core
   k = coreOf (st .v) (st .n) false t
 
-  before-tie : stands.Stands t st τ ↔ core.Stands k τ
+  before-tie : Stands t st τ ↔ core.ModelOf k τ
   unfolding k
   before-tie =
       tie st t (coreOf (st .v) (st .n) false t) (st .n) (subst (λ (b : Bool). Formed (st .v) (st .n) (st .n) b (t .clauses) (t .literals) (t .variables)) (sym unmarked) F)
       (subst (λ (b : Bool). Represented (st .v) (st .n) b t (coreOf (st .v) (st .n) false t)) (sym unmarked) (core-represented (st .v) (st .n) false t)) τ
 
   -- wherever the visits end
-  after-tie : (fresh : Bool) (m : ℕ) (before : List ℕ) (q : Progress) → Good (st .v) (st .n) q → Follows (st .v) (st .n) q k → stands.Stands (replied fresh before st m q .tables) (replied fresh before st m q .state) τ ↔ stands.Stands t st τ
+  after-tie : (fresh : Bool) (m : ℕ) (before : List ℕ) (q : Progress) → Good (st .v) (st .n) q → Follows (st .v) (st .n) q k → Stands (replied fresh before st m q .tables) (replied fresh before st m q .state) τ ↔ Stands t st τ
   after-tie fresh m before (going i changed t′) G S =
       Iff·trans (tie (replied fresh before st m (going i changed t′) .state) t′ (S .to) (st .n) (G .0) (S .tied) τ) (Iff·trans (moves-kept (S .moves) tt .1 τ) (Iff·symm before-tie))
   after-tie fresh m before (settled t′) G S =
@@ -50,7 +51,7 @@ module _ (t : Tables) (st : State) (F : Formed (st .v) (st .n) (st .n) false (t 
   after-tie fresh m before (contradicted t′) G S =
       Iff·trans (tie (replied fresh before st m (contradicted t′) .state) t′ (S .to) (st .n) G (S .tied) τ) (Iff·trans (moves-kept (S .moves) tt .1 τ) (Iff·symm before-tie))
 
-  from-keeps : (fresh : Bool) (steps : ℕ) (p : Progress) → Good (st .v) (st .n) p → Tied (st .v) (st .n) p k → stands.Stands (propagateFrom fresh steps p t st .tables) (propagateFrom fresh steps p t st .state) τ ↔ stands.Stands t st τ
+  from-keeps : (fresh : Bool) (steps : ℕ) (p : Progress) → Good (st .v) (st .n) p → Tied (st .v) (st .n) p k → Stands (propagateFrom fresh steps p t st .tables) (propagateFrom fresh steps p t st .state) τ ↔ Stands t st τ
   unfolding propagateFrom
   from-keeps fresh steps p G R =
       after-tie fresh (propagateVisits (st .n) steps 0 p .visits) (t .clauses) (propagateVisits (st .n) steps 0 p .progress) (visits-good (st .v) (st .n) steps 0 p G) (visits-follow (st .v) (st .n) steps 0 p k G R)
@@ -60,11 +61,11 @@ begin-tied v zero t k R = R
 begin-tied v (suc n) t k R = R
 
 -- THE THEOREM
-pub propagate-keeps : (steps : ℕ) (t : Tables) (st : State) (τ : Assignment) → stands.Stands (propagateCall steps t st .tables) (propagateCall steps t st .state) τ ↔ stands.Stands t st τ
+pub propagate-keeps : (steps : ℕ) (t : Tables) (st : State) (τ : Assignment) → Stands (propagateCall steps t st .tables) (propagateCall steps t st .state) τ ↔ Stands t st τ
 unfolding propagateCall k
 propagate-keeps steps t st τ = by (entryOf own.Propagate t st) refl
   where
-    by : (e : Entry) → entryOf own.Propagate t st ≡ e → stands.Stands (propagateBy e steps t st .tables) (propagateBy e steps t st .state) τ ↔ stands.Stands t st τ
+    by : (e : Entry) → entryOf own.Propagate t st ≡ e → Stands (propagateBy e steps t st .tables) (propagateBy e steps t st .state) τ ↔ Stands t st τ
     by (No r) q = Iff·rfl
     by Opens q =
         let E = opens-entered own.Propagate t st q in

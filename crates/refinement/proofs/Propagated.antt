@@ -28,7 +28,7 @@ use Rattle.visits.proofs.Forming.{clause-fits, record-inside, recorded-same, pa
 use Rattle.visits.proofs.MadeTrue.{true-classes}
 use Rattle.visits.proofs.Known.{class-ranged, known-class, known-place}
 use Rattle.visits.proofs.Fitting.{fit-member, filter-shorter}
-use Rattle.propagate.specs.Propagate.{notFalse}
+use Rattle.propagate_visits.specs.Visits.{notFalse}
 use Rattle.sound.specs.Formula.{Clause, dropped, standing}
 use Rattle.moves.specs.Core as core
 use Rattle.moves.specs.Moves.{Change, satisfied, falsified, unit, conflict, spent, change, Moves, stay, go}

@@ -11,10 +11,10 @@ use Rattle.tables.specs.Tables as T
 use Rattle.tables.specs.Values as values
 use Rattle.tables.specs.Fates.{Fate, store, fateAt}
 use Rattle.tables.specs.Fates as fates
-use Rattle.propagate.specs.Propagate.{Progress, going, settled, contradicted, onward, changes, visited, notFalse, remaining, propagateClause, propagateVisit, propagateVisits}
-use Rattle.propagate.proofs.Parting.{fate-true, fate-left}
+use Rattle.propagate_visits.specs.Visits.{Progress, going, settled, contradicted, onward, changes, visited, notFalse, remaining, propagateClause, propagateVisit, propagateVisits}
+use Rattle.propagate_visits.proofs.Parting.{fate-true, fate-left}
 use Rattle.visits.proofs.StoreKeeps.{FormedIn, formed-cases}
-use Rattle.propagate.proofs.Stepping.{Good, visit-good}
+use Rattle.propagate_visits.proofs.Stepping.{Good, visit-good}
 use Rattle.moves.specs.Core as core
 use Rattle.moves.specs.Moves.{Freshness, spent, Moves, stay, go}
 use Rattle.refinement.specs.Represented.{Represented}

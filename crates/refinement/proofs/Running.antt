@@ -12,7 +12,7 @@ use Rattle.state.specs.declared.State.{State}
 use Rattle.state.specs.declared.Pass.the-variants.{Idle}
 use Rattle.tables.specs.Tables.{Tables}
 use Rattle.tables.specs.Long.{Long}
-use Rattle.tables.specs.Stands as stands
+use Rattle.tables.specs.Stands.{Stands}
 use Rattle.tables.specs.Passes.{firstUnsettled}
 use Rattle.tables.specs.Calls.{After}
 use Rattle.entry.specs.Entry.{openingOf}
@@ -164,10 +164,10 @@ module _ (text : List ℕ) (v n body : ℕ) (accepted : judgeText text ≡ Fits 
   abbrev loaded : Standing
   loaded = between (loadCall text t st)
 
-  pub run-keeps : (count : ℕ) (τ : Assignment) → stands.Stands (runCall count (loaded .tables) (loaded .state) .tables) (runCall count (loaded .tables) (loaded .state) .state) τ ↔ Satisfies τ (textClauses text)
+  pub run-keeps : (count : ℕ) (τ : Assignment) → Stands (runCall count (loaded .tables) (loaded .state) .tables) (runCall count (loaded .tables) (loaded .state) .state) τ ↔ Satisfies τ (textClauses text)
   run-keeps count τ =
       let M = run-calls count (loaded .tables) (loaded .state) in
-      subst (λ (w : Standing). stands.Stands (w .tables) (w .state) τ ↔ Satisfies τ (textClauses text)) (M .ends) (list.demand-3 text v n body accepted t L st (M .calls) τ)
+      subst (λ (w : Standing). Stands (w .tables) (w .state) τ ↔ Satisfies τ (textClauses text)) (M .ends) (list.demand-3 text v n body accepted t L st (M .calls) τ)
 
   -- and it is not refused, unless the load has set the mark
   pub run-taken : loaded .state .mark ≡ false → openingOf (loaded .tables) (loaded .state) ≡ Granted

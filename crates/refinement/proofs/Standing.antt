@@ -16,7 +16,7 @@ use Rattle.literal.proofs.Truth.{holds-neg}
 use Rattle.state.specs.declared.State.{State}
 use Rattle.tables.specs.Tables.{Tables, classOf, valueOf}
 use Rattle.tables.specs.Tables as T
-use Rattle.tables.specs.Stands as stands
+use Rattle.tables.specs.Stands.{Stands}
 use Rattle.tables.specs.Values.{classLiteral, ownTruth}
 use Rattle.tables.specs.Clauses.{literalsOf}
 use Rattle.visits.specs.Formed.{Variables}
@@ -99,7 +99,7 @@ stands-clause c l i e = ap (λ (x : ℕ). elim x as (λ y. Clause) [ zero ↦ dr
 
 -- ---- classes and values of a literal
 
-module _ (st : State) (t : Tables) (τ : Assignment) (S : stands.Stands t st τ) (rows : Variables (st .v) (t .variables)) where
+module _ (st : State) (t : Tables) (τ : Assignment) (S : Stands t st τ) (rows : Variables (st .v) (t .variables)) where
   pub class-holds : (l : ℤ) → Literal (st .v) l → holds τ l ≡ holds τ (classLiteral (t .variables) l)
   class-holds (pos zero) L = absurd (omega (arith, L .above))
   class-holds (pos (suc n)) L = ap τ (sym (add-one n)) ∙ S .classes n (L .within) ∙ ap (λ (w : ℕ). holds τ (classOf (t .variables) w)) (add-one n)

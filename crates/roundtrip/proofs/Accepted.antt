@@ -12,7 +12,7 @@ use Rattle.base.proofs.Booleans.{and-left, and-right}
 use Rattle.state.specs.declared.Refusal.the-variants.{Grammar, Limit}
 use Rattle.dimacs.specs.Words.{Word, wordsAt}
 use Rattle.dimacs.specs.Tokens.{Meaning, bad, nought, literal, meaning}
-use Rattle.dimacs.specs.Text.{left, judge, judgeEnd, judgeText, signed, clausesOf, textClauses}
+use Rattle.dimacs.specs.Text.{budget, judge, judgeEnd, judgeText, literalOf, clausesOf, textClauses}
 use Rattle.dimacs.specs.declared.Verdict.{Verdict}
 use Rattle.dimacs.specs.declared.Verdict.the-variants.{Fits}
 use Rattle.dimacs.proofs.Judge.{not-fits}
@@ -31,15 +31,15 @@ unfolding InClause
 in-snoc v [] l h a b = (a, (b, tt))
 in-snoc v (x ∷ c) l h a b = (h .0, (h .1 .0, in-snoc v c l (h .1 .1) a b))
 
-accepted : (v n body end : ℕ) (ws : List Word) (k r : ℕ) (u : Bool) (begun : List ℤ) → judge v (left k r u) ws end (Fits v n body) ≡ Fits v n body → InClause v begun
+accepted : (v n body end : ℕ) (ws : List Word) (k r : ℕ) (u : Bool) (begun : List ℤ) → judge v (budget k r u) ws end (Fits v n body) ≡ Fits v n body → InClause v begun
     → Within v k (length begun + r) (clausesOf begun ws)
 unfolding judge clausesOf InClauses InClause total
 accepted v n body end [] k r u begun acc B = go u refl k refl acc
   where
-    go : (t : Bool) → u ≡ t → (m : ℕ) → k ≡ m → judgeEnd (left k r u) end (Fits v n body) ≡ Fits v n body → Within v k (length begun + r) []
-    go true t m e acc = absurd (not-fits (judgeEnd (left k r u) end (Fits v n body)) (Grammar end) v n body (rw (t, judgeEnd)) acc)
+    go : (t : Bool) → u ≡ t → (m : ℕ) → k ≡ m → judgeEnd (budget k r u) end (Fits v n body) ≡ Fits v n body → Within v k (length begun + r) []
+    go true t m e acc = absurd (not-fits (judgeEnd (budget k r u) end (Fits v n body)) (Grammar end) v n body (rw (t, judgeEnd)) acc)
     go false t zero e acc = record { count = sym e; size = omega arith; each = tt }
-    go false t (suc m) e acc = absurd (not-fits (judgeEnd (left k r u) end (Fits v n body)) (Limit end) v n body (rw (t, judgeEnd, e)) acc)
+    go false t (suc m) e acc = absurd (not-fits (judgeEnd (budget k r u) end (Fits v n body)) (Limit end) v n body (rw (t, judgeEnd, e)) acc)
 accepted v n body end (w ∷ ws) k r u begun acc B =
     go (meaning (w .bytes)) refl (accepted v n body end ws (k - 1) r false []) (λ x. accepted v n body end ws k (r - 1) true (begun ++ (x ∷ [])))
   where
@@ -47,11 +47,11 @@ accepted v n body end (w ∷ ws) k r u begun acc B =
     ok = Fits v n body
 
     all : Verdict
-    all = judge v (left k r u) (w ∷ ws) end ok
+    all = judge v (budget k r u) (w ∷ ws) end ok
 
     go : (m : Meaning) → meaning (w .bytes) ≡ m
-        → (judge v (left (k - 1) r false) ws end ok ≡ ok → InClause v [] → Within v (k - 1) (length {A = ℤ} [] + r) (clausesOf [] ws))
-        → ((x : ℤ) → judge v (left k (r - 1) true) ws end ok ≡ ok → InClause v (begun ++ (x ∷ [])) → Within v k (length (begun ++ (x ∷ [])) + (r - 1)) (clausesOf (begun ++ (x ∷ [])) ws))
+        → (judge v (budget (k - 1) r false) ws end ok ≡ ok → InClause v [] → Within v (k - 1) (length {A = ℤ} [] + r) (clausesOf [] ws))
+        → ((x : ℤ) → judge v (budget k (r - 1) true) ws end ok ≡ ok → InClause v (begun ++ (x ∷ [])) → Within v k (length (begun ++ (x ∷ [])) + (r - 1)) (clausesOf (begun ++ (x ∷ [])) ws))
         → Within v k (length begun + r) (clausesOf begun (w ∷ ws))
     go bad m a b = absurd (not-fits all (Grammar (w .at)) v n body (rw (m, judge)) acc)
     go nought m a b = zero-word (ltb 0 k) refl
@@ -66,8 +66,8 @@ accepted v n body end (w ∷ ws) k r u begun acc B =
       where
         literal-word : (t : Bool) → (ltb 0 k && (leb i v && ltb 0 r)) ≡ t → Within v k (length begun + r) (clausesOf begun (w ∷ ws))
         literal-word true t =
-            let x : ℤ = signed c i in
-            let e : natAbs (signed c i) ≡ i = abs-signed c i in
+            let x : ℤ = literalOf c i in
+            let e : natAbs (literalOf c i) ≡ i = abs-signed c i in
             let rest : (leb i v && ltb 0 r) ≡ true = and-right (ltb 0 k) (leb i v && ltb 0 r) t in
             let h : i ≤ v = leb-true i v (and-left (leb i v) (ltb 0 r) rest) in
             let g : 0 < r = ltb-true 0 r (and-right (leb i v) (ltb 0 r) rest) in

@@ -14,7 +14,7 @@ use Rattle.base.proofs.Booleans.{and-left}
 use Rattle.dimacs.specs.Words.{isSep, isWordByte, isDigit, span, Word, word, wordsAt}
 use Rattle.dimacs.specs.Tokens.{literal, decimal, decimalFrom, numeral, meaning}
 use Rattle.dimacs.specs.Header.{number, withinLimit, after, header, headerRest}
-use Rattle.dimacs.specs.Text.{left, judge, judgeText, signed, clausesOf, textClauses}
+use Rattle.dimacs.specs.Text.{budget, judge, judgeText, literalOf, clausesOf, textClauses}
 use Rattle.dimacs.specs.declared.Piece.the-variants.{Got}
 use Rattle.dimacs.specs.declared.Header.the-variants.{Fields}
 use Rattle.dimacs.specs.declared.Verdict.{Verdict}
@@ -125,7 +125,7 @@ record Spelt (l : ℤ) (w : List ℕ) : Type 0 where
   some : 0 < length w
   each : Each isWordByte w
   means : meaning w ≡ literal negative (natAbs l)
-  back : signed negative (natAbs l) ≡ l
+  back : literalOf negative (natAbs l) ≡ l
 
 numeral-means : (negative : Bool) (n : ℕ) (ds : List ℕ) → 0 < n → Numeral n ds → numeral negative ds ≡ literal negative n
 numeral-means negative n ds z r = numeral-is negative ds (r .some) (r .lead z) (span-all isDigit ds (r .each)) ∙ ap (literal negative) (r .value)
@@ -200,26 +200,26 @@ clause-words v (l ∷ ls) s at h =
 
 module _ (v end : ℕ) (ok : Verdict) where
   judge-literal-word : (l : ℤ) (w : List ℕ) (at k r : ℕ) (u : Bool) (ws : List Word) → Spelt l w → natAbs l ≤ v → 0 < r
-      → judge v (left (suc k) r u) (word at w ∷ ws) end ok ≡ judge v (left (suc k) (r - 1) true) ws end ok
+      → judge v (budget (suc k) r u) (word at w ∷ ws) end ok ≡ judge v (budget (suc k) (r - 1) true) ws end ok
   unfolding judge
   judge-literal-word l w at k r u ws p h z =
       rw (p .means, judge, lt-ltb 0 (suc k) (omega arith), le-leb (natAbs l) v h, lt-ltb 0 r z)
 
-  judge-zero-word : (at k r : ℕ) (u : Bool) (ws : List Word) → judge v (left (suc k) r u) (word at (48 ∷ []) ∷ ws) end ok ≡ judge v (left k r false) ws end ok
+  judge-zero-word : (at k r : ℕ) (u : Bool) (ws : List Word) → judge v (budget (suc k) r u) (word at (48 ∷ []) ∷ ws) end ok ≡ judge v (budget k r false) ws end ok
   unfolding judge
   judge-zero-word at k r u ws =
       let q : suc k - 1 ≡ k = omega arith in
       rw (lt-ltb 0 (suc k) (omega arith), judge, q)
 
   judge-clause : (c : List ℤ) (ws : List Word) (at k r : ℕ) (u : Bool) → InClause v c → length c ≤ r
-      → judge v (left (suc k) r u) (wordsOf at c ++ ws) end ok ≡ judge v (left k (r - length c) false) ws end ok
+      → judge v (budget (suc k) r u) (wordsOf at c ++ ws) end ok ≡ judge v (budget k (r - length c) false) ws end ok
   unfolding wordsOf InClause
   judge-clause [] ws at k r u h le = let q : r - 0 ≡ r = omega arith in rw q (judge-zero-word at k r u ws)
   judge-clause (l ∷ ls) ws at k r u h le =
       let q : r - 1 - length ls ≡ r - suc (length ls) = omega arith in
       judge-literal-word l (literalText l) at k r u _ (spelt l (h .0)) (h .1 .0) (omega arith)
       ∙ judge-clause ls ws (suc (at + length (literalText l))) k (r - 1) true (h .1 .1) (omega arith)
-      ∙ ap (λ (m : ℕ). judge v (left k m false) ws end ok) q
+      ∙ ap (λ (m : ℕ). judge v (budget k m false) ws end ok) q
 
 clause-read : (v : ℕ) (begun c : List ℤ) (ws : List Word) (at : ℕ) → InClause v c → clausesOf begun (wordsOf at c ++ ws) ≡ (begun ++ c) ∷ clausesOf [] ws
 unfolding clausesOf wordsOf InClause
@@ -232,11 +232,11 @@ clause-read v begun (l ∷ ls) ws at h =
 
 -- ---- all clauses
 body-fits : (v end : ℕ) (ok : Verdict) (cs : List (List ℤ)) (at r : ℕ) → InClauses v cs → total cs ≤ r
-    → judge v (left (length cs) r false) (wordsAt (clausesText cs) at) end ok ≡ ok
+    → judge v (budget (length cs) r false) (wordsAt (clausesText cs) at) end ok ≡ ok
 unfolding judge clausesText InClauses total wordsAt
 body-fits v end ok [] at r h le = refl
 body-fits v end ok (c ∷ cs) at r h le =
-    ap (λ (ws : List Word). judge v (left (suc (length cs)) r false) ws end ok) (clause-words v c (clausesText cs) at (h .0))
+    ap (λ (ws : List Word). judge v (budget (suc (length cs)) r false) ws end ok) (clause-words v c (clausesText cs) at (h .0))
     ∙ judge-clause v end ok c (wordsAt (clausesText cs) (endOf at c)) at (length cs) r false (h .0) (omega arith)
     ∙ body-fits v end ok cs (endOf at c) (r - length c) (h .1) (omega arith)
 

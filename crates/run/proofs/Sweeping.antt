@@ -5,7 +5,7 @@ use mathlib.Core.Path.{_≡_, refl, sym, subst}
 use mathlib.Core.Bool.{true, false, false≢true}
 use lib.ListN.{length}
 use Rattle.walk.specs.Walk.{Stamps}
-use Rattle.stamps.specs.Columns.{columns}
+use Rattle.stamp_columns.specs.Columns.{columns}
 use Rattle.hidden.proofs.FreshColumns.{fresh-nested}
 use Rattle.state.specs.States.{closed}
 use Rattle.state.specs.declared.State.{State}

@@ -11,14 +11,15 @@ use mathlib.Core.List.{List, [], _∷_, List·Memᴰ, List·Memᴰ·head, List·
 use lib.ListN.{length, length-replicate}
 use Rattle.base.specs.Decide.{same-or, le-or, zero-or}
 use Rattle.base.proofs.Lists.{getD-zeros}
-use Rattle.walk.specs.Walk.{Stamps, edge, edges, startWalk}
+use Rattle.walk.specs.Walk.{Stamps, edge, edges, startWalk, Lists}
 use Rattle.walk.specs.Forest.{discoveryAt, finishAt, startAt, Holds, Parted, Reach, here, on, Forest}
 use Rattle.walk.proofs.Run.{Less, less-refl, edge-new, edge-old}
 use Rattle.walk.proofs.Steps.{Walked, Sized, sized-less, reach-from}
 use Rattle.walk.proofs.Drive.{fresh-all}
 use Rattle.walk.proofs.Theorems.{Stamped, holds-reach, start-starts, times-apart, reach-entered, reach-below, forest-start, start-walked, forest-edges, fresh-none}
 use Rattle.implications.specs.Skew.{Skew}
-use Rattle.scc.specs.Groups.{blank, walk, Lists, Falls, next}
+use Rattle.scc.specs.Groups.{blank, walk}
+use Rattle.scc.specs.Steps.{next, Falls}
 
 pub reach-trans : {adj : ℕ → List ℕ} {a b c : ℕ} → Reach adj a b → Reach adj b c → Reach adj a c
 reach-trans r here = r

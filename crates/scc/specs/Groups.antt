@@ -1,16 +1,13 @@
--- The groups of slots that reach each other, and what the two walks that find them ask.
+-- The groups of slots that reach each other.
 -- Assumes nothing: these are definitions.
-use Prim.Native.Nat.{ℕ, _*_, _≤_, _<_}
-use mathlib.Core.Path.{_≡_}
+use Prim.Native.Nat.{ℕ, _≤_, _<_}
 use mathlib.Core.Bool.{Bool, false, not, _&&_, _||_}
-use mathlib.Core.List.{List, [], _∷_, List·Memᴰ}
-use lib.ListN.{length, getD, replicate}
+use mathlib.Core.List.{List, [], _∷_}
+use lib.ListN.{getD, replicate}
 use lib.Dec.{ltb, eqb}
 use Rattle.base.specs.Lists.{first, anyBelow}
 use Rattle.walk.specs.Walk.{Stamps, edges, startWalk}
-use Rattle.walk.specs.Compressed.{stamps, adjOf, Graph}
-use Rattle.implications.specs.Skew.{Skew}
-use Rattle.literal.specs.Literals.{twin}
+use Rattle.walk.specs.Compressed.{stamps}
 use Rattle.walk.specs.Forest.{Reach}
 
 -- columns with no slot entered; what stands in the other three does not matter
@@ -20,16 +17,6 @@ blank size f p s = stamps 0 (replicate size 0) f p s
 -- the walk of a list, from blank columns: it starts at each slot of the list that is not yet entered
 unfoldable pub walk : (ℕ → List ℕ) → ℕ → List ℕ → List ℕ → List ℕ → List ℕ → Stamps
 walk adj size order f p s = edges (startWalk size adj) order (blank size f p s)
-
--- a list of all slots below size, and no others
-pub record Lists (size : ℕ) (order : List ℕ) : Type 0 where
-  pub below : (q : ℕ) → List·Memᴰ q order → q < size
-  pub all : (q : ℕ) → q < size → List·Memᴰ q order
-
--- each element's key is above those of all later ones
-pub data Falls (key : ℕ → ℕ) : List ℕ → Type 0 where
-  none : Falls key []
-  next : {q : ℕ} {qs : List ℕ} → ((x : ℕ) → List·Memᴰ x qs → key x < key q) → Falls key qs → Falls key (q ∷ qs)
 
 -- is there a path from a to b? Whether a walk from a alone enters b
 unfoldable pub reaches : (ℕ → List ℕ) → ℕ → ℕ → ℕ → Bool
@@ -59,27 +46,3 @@ unfoldable pub clash : List ℕ → Bool
 clash [] = false
 clash (a ∷ []) = false
 clash (a ∷ b ∷ l) = eqb a b || clash l
-
--- r is the first place of a column with the same entry as place s
-pub record FirstSame (col : List ℕ) (s r : ℕ) : Type 0 where
-  pub within : r ≤ s
-  pub same : getD col r 0 ≡ getD col s 0
-  pub least : (b : ℕ) → b < r → getD col b 0 ≡ getD col s 0 → ⊥
-
--- finishes of a walk: an even number of slots, each with a time of its own up to 4,096
-pub record Finishes (finishes : List ℕ) : Type 0 where
-  pub pairs : (v : ℕ) × (length finishes ≡ 2 * v)
-  pub few : length finishes ≤ 2048
-  pub times : (s : ℕ) → s < length finishes → getD finishes s 0 ≤ 4096
-  pub apart : (s u : ℕ) → s < length finishes → u < length finishes → getD finishes s 0 ≡ getD finishes u 0 → s ≡ u
-
--- what `groups` asks: a graph of pairs of slots that taking twins reverses, and a place for each slot in every column
-pub record Mirrored (offsets targets d f p s order rep : List ℕ) : Type 0 where
-  pub graph : Graph offsets targets (length rep)
-  pub pairs : (v : ℕ) × (length rep ≡ 2 * v)
-  pub skew : Skew (adjOf offsets targets) twin (length rep)
-  pub discs : length d ≡ length rep
-  pub fins : length f ≡ length rep
-  pub pars : length p ≡ length rep
-  pub starts : length s ≡ length rep
-  pub orders : length order ≡ length rep

@@ -15,7 +15,8 @@ use Rattle.tables.specs.Tables.{tables}
 use Rattle.tables.specs.Clauses.{slotsAt, slotsFrom, standingCount, literalCount}
 use Rattle.tables.specs.Fates.{shortened, droppedAt, fateAt, visits}
 use Rattle.tables.specs.Passes.{advance}
-use Rattle.propagate.specs.Propagate.{propagateClause, propagateVisit, propagateVisits, propagateFrom}
+use Rattle.propagate.specs.Propagate.{propagateFrom}
+use Rattle.propagate_visits.specs.Visits.{propagateClause, propagateVisit, propagateVisits}
 use Rattle.merge.specs.Merge.{clashes, representative, regrouped, mergedClasses, mergeClause, mergeOpen}
 use Rattle.settle.specs.Settle.{Standing, settleFor, settle}
 use Rattle.settle.specs.Steps.{standingIn}

@@ -16,7 +16,7 @@ use Rattle.tables.specs.Passes.{unsettled, firstUnsettled}
 use Rattle.visits.specs.Formed.{Formed}
 use Rattle.visits.proofs.StoreKeeps.{FormedIn}
 use Rattle.visits.proofs.Looking.{FoundFrom, found-none, found-next, found-end}
-use Rattle.propagate.specs.Propagate.{Progress, going, settled, contradicted, onward, propagateVisits, begin}
+use Rattle.propagate_visits.specs.Visits.{Progress, going, settled, contradicted, onward, propagateVisits, begin}
 use Rattle.settle.specs.Settle.{enough}
 use Rattle.settle.proofs.Measure.{total, literals-total}
 use Rattle.settle.proofs.Visit.{bit, Went, visit-cases}

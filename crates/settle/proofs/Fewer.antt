@@ -10,9 +10,8 @@ use lib.IntN.{ℤ, pos, natAbs}
 use Rattle.base.specs.Decide.{same-or, le-or}
 use Rattle.literal.specs.Literals.{slotOf, twin}
 use Rattle.literal.proofs.Laws.{slot-below, slot-variable}
-use Rattle.literal.proofs.Twins.{twin-even, twin-odd}
+use Rattle.literal.proofs.Twins.{twin-even, twin-odd, twin-variable}
 use Rattle.walk.specs.Forest.{Reach, here}
-use Rattle.literal.proofs.Twins.{twin-variable}
 use Rattle.scc.specs.Groups.{cyclic, leastMutual, Representative}
 use Rattle.scc.proofs.Kosaraju.{mirror}
 use Rattle.scc.proofs.Forward.{cyclic-found, reach-within}

@@ -15,8 +15,9 @@ use Rattle.entry.specs.Entry.{entryOf}
 use Rattle.entry.specs.declared.PassName.the-variants as own
 use Rattle.entry.specs.declared.Entry.the-variants.{Opens, Resumes}
 use Rattle.entry.proofs.Entering.{entry-shaped, entry-idle}
-use Rattle.propagate.specs.Propagate.{Progress, going, settled, contradicted, begin, propagateVisits, Reached, reached, replied, propagateFrom, propagateCall}
-use Rattle.propagate.proofs.Splitting.{settled-stays, contradicted-stays, visits-split, made-free}
+use Rattle.propagate.specs.Propagate.{replied, propagateFrom, propagateCall}
+use Rattle.propagate_visits.specs.Visits.{Progress, going, settled, contradicted, begin, propagateVisits, Reached, reached}
+use Rattle.propagate_visits.proofs.Splitting.{settled-stays, contradicted-stays, visits-split, made-free}
 use Rattle.propagate.proofs.Calling.{call-opens, call-resumes}
 use Rattle.propagate.proofs.Shaped.{propagate-shaped}
 use Rattle.settle.specs.Settle.{Standing, between, enough, propagated}

@@ -24,9 +24,9 @@ use Rattle.visits.proofs.Forming.{part-inside, part-length, clause-fits, record
 use Rattle.visits.proofs.Visiting.{fate-dropped, fate-standing}
 use Rattle.visits.proofs.StoreKeeps.{FormedIn}
 use Rattle.visits.proofs.Looking.{dropped-settled, valued-unsettled}
-use Rattle.propagate.specs.Propagate.{Progress, contradicted, onward, visited, remaining, notFalse, propagateClause, propagateVisit}
-use Rattle.propagate.proofs.Parting.{fate-true, fate-left}
-use Rattle.propagate.proofs.VisitKeeps.{formed-visit, formed-conflict}
+use Rattle.propagate_visits.specs.Visits.{Progress, contradicted, onward, visited, remaining, notFalse, propagateClause, propagateVisit}
+use Rattle.propagate_visits.proofs.Parting.{fate-true, fate-left}
+use Rattle.propagate_visits.proofs.VisitKeeps.{formed-visit, formed-conflict}
 use Rattle.settle.proofs.Measure.{total, total-after}
 use Rattle.propagate.proofs.Unvalued.{Untouched, untouched}
 

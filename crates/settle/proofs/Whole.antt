@@ -12,8 +12,9 @@ use Rattle.tables.specs.Passes.{firstUnsettled}
 use Rattle.visits.specs.Formed.{Formed}
 use Rattle.visits.proofs.Visiting.{SameStamps}
 use Rattle.visits.proofs.StoreKeeps.{FormedIn}
-use Rattle.propagate.specs.Propagate.{Progress, going, settled, contradicted, begin, Reached, propagateVisits, replied, propagateFrom}
-use Rattle.propagate.proofs.Stepping.{Good}
+use Rattle.propagate.specs.Propagate.{replied, propagateFrom}
+use Rattle.propagate_visits.specs.Visits.{Progress, going, settled, contradicted, begin, Reached, propagateVisits}
+use Rattle.propagate_visits.proofs.Stepping.{Good}
 use Rattle.propagate.proofs.Shaped.{tablesAt, visits-stamps, visits-classes, begin-tables, begin-good}
 use Rattle.settle.specs.Settle.{Standing, between, enough, propagated}
 use Rattle.settle.specs.Own.{owns}

@@ -7,7 +7,8 @@ use Rattle.state.specs.declared.State.{State}
 use Rattle.tables.specs.Tables.{Tables}
 use Rattle.tables.specs.Clauses.{literalCount}
 use Rattle.tables.specs.Calls.{After}
-use Rattle.propagate.specs.Propagate.{begin, propagateFrom}
+use Rattle.propagate.specs.Propagate.{propagateFrom}
+use Rattle.propagate_visits.specs.Visits.{begin}
 use Rattle.merge.specs.Merge.{edgesOf, mergeOpen}
 
 -- the tables and the state between two passes of a run

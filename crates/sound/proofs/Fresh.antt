@@ -13,9 +13,9 @@ use mathlib.Core.List.{List}
 use Rattle.literal.specs.Literals.{twin}
 use Rattle.literal.specs.Assignments.{Assignment}
 use Rattle.literal.proofs.Twins.{twin-below}
-use Rattle.walk.specs.Walk.{Stamps}
+use Rattle.walk.specs.Walk.{Stamps, Lists}
 use Rattle.walk.proofs.Theorems.{holds-reach}
-use Rattle.scc.specs.Groups.{Lists, cyclic}
+use Rattle.scc.specs.Groups.{cyclic}
 use Rattle.hidden.specs.Failed.{sameStart, failedSlot}
 use Rattle.hidden.proofs.Failed.{Failed, failed-slot}
 use Rattle.sound.specs.Formula.{Clause, True, Models, graph, formulaStamps}

@@ -7,10 +7,10 @@ use mathlib.Core.List.{List, map}
 use Rattle.base.specs.Lists.{any, filter, absent, anyBelow}
 use Rattle.literal.specs.Literals.{twin}
 use Rattle.literal.specs.Assignments.{Assignment}
-use Rattle.walk.specs.Walk.{arrive, leave, edge, edges, enters, startWalk, stampAll}
+use Rattle.walk.specs.Walk.{arrive, leave, edge, edges, enters, startWalk, stampAll, Lists}
 use Rattle.implications.specs.Edges.{outs}
 use Rattle.implications.specs.Clauses.{froms, tos}
-use Rattle.scc.specs.Groups.{Lists, cyclic}
+use Rattle.scc.specs.Groups.{cyclic}
 use Rattle.stamp.specs.Stamp.{stampsOf}
 use Rattle.stamp.proofs.Freshness.{stamps-stamped}
 use Rattle.sound.specs.Formula.{literalsIn, Models, graph, formulaStamps}

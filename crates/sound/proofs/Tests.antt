@@ -11,7 +11,7 @@ use Rattle.base.proofs.Booleans.{and-left, and-right, bool-or, clash}
 use Rattle.base.proofs.Lists.{any-in, any-out}
 use Rattle.base.proofs.Searches.{anyBelow-in}
 use Rattle.implications.specs.Clauses.{Once, empty, more}
-use Rattle.scc.specs.Groups.{Lists}
+use Rattle.walk.specs.Walk.{Lists}
 use Rattle.sound.specs.Formula.{Clause, standing, literalsIn}
 use Rattle.sound.specs.Kept.{Shaped}
 

@@ -9,7 +9,8 @@ use mathlib.Core.Bool.{false}
 use mathlib.Core.Logic.{_↔_}
 use mathlib.Core.List.{List, map}
 use Rattle.literal.specs.Assignments.{Assignment}
-use Rattle.scc.specs.Groups.{Lists, cyclic}
+use Rattle.scc.specs.Groups.{cyclic}
+use Rattle.walk.specs.Walk.{Lists}
 use Rattle.stamp.proofs.Freshness.{stamps-sized, stamps-stamped}
 use Rattle.sound.specs.Formula.{Clause, literalsIn, Models, graph, formulaStamps}
 use Rattle.sound.specs.Sweep.{sweepFirst}

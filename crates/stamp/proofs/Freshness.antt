@@ -18,12 +18,12 @@ use Rattle.base.proofs.Lists.{getD-any, mem-filter}
 use Rattle.literal.specs.Literals.{slotOf, litAt}
 use Rattle.stamps.specs.Fresh.{discoveryIn, finishIn, parentIn, startIn, Times, FreshStamps}
 use Rattle.stamps.proofs.Local.{Around, Under, Entered, Left, fresh-from}
-use Rattle.walk.specs.Walk.{Stamps, edges, startWalk, stampAll}
+use Rattle.walk.specs.Walk.{Stamps, edges, startWalk, stampAll, Lists}
 use Rattle.walk.specs.Forest.{discoveryAt, finishAt, parentAt, startAt, Holds, Parted, Forest, Top}
 use Rattle.walk.proofs.Run.{Less, less-trans, edges-less, enters-less}
 use Rattle.walk.proofs.Theorems.{Stamped, stamp-theorem, times-apart, entered-below, links-below}
 use Rattle.implications.specs.Clauses.{tos, implications}
-use Rattle.scc.specs.Groups.{blank, Lists}
+use Rattle.scc.specs.Groups.{blank}
 use Rattle.scc.proofs.Forward.{edge-below}
 use Rattle.tables.specs.Tables.{Tables}
 use Rattle.tables.specs.Clauses.{slotsFrom}

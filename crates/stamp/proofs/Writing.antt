@@ -9,9 +9,9 @@ use Rattle.base.specs.Lists.{absent, interleave}
 use Rattle.base.proofs.Lists.{take-zeros, front-zeros}
 use Rattle.literal.specs.Literals.{slotOf, litAt}
 use Rattle.literal.proofs.Laws.{slot-below}
-use Rattle.walk.specs.Walk.{Stamps, stampAll}
+use Rattle.walk.specs.Walk.{Stamps, stampAll, Lists}
 use Rattle.implications.specs.Clauses.{tos, implications}
-use Rattle.scc.specs.Groups.{blank, Lists}
+use Rattle.scc.specs.Groups.{blank}
 use Rattle.tables.specs.Tables.{tables}
 use Rattle.tables.specs.Clauses.{slotsFrom}
 use Rattle.table_graph.proofs.Listing.{mem-map}

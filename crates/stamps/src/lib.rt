@@ -1,14 +1,11 @@
-// Fresh stamps: a check in linear time of the rule that specs/Fresh.antt states; and the stamps of a slot.
+// Fresh stamps: a check in linear time of the rule that specs/Fresh.antt states.
 ghost use mathlib.Core.Path.{_≡_};
 ghost use mathlib.Core.Bool.{true, false};
-ghost use mathlib.Core.List.{List, []};
+ghost use mathlib.Core.List.{List};
 ghost use Prim.Native.Nat.{ℕ, _+_, _*_, _≤_, _<_};
 ghost use lib.ListN.{length, replicate};
 ghost use Rattle.base.specs.Decide.{Decides};
 ghost use Rattle.stamps.specs.Fresh.{Times, FreshStamps};
-ghost use Rattle.walk.specs.Forest.{discoveryAt, finishAt, parentAt};
-ghost use Rattle.stamps.specs.Columns.{columns};
-ghost use Rattle.stamps.specs.Slots.{Child};
 ghost use Rattle.stamps.specs.Index.{Indexed, Filled, orElse};
 
 // The literal a, or b where a is none, which is 0.
@@ -100,30 +97,4 @@ pub fn stamps_ok(times: &[u32], links: &[i32], v: u32) -> bool
     let n = 4 * v as usize;
     let mut index = [0u32; 4096];
     stamps_by(times, links, v, &mut index[..n])
-}
-
-// ---- the stamps of a slot
-
-// When slot s is discovered.
-pub fn discovery(times: &[u32], s: u32) -> u32
-    requires { ⌜ 2 * s + 1 < length (now times) ⌝ }
-    ensures { λ r. ⌜ r ≡ discoveryAt (columns (now (times .entry)) []) s ⌝ }
-{
-    times[2 * s as usize]
-}
-
-// When slot s is finished.
-pub fn finish(times: &[u32], s: u32) -> u32
-    requires { ⌜ 2 * s + 1 < length (now times) ⌝ }
-    ensures { λ r. ⌜ r ≡ finishAt (columns (now (times .entry)) []) s ⌝ }
-{
-    times[2 * s as usize + 1]
-}
-
-// The slot of the parent of slot s.
-pub fn parent(links: &[i32], s: u32) -> u32
-    requires { ⌜ Child (now links) s ⌝ }
-    ensures { λ r. ⌜ r ≡ parentAt (columns [] (now (links .entry))) s ⌝ }
-{
-    literal::slot_of(links[2 * s as usize]) as u32
 }

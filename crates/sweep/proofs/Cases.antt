@@ -5,7 +5,7 @@ use lib.IntN.{pos, negsuc}
 use Rattle.base.specs.Lists.{any, filter, evens, odds}
 use Rattle.literal.specs.Literals.{twin}
 use Rattle.walk.specs.Walk.{Stamps}
-use Rattle.stamps.specs.Columns.{columns}
+use Rattle.stamp_columns.specs.Columns.{columns}
 use Rattle.hidden.specs.Hidden.{holds, insert, byDiscovery, passes, scanAt, scan, hiddenTautology, unhidden, shorten}
 use Rattle.tables.specs.Fates.{kept, left, dropped}
 use Rattle.sweep.specs.Sweep.{sweepClause}

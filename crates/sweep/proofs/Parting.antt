@@ -8,7 +8,7 @@ use lib.ListN.{length, take, replicate}
 use lib.IntN.{ℤ, pos}
 use Rattle.literal.specs.Literals.{slotOf, twin}
 use Rattle.walk.specs.Walk.{Stamps}
-use Rattle.stamps.specs.Columns.{columns}
+use Rattle.stamp_columns.specs.Columns.{columns}
 use Rattle.tables.specs.Fates.{Fate, kept, left, dropped}
 use Rattle.hidden.specs.Hidden.{holds, hiddenTautology, unhidden, shorten}
 use Rattle.visits.specs.Formed.{FitClause}

@@ -13,7 +13,7 @@ ghost use mathlib.Core.List.{List};
 ghost use Prim.Native.Nat.{ℕ, _+_, _≤_};
 ghost use lib.ListN.{length};
 ghost use lib.IntN.{ℤ};
-ghost use Rattle.stamps.specs.Columns.{columns};
+ghost use Rattle.stamp_columns.specs.Columns.{columns};
 ghost use Rattle.tables.specs.Lent.{lent, returned, unlent};
 ghost use Rattle.tables.specs.Calls.{after};
 ghost use Rattle.tables.specs.Fates.{visits};

@@ -15,7 +15,8 @@ use Rattle.implications.specs.Edges.{Built}
 use Rattle.implications.specs.Clauses.{froms, tos, implications}
 use Rattle.implications.proofs.Csr.{built-adj, built-graph}
 use Rattle.implications.proofs.Implications.{implications-skew, built-skew, tos-mem}
-use Rattle.scc.specs.Groups.{leastMutual, Mirrored}
+use Rattle.scc.specs.Groups.{leastMutual}
+use Rattle.scc.specs.Steps.{Mirrored}
 use Rattle.scc.proofs.Least.{least-mutual, representative-is}
 use Rattle.tables.specs.Clauses.{slotsFrom}
 use Rattle.table_graph.specs.Pairs.{Listed, Room}

@@ -18,8 +18,8 @@ use Rattle.tables.specs.Fates.{Fate, visits}
 use Rattle.tables.specs.Calls.{After, answered}
 
 -- the call that has made m visits and stands before clause k, of n: `pass` gives the pass with its cursor, and stamps stay fresh while it is open or when it is done as the two bools say
-abbrev pub reached : (ℕ → Pass) → Bool → Bool → ℕ → ℕ → List ℕ → Tables → State → After
-reached pass freshOpen freshDone m k before t st =
+abbrev pub stoppedAt : (ℕ → Pass) → Bool → Bool → ℕ → ℕ → List ℕ → Tables → State → After
+stoppedAt pass freshOpen freshDone m k before t st =
     elim (ltb k (st .n)) [
       | true ↦ answered (Open (gone m (st .n) before (t .clauses))) (opened (pass k) freshOpen st) t
       | false ↦ answered (Done (gone m (st .n) before (t .clauses))) (closed freshDone st) t
@@ -28,7 +28,7 @@ reached pass freshOpen freshDone m k before t st =
 -- `steps` visits by a rule from clause k on, or as many as are left
 unfoldable pub advance : (List ℤ → Fate) → (ℕ → Pass) → Bool → Bool → ℕ → ℕ → Tables → State → After
 advance rule pass freshOpen freshDone steps k t st =
-    reached pass freshOpen freshDone (min steps (st .n - k)) (k + min steps (st .n - k)) (t .clauses) (visits rule (min steps (st .n - k)) k t) st
+    stoppedAt pass freshOpen freshDone (min steps (st .n - k)) (k + min steps (st .n - k)) (t .clauses) (visits rule (min steps (st .n - k)) k t) st
 
 -- ---- refusal 6: "first standing clause of one literal, or with a valued variable"
 

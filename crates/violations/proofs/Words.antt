@@ -11,7 +11,7 @@ use Rattle.base.proofs.Booleans.{and-left, and-right}
 use borrow.Author.Tests.{lt-ltb, ltb-true, ltb-false, leb-true, leb-false}
 use Rattle.dimacs.specs.Words.{Word}
 use Rattle.dimacs.specs.Tokens.{Meaning, bad, nought, literal, meaning}
-use Rattle.dimacs.specs.Text.{left, judge, judgeEnd}
+use Rattle.dimacs.specs.Text.{budget, judge, judgeEnd}
 use Rattle.dimacs.specs.declared.Verdict.{Verdict}
 use Rattle.dimacs.specs.declared.Verdict.the-variants.{Refused}
 use Rattle.state.specs.Answers.{refusalNumber, refusalPlace}
@@ -105,7 +105,7 @@ pub data Judged (Violated : ℕ → ℕ → Type 0) (past x : Verdict) : Type 0 
 
 -- what the words ws leave of n clauses and `most` literals
 abbrev pub pastWords : ℕ → ℕ → Bool → List Word → ℕ → Verdict → Verdict
-pastWords n most begun ws end ok = judgeEnd (left (n - noughts ws) (most - literals ws) (begunAfter begun ws)) end ok
+pastWords n most begun ws end ok = judgeEnd (budget (n - noughts ws) (most - literals ws) (begunAfter begun ws)) end ok
 
 -- a word of grammar 2 wins over all that follows
 module _ (v n most from end : ℕ) (w : Word) (ws : List Word) (rising : Rising from end (w ∷ ws)) where
@@ -172,8 +172,8 @@ module _ (v n most end : ℕ) (begun : Bool) (w : Word) (ws : List Word) (ok : V
       let q : n - 1 - noughts ws ≡ n - suc (noughts ws) = omega arith in
       rw (m, noughts, literals, begunAfter, q)
 
-  judged-nought : Judged (WordViolation v (n - 1) most ws) (pastWords (n - 1) most false ws end ok) (judge v (left (n - 1) most false) ws end ok)
-      → Judged (WordViolation v n most (w ∷ ws)) (pastWords n most begun (w ∷ ws) end ok) (judge v (left n most begun) (w ∷ ws) end ok)
+  judged-nought : Judged (WordViolation v (n - 1) most ws) (pastWords (n - 1) most false ws end ok) (judge v (budget (n - 1) most false) ws end ok)
+      → Judged (WordViolation v n most (w ∷ ws)) (pastWords n most begun (w ∷ ws) end ok) (judge v (budget n most begun) (w ∷ ws) end ok)
   unfolding judge noughts literals
   judged-nought a =
       let c : noughts (w ∷ []) ≡ 1 = rw (m, noughts) in
@@ -181,7 +181,7 @@ module _ (v n most end : ℕ) (begun : Bool) (w : Word) (ws : List Word) (ok : V
       let en : n ≡ noughts (w ∷ []) + (n - 1) = omega arith in
       let em : most ≡ literals (w ∷ []) + most = omega arith in
       judged-more v n most (n - 1) most w ws en em (passed-nought en em) (pastWords n most begun (w ∷ ws) end ok) (pastWords (n - 1) most false ws end ok)
-      (judge v (left n most begun) (w ∷ ws) end ok) (judge v (left (n - 1) most false) ws end ok) (rw (m, judge, lt-ltb 0 n some)) past-nought a
+      (judge v (budget n most begun) (w ∷ ws) end ok) (judge v (budget (n - 1) most false) ws end ok) (rw (m, judge, lt-ltb 0 n some)) past-nought a
 
 -- a literal that fits
 module _ (v n most end : ℕ) (begun : Bool) (w : Word) (ws : List Word) (ok : Verdict) (c : Bool) (k : ℕ) (m : meaning (w .bytes) ≡ literal c k) where
@@ -200,8 +200,8 @@ module _ (v n most end : ℕ) (begun : Bool) (w : Word) (ws : List Word) (ok : V
       rw (m, noughts, literals, begunAfter, q)
 
   judged-literal : (ltb 0 n && (leb k v && ltb 0 most)) ≡ true
-      → Judged (WordViolation v n (most - 1) ws) (pastWords n (most - 1) true ws end ok) (judge v (left n (most - 1) true) ws end ok)
-      → Judged (WordViolation v n most (w ∷ ws)) (pastWords n most begun (w ∷ ws) end ok) (judge v (left n most begun) (w ∷ ws) end ok)
+      → Judged (WordViolation v n (most - 1) ws) (pastWords n (most - 1) true ws end ok) (judge v (budget n (most - 1) true) ws end ok)
+      → Judged (WordViolation v n most (w ∷ ws)) (pastWords n most begun (w ∷ ws) end ok) (judge v (budget n most begun) (w ∷ ws) end ok)
   unfolding judge noughts literals
   judged-literal e b =
       let f : (0 < n) × ((k ≤ v) × (0 < most)) = fit v n most k e in
@@ -210,7 +210,7 @@ module _ (v n most end : ℕ) (begun : Bool) (w : Word) (ws : List Word) (ok : V
       let en : n ≡ noughts (w ∷ []) + n = omega arith in
       let em : most ≡ literals (w ∷ []) + (most - 1) = omega (arith, f .1 .1) in
       judged-more v n most n (most - 1) w ws en em (passed-literal f en em) (pastWords n most begun (w ∷ ws) end ok) (pastWords n (most - 1) true ws end ok)
-      (judge v (left n most begun) (w ∷ ws) end ok) (judge v (left n (most - 1) true) ws end ok) (rw (m, judge, e)) past-literal b
+      (judge v (budget n most begun) (w ∷ ws) end ok) (judge v (budget n (most - 1) true) ws end ok) (rw (m, judge, e)) past-literal b
 
   -- one that does not
   over : (ltb 0 n && (leb k v && ltb 0 most)) ≡ false → WordViolation v n most (w ∷ ws) 3 (w .at)
@@ -221,7 +221,7 @@ module _ (v n most end : ℕ) (begun : Bool) (w : Word) (ws : List Word) (ok : V
       (unfit v n most k e)
 
 pub judged-words : (v n most from end : ℕ) (begun : Bool) (ws : List Word) (ok : Verdict) → Rising from end ws
-    → Judged (WordViolation v n most ws) (pastWords n most begun ws end ok) (judge v (left n most begun) ws end ok)
+    → Judged (WordViolation v n most ws) (pastWords n most begun ws end ok) (judge v (budget n most begun) ws end ok)
 unfolding judge noughts literals begunAfter Rising
 judged-words v n most from end begun [] ok r =
     let a : n - 0 ≡ n = omega arith in
@@ -231,9 +231,9 @@ judged-words v n most from end begun (w ∷ ws) ok r = go (meaning (w .bytes)) r
     (judged-words v (n - 1) most (suc (w .at)) end false ws ok (r .1 .1)) (judged-words v n (most - 1) (suc (w .at)) end true ws ok (r .1 .1))
   where
     go : (m : Meaning) → meaning (w .bytes) ≡ m → (t : Bool) → ltb 0 n ≡ t
-        → Judged (WordViolation v (n - 1) most ws) (pastWords (n - 1) most false ws end ok) (judge v (left (n - 1) most false) ws end ok)
-        → Judged (WordViolation v n (most - 1) ws) (pastWords n (most - 1) true ws end ok) (judge v (left n (most - 1) true) ws end ok)
-        → Judged (WordViolation v n most (w ∷ ws)) (pastWords n most begun (w ∷ ws) end ok) (judge v (left n most begun) (w ∷ ws) end ok)
+        → Judged (WordViolation v (n - 1) most ws) (pastWords (n - 1) most false ws end ok) (judge v (budget (n - 1) most false) ws end ok)
+        → Judged (WordViolation v n (most - 1) ws) (pastWords n (most - 1) true ws end ok) (judge v (budget n (most - 1) true) ws end ok)
+        → Judged (WordViolation v n most (w ∷ ws)) (pastWords n most begun (w ∷ ws) end ok) (judge v (budget n most begun) (w ∷ ws) end ok)
     go bad m t e a b = stops (Grammar (w .at)) (rw (m, judge)) (wins-bad v n most from end w ws r m)
     go nought m true e a b = judged-nought v n most end begun w ws ok m (ltb-true 0 n e) a
     go nought m false e a b =
@@ -242,6 +242,6 @@ judged-words v n most from end begun (w ∷ ws) ok r = go (meaning (w .bytes)) r
     go (literal c k) m t e a b = lit (ltb 0 n && (leb k v && ltb 0 most)) refl
       where
         lit : (u : Bool) → (ltb 0 n && (leb k v && ltb 0 most)) ≡ u
-            → Judged (WordViolation v n most (w ∷ ws)) (pastWords n most begun (w ∷ ws) end ok) (judge v (left n most begun) (w ∷ ws) end ok)
+            → Judged (WordViolation v n most (w ∷ ws)) (pastWords n most begun (w ∷ ws) end ok) (judge v (budget n most begun) (w ∷ ws) end ok)
         lit true q = judged-literal v n most end begun w ws ok c k m q b
         lit false q = stops (Limit (w .at)) (rw (m, judge, q)) (wins-limit v n most from end w ws r (λ z. let y : _≡_ {A = ℕ} 0 1 = cc in omega arith) (over v n most end begun w ws ok c k m q))

@@ -16,7 +16,7 @@ use Rattle.state.specs.declared.Answer.the-variants.{Open, Done}
 use Rattle.tables.specs.Tables.{Tables}
 use Rattle.tables.specs.Clauses.{gone}
 use Rattle.tables.specs.Fates.{Fate, visits}
-use Rattle.tables.specs.Passes.{reached, advance}
+use Rattle.tables.specs.Passes.{stoppedAt, advance}
 use Rattle.tables.specs.Calls.{After, answered}
 use Rattle.visits.specs.Visited.{standsAt}
 
@@ -54,8 +54,8 @@ module _ (pass : ℕ → Pass) (freshOpen freshDone : Bool) where
     unfolding advance
     advanced m few t′ made counts counted =
         ap (λ (x : Counts). standsAt (pass (k + m)) freshOpen freshDone x (k + m) st t′) counted
-        ∙ ap (λ (u : Tables). reached pass freshOpen freshDone m (k + m) (t .clauses) u st) made
-        ∙ ap (λ (j : ℕ). reached pass freshOpen freshDone j (k + j) (t .clauses) (visits rule j k t) st) few
+        ∙ ap (λ (u : Tables). stoppedAt pass freshOpen freshDone m (k + m) (t .clauses) u st) made
+        ∙ ap (λ (j : ℕ). stoppedAt pass freshOpen freshDone j (k + j) (t .clauses) (visits rule j k t) st) few
 
     -- what holds of the tables after the visits, Open with the cursor and Done, holds of the call
     pub advance-cases : (P : After → Type 0)

@@ -91,7 +91,7 @@ visitAt rule k t = visitBy k (fateAt rule k t) t
 
 -- ---- the call
 
--- a call that has made its visits and stands before clause k: `reached`, by the counts; `pass` is the pass with its cursor
+-- a call that has made its visits and stands before clause k: `stoppedAt`, by the counts; `pass` is the pass with its cursor
 abbrev pub standsAt : Pass → Bool → Bool → Counts → ℕ → State → Tables → After
 standsAt pass freshOpen freshDone counts k st t =
     elim (ltb k (st .n)) [

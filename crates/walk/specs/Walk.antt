@@ -1,7 +1,7 @@
 -- The time-stamping walk (source document 000, figure 1), over any graph: `adj s` is the list of the slots that s has edges to, in order.
 -- Assumes nothing: these are definitions.
-use Prim.Native.Nat.{ℕ, zero, suc, _+_}
-use mathlib.Core.List.{List, [], _∷_}
+use Prim.Native.Nat.{ℕ, zero, suc, _+_, _<_}
+use mathlib.Core.List.{List, [], _∷_, List·Memᴰ}
 use mathlib.Core.Bool.{Bool}
 use lib.ListN.{length, getD, set}
 use Rattle.base.specs.Lists.{filter}
@@ -65,3 +65,8 @@ unfoldable pub stampAll : (ℕ → List ℕ) → (ℕ → Bool) → List ℕ →
 stampAll adj root order σ =
     let visit : ℕ → Stamps → Stamps = startWalk (length (σ .discoveries)) adj in
     edges visit order (edges visit (filter root order) σ)
+
+-- a list of all slots below size, and no others
+pub record Lists (size : ℕ) (order : List ℕ) : Type 0 where
+  pub below : (q : ℕ) → List·Memᴰ q order → q < size
+  pub all : (q : ℕ) → q < size → List·Memᴰ q order

@@ -1,27 +1,22 @@
-/* Measures load_text, the parser of plain.c and memcpy on the same texts of 65,535 bytes, in one run. Before that it compares
-   the two parsers on those texts and on spoilt copies of them: result and tables. */
+/* Measures unhide_load, the parser of plain.c and memcpy on the same texts of 65,535 bytes, in one run. Before that it compares
+   the two parsers on those texts and on spoilt copies of them: result, place and tables. */
 #define _POSIX_C_SOURCE 200809L
 #include "plain.h"
+#include "unhide.h"
 
 #include <stdio.h>
 #include <stdlib.h>
 #include <string.h>
 #include <time.h>
 
-int64_t load_text(const uint8_t *text, size_t length,
-                  uint32_t *clauses, size_t clause_places,
-                  int32_t *literals, size_t literal_places,
-                  int32_t *variables, size_t variable_places,
-                  const uint32_t *times, size_t time_places,
-                  const int32_t *links, size_t link_places);
-
 enum { LENGTH = 65535, SAMPLES = 101, SPOILT = 2000, LIMIT_NS = 1000000 };
 
-/* A place more than stated in each table. */
+/* A place more than stated in each table; and the place of a refusal, 0 where there is none. */
 struct tables {
     uint32_t clauses[CLAUSE_PLACES + 1];
     int32_t literals[MAX_LITERALS + 1];
     int32_t variables[VARIABLE_PLACES + 1];
+    uint64_t place;
 };
 
 static struct tables by_load, by_plain;
@@ -30,19 +25,26 @@ static int32_t links[STAMP_PLACES];
 static uint8_t copy[LENGTH];
 static int failed;
 
+/* V, or the refusal's number, negative. */
 static int64_t run_load(const uint8_t *text, size_t length)
 {
     struct tables *t = &by_load;
-    return load_text(text, length, t->clauses, CLAUSE_PLACES + 1, t->literals, MAX_LITERALS + 1, t->variables,
-                     VARIABLE_PLACES + 1, times, STAMP_PLACES, links, STAMP_PLACES);
+    uint32_t state[7] = {0};
+    uint64_t answer[4] = {0};
+    int64_t result = unhide_load(text, length, t->clauses, CLAUSE_PLACES + 1, t->literals, MAX_LITERALS + 1, t->variables,
+                                 VARIABLE_PLACES + 1, times, STAMP_PLACES, links, STAMP_PLACES, state, 7, answer, 4);
+    t->place = result < 0 ? answer[0] : 0;
+    return result < 0 ? result : (int64_t)state[0];
 }
 
 static int64_t run_plain(const uint8_t *text, size_t length)
 {
     struct tables *t = &by_plain;
-    size_t place;
-    return plain_load(text, length, t->clauses, CLAUSE_PLACES + 1, t->literals, MAX_LITERALS + 1, t->variables,
-                      VARIABLE_PLACES + 1, times, STAMP_PLACES, links, STAMP_PLACES, &place);
+    size_t place = 0;
+    int64_t result = plain_load(text, length, t->clauses, CLAUSE_PLACES + 1, t->literals, MAX_LITERALS + 1, t->variables,
+                                VARIABLE_PLACES + 1, times, STAMP_PLACES, links, STAMP_PLACES, &place);
+    t->place = result < 0 ? place : 0;
+    return result;
 }
 
 static int64_t run_copy(const uint8_t *text, size_t length)
@@ -149,7 +151,7 @@ static void compare(const uint8_t *s, size_t length, const char *kind)
     a = run_load(s, length);
     b = run_plain(s, length);
     if (a != b || memcmp(&by_load, &by_plain, sizeof by_load)) {
-        printf("%s: load gives %lld, the plain parser %lld, and the tables %s\n", kind, (long long)a, (long long)b,
+        printf("%s: load gives %lld, the plain parser %lld, and place and tables %s\n", kind, (long long)a, (long long)b,
                memcmp(&by_load, &by_plain, sizeof by_load) ? "differ" : "agree");
         failed = 1;
     }

@@ -14,7 +14,7 @@ enum {
     STAMP_PLACES = 4 * MAX_VARIABLES
 };
 
-/* Loads a text, as load_text does: V, or the refusal's number, negative, with its place in *place. */
+/* Loads a text, as unhide_load does: V, or the refusal's number, negative, with its place in *place. */
 int64_t plain_load(const uint8_t *text, size_t length,
                    uint32_t *clauses, size_t clause_places,
                    int32_t *literals, size_t literal_places,

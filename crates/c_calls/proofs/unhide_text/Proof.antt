@@ -6,8 +6,7 @@ use mir.Facts.{toZ-ofZ}
 use Rattle.state.specs.Answers.{resultBy}
 use Rattle.write.specs.Write.{AfterWrite}
 use Rattle.simplify.specs.Texts.{resultOf}
-use borrow.Author.Needs.{sfits-of}
-use borrow.Author.Needs.{needs}
+use borrow.Author.Needs.{sfits-of, needs}
 use Rattle.c_calls.proofs.unhide_text.Statement.{statement}
 use Rattle.c_calls.proofs.unhide_text.Tie as tie
 

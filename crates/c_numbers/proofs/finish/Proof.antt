@@ -3,9 +3,8 @@ use native.Mathlib.Omega.{arith}
 use mathlib.Core.Path.{_∙_}
 use mir.Syntax.{w64}
 use mir.Facts.{toZ-ofZ}
-use borrow.Author.Needs.{sfits-of}
+use borrow.Author.Needs.{sfits-of, needs}
 use Rattle.c_numbers.proofs.Calling.{told-refused, told-made}
-use borrow.Author.Needs.{needs}
 use Rattle.c_numbers.proofs.finish.Statement.{statement}
 use Rattle.c_numbers.proofs.finish.Tie as tie
 

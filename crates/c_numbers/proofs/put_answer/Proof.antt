@@ -4,10 +4,9 @@ use native.Mathlib.Omega.{arith}
 use mathlib.Core.Path.{sym, ap, _∙_}
 use mir.Syntax.{w64}
 use mir.Facts.{toZ-ofZ}
-use borrow.Author.Needs.{sfits-of}
+use borrow.Author.Needs.{sfits-of, needs}
 use Rattle.state.specs.Answers.{replyOf, resultBy}
 use Rattle.c_numbers.proofs.Answered.{answer-made, answer-refused}
-use borrow.Author.Needs.{needs}
 use Rattle.c_numbers.proofs.put_answer.Statement.{statement}
 use Rattle.c_numbers.proofs.put_answer.Tie as tie
 

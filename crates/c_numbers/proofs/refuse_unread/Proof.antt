@@ -3,9 +3,8 @@ use native.Mathlib.Omega.{arith}
 use mathlib.Core.Path.{refl, _∙_}
 use mir.Syntax.{w64}
 use mir.Facts.{toZ-ofZ}
-use borrow.Author.Needs.{sfits-of}
+use borrow.Author.Needs.{sfits-of, needs}
 use Rattle.c_numbers.proofs.Answered.{short-stays, long-told}
-use borrow.Author.Needs.{needs}
 use Rattle.c_numbers.proofs.refuse_unread.Statement.{statement}
 use Rattle.c_numbers.proofs.refuse_unread.Tie as tie
 

@@ -3,14 +3,14 @@ use native.Mathlib.Omega.{arith}
 use mathlib.Core.Path.{sym, _∙_}
 use borrow.Author.Tests.{not-true, not-false}
 use Rattle.walk.specs.Forest.{discoveryAt}
-use Rattle.stamps.specs.Columns.{columns}
+use Rattle.stamp_columns.specs.Columns.{columns}
 use Rattle.failed.proofs.Climbing.{Climbing, climbing-none, climbing-timed, climbing-twin, climbing-child, Onward, climbing-on, climbing-ends}
 use Rattle.failed.proofs.climb.Statement.{statement}
 use Rattle.failed.proofs.climb.Tie as tie
 use Rattle.failed.proofs.climb.Reads as reads
 use Rattle.failed.proofs.climb.Lts as lts
 use Rattle.failed.proofs.holds.Reads as holds-reads
-use Rattle.stamps.proofs.parent.Reads as parent-reads
+use Rattle.stamp_columns.proofs.parent.Reads as parent-reads
 use Rattle.literal.proofs.twin_of.Reads as twin-of-reads
 
 abbrev Inv-loop : tie.InvT-loop

@@ -8,13 +8,12 @@ use mir.Val.{ofZ, toZ}
 use mir.Facts.{toZ-ofZ}
 use lib.IntN.{ℤ}
 use Rattle.literal.specs.Literals.{litAt, twin}
-use borrow.Author.Needs.{sfits-of}
+use borrow.Author.Needs.{sfits-of, needs}
 use borrow.Author.Tests.{not-true, not-false}
-use Rattle.stamps.specs.Columns.{columns}
+use Rattle.stamp_columns.specs.Columns.{columns}
 use Rattle.hidden.specs.Failed.{sameStart}
 use Rattle.failed.specs.Failed.{assert}
 use Rattle.failed.proofs.Failing.{able-rooted, able-twin, able-shared, failed-small, complement-small, complement-known, at-apart, at-failed}
-use borrow.Author.Needs.{needs}
 use Rattle.failed.proofs.fail_variable.Statement.{statement}
 use Rattle.failed.proofs.fail_variable.Tie as tie
 use Rattle.failed.proofs.fail_variable.Reads as reads

@@ -1,13 +1,13 @@
 -- `failed::holds` meets its contract. Assumes nothing.
-use Rattle.stamps.specs.Columns.{columns}
+use Rattle.stamp_columns.specs.Columns.{columns}
 use Rattle.failed.proofs.Climbing.{begins-later, begins-first}
 use borrow.Author.Needs.{needs}
 use Rattle.failed.proofs.holds.Statement.{statement}
 use Rattle.failed.proofs.holds.Tie as tie
 use Rattle.failed.proofs.holds.Reads as reads
 use Rattle.failed.proofs.holds.Lts as lts
-use Rattle.stamps.proofs.discovery.Reads as discovery-reads
-use Rattle.stamps.proofs.finish.Reads as finish-reads
+use Rattle.stamp_columns.proofs.discovery.Reads as discovery-reads
+use Rattle.stamp_columns.proofs.finish.Reads as finish-reads
 
 discovery-requires : tie.Need-discovery-requires
 discovery-requires c κs = search needs

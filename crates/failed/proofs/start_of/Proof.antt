@@ -7,7 +7,7 @@ use Rattle.literal.specs.Literals.{slotOf}
 use Rattle.literal.proofs.Laws.{slot-below}
 use Rattle.literal.proofs.Signed.{read}
 use Rattle.stamps.specs.Fresh.{startIn}
-use Rattle.stamps.proofs.Columns.{column-starts}
+use Rattle.stamp_columns.proofs.Columns.{column-starts}
 use borrow.Author.Needs.{needs}
 use Rattle.failed.proofs.start_of.Statement.{statement}
 use Rattle.failed.proofs.start_of.Tie as tie

@@ -9,7 +9,7 @@ use Rattle.hidden_literals.proofs.has_slot.Statement.{statement}
 use Rattle.hidden_literals.proofs.has_slot.Tie as tie
 use Rattle.hidden_literals.proofs.has_slot.Reads as reads
 use Rattle.hidden_literals.proofs.has_slot.Lts as lts
-use Rattle.stamps.proofs.discovery.Reads as discovery-reads
+use Rattle.stamp_columns.proofs.discovery.Reads as discovery-reads
 
 abbrev Inv-loop : tie.InvT-loop
 Inv-loop slots times s d low₀ high₀ low high = Halving slots s low high

@@ -5,7 +5,7 @@ use Rattle.hidden_literals.proofs.keep_inner.Statement.{statement}
 use Rattle.hidden_literals.proofs.keep_inner.Tie as tie
 use Rattle.hidden_literals.proofs.keep_inner.Reads as reads
 use Rattle.hidden_literals.proofs.keep_inner.Lts as lts
-use Rattle.stamps.proofs.finish.Reads as finish-reads
+use Rattle.stamp_columns.proofs.finish.Reads as finish-reads
 
 abbrev Inv-loop : tie.InvT-loop
 Inv-loop slots₀ times finished₀ n₀ i₀ slots finished n i = Narrowing times slots₀ slots finished n i

@@ -8,7 +8,7 @@ use Rattle.hidden_literals.proofs.keep_outer.Statement.{statement}
 use Rattle.hidden_literals.proofs.keep_outer.Tie as tie
 use Rattle.hidden_literals.proofs.keep_outer.Reads as reads
 use Rattle.hidden_literals.proofs.keep_outer.Lts as lts
-use Rattle.stamps.proofs.finish.Reads as finish-reads
+use Rattle.stamp_columns.proofs.finish.Reads as finish-reads
 
 abbrev Inv-loop : tie.InvT-loop
 Inv-loop slots₀ times finished₀ n₀ i₀ slots finished n i = Widening times slots₀ slots finished n i

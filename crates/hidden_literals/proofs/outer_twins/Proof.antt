@@ -1,7 +1,7 @@
 -- `hidden_literals::outer_twins` meets its contract. Assumes nothing.
 use Rattle.hidden_literals.proofs.Shortened.{inside-small, inside-twins, twins-given}
 use Rattle.discovery_order.proofs.Sorting.{sorted-slots}
-use Rattle.stamps.specs.Slots.{Slots}
+use Rattle.stamp_columns.specs.Slots.{Slots}
 use mathlib.Core.List.{[]}
 use mathlib.Core.Path.{sym, subst}
 use borrow.Author.Needs.{needs}

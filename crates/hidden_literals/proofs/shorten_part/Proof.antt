@@ -2,9 +2,9 @@
 use Rattle.hidden_literals.proofs.Shortening.{outerTwins}
 use Rattle.hidden_literals.proofs.Shortened.{clause-slots, clause-inside, clause-sorted, inner-given, inner-many, inner-few, outer-given, part-given}
 use Rattle.hidden_literals.specs.Stamped.{Inside, Sorted}
-use Rattle.stamps.specs.Columns.{columns}
+use Rattle.stamp_columns.specs.Columns.{columns}
 use Rattle.discovery_order.proofs.Sorting.{rest-part}
-use Rattle.stamps.specs.Slots.{Slots}
+use Rattle.stamp_columns.specs.Slots.{Slots}
 use lib.Seq.{length-take-le}
 use lib.ListN.{length, take, length-append}
 use mathlib.Core.List.{List, [], _++_}

@@ -1,14 +1,14 @@
 -- `hidden_tautologies::passes` meets its contract. Assumes nothing.
 use Rattle.hidden_tautologies.proofs.Scanning.{stamped-child, line7-ends, line7-long, line7-twin, line7-parent}
-use Rattle.stamps.specs.Columns.{columns}
+use Rattle.stamp_columns.specs.Columns.{columns}
 use borrow.Author.Tests.{not-true, not-false}
 use borrow.Author.Needs.{needs}
 use Rattle.hidden_tautologies.proofs.passes.Statement.{statement}
 use Rattle.hidden_tautologies.proofs.passes.Tie as tie
 use Rattle.hidden_tautologies.proofs.passes.Reads as reads
 use Rattle.hidden_tautologies.proofs.passes.Lts as lts
-use Rattle.stamps.proofs.finish.Reads as finish-reads
-use Rattle.stamps.proofs.parent.Reads as parent-reads
+use Rattle.stamp_columns.proofs.finish.Reads as finish-reads
+use Rattle.stamp_columns.proofs.parent.Reads as parent-reads
 use Rattle.literal.proofs.twin_of.Reads as twin-of-reads
 
 finish-requires : tie.Need-finish-requires

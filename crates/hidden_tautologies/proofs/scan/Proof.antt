@@ -4,7 +4,7 @@ use borrow.Author.Tests.{not-true, not-false}
 use mathlib.Core.Path.{sym, _∙_}
 use Rattle.hidden_tautologies.proofs.Scanning.{Scanning, scanning-none, both-two, stamped-time, scanning-empty, scanning-end, scanning-next-pos, scanning-next-neg, scanning-yes}
 use Rattle.hidden_literals.proofs.Loops.{shown-lt, shown-le}
-use Rattle.stamps.specs.Columns.{columns}
+use Rattle.stamp_columns.specs.Columns.{columns}
 use lib.ListN.{length, getD}
 use Prim.Native.Nat.{_+_, _-_}
 use borrow.Author.Needs.{needs}
@@ -13,7 +13,7 @@ use Rattle.hidden_tautologies.proofs.scan.Tie as tie
 use Rattle.hidden_tautologies.proofs.scan.Reads as reads
 use Rattle.hidden_tautologies.proofs.scan.Lts as lts
 use Rattle.hidden_tautologies.proofs.passes.Reads as passes-reads
-use Rattle.stamps.proofs.discovery.Reads as discovery-reads
+use Rattle.stamp_columns.proofs.discovery.Reads as discovery-reads
 
 abbrev Inv-loop : tie.InvT-loop
 Inv-loop times links two pos neg i₀ j₀ i j = Scanning (columns times links) two pos neg i j

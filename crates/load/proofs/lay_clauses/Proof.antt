@@ -9,7 +9,7 @@ use mir.Val.{ofZ, toZ}
 use mir.Facts.{toZ-ofZ}
 use borrow.Author.Needs.{sfits-of, needs}
 use Rattle.dimacs.specs.Tokens.{nought}
-use Rattle.dimacs.specs.Text.{signed}
+use Rattle.dimacs.specs.Text.{literalOf}
 use Rattle.dimacs.proofs.Judge.{Told, told, told-end, told-bad, told-zero, told-literal, Seen, SeenLiteral}
 use Rattle.load.specs.Laid.{work, addLiteral}
 use Rattle.load.proofs.Laying.{Laying, start-laying, not-bad, lit-range, lit-adding, lay-literal, zero-ending, lay-zero, laid-all}
@@ -34,7 +34,7 @@ lit : (c : tie.After-known-told2 Inv-loop μ-loop)
 lit c = told-literal _ _ _ _ _ (here (c .before .before .before)) (c .before .negative .given .1)
 
 -- the literal as it is handed on
-value : (c : tie.After-literal-of Inv-loop μ-loop) → toZ w32 (ofZ w32 (c .literal-of .result)) ≡ signed (c .before .before .before .before .negative .given .0 .0) (c .before .before .before .before .negative .given .0 .1 .0)
+value : (c : tie.After-literal-of Inv-loop μ-loop) → toZ w32 (ofZ w32 (c .literal-of .result)) ≡ literalOf (c .before .before .before .before .negative .given .0 .0) (c .before .before .before .before .negative .given .0 .1 .0)
 value c = toZ-ofZ {w = w32} {z = c .literal-of .result} (sfits-of (c .literal-of .ok)) ∙ c .literal-of .ensures
 
 loop-holds : tie.Need-loop-holds Inv-loop μ-loop

@@ -6,13 +6,12 @@ use lib.ListN.{length, take, drop, getD, length-drop}
 use lib.Seq.{take-all}
 use lib.IntN.{ℤ, pos, negℤ}
 use mir.Facts.{toZ-ofZ}
-use borrow.Author.Needs.{sfits-of}
+use borrow.Author.Needs.{sfits-of, needs}
 use Rattle.literal.specs.Clauses.{has, tautology}
 use mir.Syntax.{w32}
 use mir.Val.{toZ, ofZ}
 use Rattle.literal.proofs.Signed.{read}
 use Rattle.merge.proofs.Scanning.{both-hit, both-miss, both-none}
-use borrow.Author.Needs.{needs}
 use Rattle.merge.proofs.has_both.Statement.{statement}
 use Rattle.merge.proofs.has_both.Tie as tie
 

@@ -4,11 +4,10 @@ use native.Mathlib.Omega.{arith}
 use mathlib.Core.Path.{_∙_}
 use lib.ListN.{length, length-set}
 use mir.Facts.{toZ-ofZ}
-use borrow.Author.Needs.{sfits-of}
+use borrow.Author.Needs.{sfits-of, needs}
 use Rattle.literal.proofs.Signed.{read}
 use Rattle.visits.proofs.Ahead.{ahead-known}
 use Rattle.merge.proofs.Scanning.{Putting, putting-none, putting-next, putting-done}
-use borrow.Author.Needs.{needs}
 use Rattle.merge.proofs.substitute.Statement.{statement}
 use Rattle.merge.proofs.substitute.Tie as tie
 

@@ -3,7 +3,8 @@ use native.Mathlib.Omega.{arith}
 use mathlib.Core.Path.{ap, _∙_}
 use mathlib.Core.Bool.{false}
 use Rattle.tables.specs.Tables.{tables}
-use Rattle.propagate.specs.Propagate.{Progress, propagateFrom}
+use Rattle.propagate.specs.Propagate.{propagateFrom}
+use Rattle.propagate_visits.specs.Visits.{Progress}
 use Rattle.propagate.proofs.Calling.{none-replied, begin-some}
 use borrow.Author.Needs.{needs}
 use Rattle.propagate.proofs.open_pass.Statement.{statement}

@@ -1,7 +1,7 @@
 -- `propagate::propagate_from` meets its contract. Assumes nothing.
 use Rattle.tables.specs.Tables.{tables}
 use Rattle.tables.specs.Calls.{after}
-use Rattle.propagate.specs.Propagate.{going}
+use Rattle.propagate_visits.specs.Visits.{going}
 use Rattle.visits.proofs.Counting.{formed-counted, counts-are}
 use Rattle.propagate.proofs.Answering.{replied-is, reach-counted}
 use borrow.Author.Needs.{needs}

@@ -2,9 +2,10 @@
 use mathlib.Core.Path.{ap, _∙_}
 use mathlib.Core.List.{[]}
 use Rattle.tables.specs.Tables.{Tables, tables, lengthOf}
-use Rattle.propagate.specs.Steps.{standAfter}
+use Rattle.propagate_visits.specs.Steps.{standAfter}
 use Rattle.visits.specs.declared.Visited.{Visited}
-use Rattle.propagate.proofs.Skipping.{contradicted-stand, relisted, advanced-skip, advanced-visit}
+use Rattle.propagate_visits.proofs.Advancing.{contradicted-stand, advanced-visit}
+use Rattle.propagate.proofs.Skipping.{relisted, advanced-skip}
 use borrow.Author.Needs.{needs}
 use Rattle.propagate.proofs.skip_or_visit.Statement.{statement}
 use Rattle.propagate.proofs.skip_or_visit.Tie as tie

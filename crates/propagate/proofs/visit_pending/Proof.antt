@@ -11,7 +11,7 @@ use Rattle.visits.specs.Visited.{visitOf}
 use Rattle.visits.specs.declared.Visited.{Visited}
 use Rattle.visits.specs.declared.Visited.the-variants.{MadeTrue}
 use Rattle.propagate.proofs.Listing.{listed-plain, has-chain-unit, listed-unit}
-use Rattle.propagate.proofs.Stepping.{before-visitable}
+use Rattle.propagate_visits.proofs.Stepping.{before-visitable}
 use borrow.Author.Needs.{needs}
 use Rattle.propagate.proofs.visit_pending.Statement.{statement}
 use Rattle.propagate.proofs.visit_pending.Tie as tie

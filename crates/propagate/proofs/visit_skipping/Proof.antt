@@ -6,11 +6,11 @@ use mathlib.Core.Bool.{Bool}
 use mathlib.Core.Logic.{⊎-elim}
 use lib.ListN.{length}
 use Rattle.propagate.specs.Listed.{Listed}
-use Rattle.propagate.specs.declared.Stand.{Stand}
-use Rattle.propagate.specs.declared.Stand.the-variants.{Going, Settled, Contradicted}
-use Rattle.propagate.proofs.Stepping.{Making, making-none, making-done}
-use Rattle.propagate.proofs.Splitting.{Ended}
-use Rattle.propagate.proofs.Skipping.{advanced-goes, advanced-ends}
+use Rattle.propagate_visits.specs.declared.Stand.{Stand}
+use Rattle.propagate_visits.specs.declared.Stand.the-variants.{Going, Settled, Contradicted}
+use Rattle.propagate_visits.proofs.Stepping.{Making, making-none, making-done}
+use Rattle.propagate_visits.proofs.Splitting.{Ended}
+use Rattle.propagate_visits.proofs.Advancing.{advanced-goes, advanced-ends}
 use borrow.Author.Needs.{needs}
 use Rattle.propagate.proofs.visit_skipping.Statement.{statement}
 use Rattle.propagate.proofs.visit_skipping.Tie as tie

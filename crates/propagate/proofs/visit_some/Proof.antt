@@ -2,10 +2,10 @@
 use native.Mathlib.Omega.{arith}
 use mathlib.Core.Path.{_≡_, refl}
 use mathlib.Core.Logic.{⊎-elim}
-use Rattle.propagate.specs.declared.Stand.{Stand}
-use Rattle.propagate.specs.declared.Stand.the-variants.{Going, Settled, Contradicted}
-use Rattle.propagate.proofs.Splitting.{Ended}
-use Rattle.propagate.proofs.Skipping.{first-few, first-all, first-ended, second-before, second-few, both-parts}
+use Rattle.propagate_visits.specs.declared.Stand.{Stand}
+use Rattle.propagate_visits.specs.declared.Stand.the-variants.{Going, Settled, Contradicted}
+use Rattle.propagate_visits.proofs.Splitting.{Ended}
+use Rattle.propagate_visits.proofs.Advancing.{first-few, first-all, first-ended, second-before, second-few, both-parts}
 use borrow.Author.Needs.{needs}
 use Rattle.propagate.proofs.visit_some.Statement.{statement}
 use Rattle.propagate.proofs.visit_some.Tie as tie

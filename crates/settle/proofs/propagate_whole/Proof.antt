@@ -5,7 +5,8 @@ use native.Mathlib.Omega.{arith}
 use mathlib.Core.Path.{ap, _∙_}
 use Rattle.tables.specs.Tables.{Tables, tables}
 use Rattle.visits.proofs.Counting.{formed-counted}
-use Rattle.propagate.specs.Propagate.{begin, propagateFrom}
+use Rattle.propagate.specs.Propagate.{propagateFrom}
+use Rattle.propagate_visits.specs.Visits.{begin}
 use Rattle.settle.specs.Settle.{between}
 use Rattle.settle.proofs.Room.{literals-few, steps-few}
 use borrow.Author.Needs.{needs}

@@ -1,6 +1,6 @@
 -- `sweep::sweep_from` meets its contract. Assumes nothing.
 use Rattle.state.specs.declared.Pass.the-variants.{Sweep}
-use Rattle.stamps.specs.Columns.{columns}
+use Rattle.stamp_columns.specs.Columns.{columns}
 use Rattle.tables.specs.Tables.{tables}
 use Rattle.visits.proofs.Counting.{formed-counted, counts-are}
 use Rattle.visits.proofs.Advancing.{advanced}

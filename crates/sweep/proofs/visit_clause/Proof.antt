@@ -4,7 +4,7 @@ use native.Mathlib.Omega.{arith}
 use mathlib.Core.Path.{sym, _∙_}
 use lib.ListN.{length}
 use lib.Seq.{length-take-le}
-use Rattle.stamps.specs.Columns.{columns}
+use Rattle.stamp_columns.specs.Columns.{columns}
 use Rattle.tables.specs.Tables.{tables}
 use Rattle.visits.specs.Visited.{Visitable}
 use Rattle.visits.proofs.Composing.{visit-none, shrinks-variables, Bounds, lent-is, visit-is, visitable-placed, visitable-inside, lent-inside, lent-length, lent-short}

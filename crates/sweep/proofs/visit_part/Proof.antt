@@ -1,7 +1,7 @@
 -- `sweep::visit_part` meets its contract. Assumes nothing.
 use Rattle.sweep.proofs.Parting.{part-short, part-dropped, part-left, shorten-shorter}
 use Rattle.hidden_tautologies.proofs.Judging.{judged-clause}
-use Rattle.stamps.specs.Columns.{columns}
+use Rattle.stamp_columns.specs.Columns.{columns}
 use mathlib.Core.List.{[]}
 use mathlib.Core.Path.{sym, _∙_}
 use native.Mathlib.Omega.{arith}

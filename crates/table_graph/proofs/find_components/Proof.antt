@@ -1,7 +1,8 @@
 -- `table_graph::find_components` meets its contract. Assumes nothing.
 use Rattle.table_graph.proofs.Chain.{ready, same-least}
 use Rattle.tables.specs.Clauses.{slotsFrom}
-use Rattle.scc.specs.Groups.{Mirrored, leastMutual}
+use Rattle.scc.specs.Groups.{leastMutual}
+use Rattle.scc.specs.Steps.{Mirrored}
 use Rattle.implications.specs.Clauses.{implications}
 use Rattle.walk.specs.Compressed.{adjOf}
 use lib.Seq.{length-take-le}

@@ -4,12 +4,11 @@ use native.Mathlib.Omega.{arith}
 use mathlib.Core.Path.{_≡_, refl, sym, _∙_}
 use lib.ListN.{length, drop}
 use mir.Facts.{toZ-ofZ}
-use borrow.Author.Needs.{sfits-of}
+use borrow.Author.Needs.{sfits-of, needs}
 use Rattle.base.specs.Lists.{any}
 use Rattle.literal.proofs.Signed.{read}
 use Rattle.tables.specs.Passes.{valued}
 use Rattle.visits.proofs.Searching.{rest-hit, rest-miss, rest-none}
-use borrow.Author.Needs.{needs}
 use Rattle.visits.proofs.any_valued.Statement.{statement}
 use Rattle.visits.proofs.any_valued.Tie as tie
 

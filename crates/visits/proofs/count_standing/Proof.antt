@@ -1,8 +1,7 @@
 -- `visits::count_standing` meets its contract. Assumes nothing.
 use Rattle.tables.specs.Tables.{lengthOf}
-use Prim.Native.Nat.{_≤_, _<_}
+use Prim.Native.Nat.{_≤_, _<_, _-_, _+_}
 -- `visits::count_standing` meets its contract. Assumes nothing.
-use Prim.Native.Nat.{_-_, _+_}
 use native.Mathlib.Omega.{arith}
 use Rattle.visits.proofs.Counting.{Counting, counting-none, counting-dropped, counting-standing, counting-done}
 use borrow.Author.Needs.{needs}

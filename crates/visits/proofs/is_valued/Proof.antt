@@ -5,13 +5,12 @@ use mathlib.Core.Path.{_≡_, ap, _∙_}
 use mathlib.Core.Bool.{not}
 use mir.Syntax.{w32}
 use mir.Facts.{toZ-ofZ, sfits-lit}
-use borrow.Author.Needs.{sfits-of}
+use borrow.Author.Needs.{sfits-of, needs}
 use lib.ListN.{length, getD}
 use lib.IntN.{pos, natAbs}
 use Rattle.literal.specs.Literals.{eqZ}
 use Rattle.literal.proofs.Signed.{eqb-bits}
 use Rattle.visits.proofs.Known.{known-small, known-place, known-above}
-use borrow.Author.Needs.{needs}
 use Rattle.visits.proofs.is_valued.Statement.{statement}
 use Rattle.visits.proofs.is_valued.Tie as tie
 

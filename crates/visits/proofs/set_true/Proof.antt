@@ -3,13 +3,12 @@ use Prim.Native.Nat.{_*_, _-_, _<_}
 use native.Mathlib.Omega.{arith}
 use mathlib.Core.Path.{_≡_}
 use mir.Facts.{toZ-ofZ}
-use borrow.Author.Needs.{sfits-of}
+use borrow.Author.Needs.{sfits-of, needs}
 use lib.ListN.{length}
 use lib.IntN.{natAbs}
 use Rattle.tables.specs.Values.{classLiteral}
 use Rattle.visits.specs.Formed.{Known}
 use Rattle.visits.proofs.Known.{known-class, known-small, known-above, known-place}
-use borrow.Author.Needs.{needs}
 use Rattle.visits.proofs.set_true.Statement.{statement}
 use Rattle.visits.proofs.set_true.Tie as tie
 

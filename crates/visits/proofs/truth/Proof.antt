@@ -1,10 +1,9 @@
 -- `visits::truth` meets its contract. Assumes nothing.
 use mathlib.Core.Path.{_≡_, ap, _∙_}
 use mir.Facts.{toZ-ofZ}
-use borrow.Author.Needs.{sfits-of}
+use borrow.Author.Needs.{sfits-of, needs}
 use Rattle.tables.specs.Values.{classLiteral, ownTruth}
 use Rattle.visits.proofs.Known.{known-class}
-use borrow.Author.Needs.{needs}
 use Rattle.visits.proofs.truth.Statement.{statement}
 use Rattle.visits.proofs.truth.Tie as tie
 
