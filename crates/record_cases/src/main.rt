@@ -2,15 +2,18 @@
 // All records are filled with 7s before, so that those that stayed are seen. The records are passed by value, with the number of them that is lent:
 // only `stamp_lent` and `sweep_lent` make a loan of records, and each of them makes one call.
 ghost use Prim.Native.Nat.{_≤_};
+
+mod words;
+
 use libc::STDOUT_FILENO;
-use reporting::end_line;
-use reporting::print;
-use reporting::print_answer;
-use reporting::print_number;
 use stamp_records::StampRecord;
 use state::Answer;
 use state::Outcome;
 use state::State;
+use words::end_line;
+use words::print;
+use words::print_answer;
+use words::print_number;
 
 // ---- the calls, with the first records lent
 

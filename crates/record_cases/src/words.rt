@@ -1,4 +1,4 @@
-// What the programs of cases print: numbers, refusals and answers in the words of document 01.
+// Numbers, refusals and answers in the words of document 01.
 use libc::STDOUT_FILENO;
 use state::Answer;
 use state::Counts;
