@@ -33,7 +33,8 @@ use Rattle.hidden.specs.Hidden.{holds, insert, byDiscovery, passes, scanAt, sca
 use Rattle.hidden.specs.Failed.{sameStart, holdsBoth, lowest, failedSlot}
 use Rattle.stamp.specs.Stamp.{firstBad, stampsOf, stampedTables, stampAcyclic, stampSettled, stampOrdered, stampCall}
 use Rattle.failed.specs.Failed.{failedAt, failedFrom, failedFresh, failedCall}
-use Rattle.sweep.specs.Sweep.{sweepClause, sweepCall}
+use Rattle.sweep.specs.Sweep.{sweepCall}
+use Rattle.sweep_visits.specs.Clause.{sweepClause}
 use Rattle.settle.specs.Settle.{settleFor, settle}
 use Rattle.round_order.specs.Order.{orderOf}
 use Rattle.run.specs.Run.{follow, round, unchanged, runFrom, runCall}

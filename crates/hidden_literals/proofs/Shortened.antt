@@ -23,24 +23,12 @@ use Rattle.hidden.proofs.Intervals.{Nested, Within}
 use Rattle.hidden.proofs.Sorted.{Rising, sorted-out, sorted-rising}
 use Rattle.stamp_columns.specs.Slots.{Slots}
 use Rattle.discovery_order.proofs.Sorting.{length-sorted}
-use Rattle.hidden_literals.specs.Stamped.{Lits, Sorted, Inside, Clause}
+use Rattle.clause_slots.specs.Stamped.{Inside, Clause}
+use Rattle.clause_slots.proofs.Clause.{clause-literals, clause-within, clause-lits}
+use Rattle.hidden_literals.specs.Sorted.{Sorted}
 use Rattle.hidden_literals.specs.Figures.{least, inner, outer, keptBy}
 use Rattle.hidden_literals.proofs.Hiding.{heldByOne, outer-filter}
 use Rattle.hidden_literals.proofs.Shortening.{innerSlots, outerTwins, inner-mem, twins-below, kept-shortened}
-
--- ---- slots and their complements
-
-module _ {times xs : List ℕ} (I : Inside times xs) where
-  pub inside-small : (k : ℕ) → k < length xs → getD xs k 0 < 65536
-  inside-small k lt = omega (arith, I .each (getD xs k 0) (getD-mem xs k 0 lt), I .few)
-
-  pub inside-twins : Slots times (map twin xs)
-  inside-twins = record {
-    size = 2 * I .vars;
-    few = omega (arith, I .few);
-    room = omega (arith, I .few, I .long);
-    each = λ x m. let r = Memᴰ·of-map twin xs m in subst (λ (y : ℕ). y < 2 * I .vars) (r .2) (twin-below (I .vars) (r .0) (I .each (r .0) (r .1)));
-  }
 
 -- what the three calls have given
 pub twins-given : (times xs t₁ t₂ : List ℕ) {n : ℕ} → t₁ ≡ map twin xs → ((links : List ℤ) → t₂ ≡ byDiscovery (columns times links) t₁)
@@ -93,42 +81,29 @@ module _ {times : List ℕ} {C : List ℤ} (K : Clause times C) where
   abbrev σ : Stamps
   σ = columns times []
 
-  literals : (l : ℤ) → List·Memᴰ l C → Literal (K .vars) l
-  literals = each-mem (Literal (K .vars)) C (pos 0) (K .each)
-
-  pub clause-within : Within (2 * K .vars) (map slotOf C)
-  clause-within s m =
-      let r = Memᴰ·of-map slotOf C m in
-      let L = literals (r .0) (r .1) in
-      let h = subst (λ (x : ℕ). x < 2 * K .vars) (r .2) (slot-below (r .0) (K .vars) (L .above) (L .within)) in
-      (h, twin-below (K .vars) s h)
-
   clause-small : (q : ℕ) → q < 2 * K .vars → finishAt (columns times []) q ≤ 4294967295
   clause-small q lt = omega (arith, K .small q lt)
 
-  pub clause-lits : Lits C
-  clause-lits = record { each = λ k lt. record { above = K .each k lt .above; within = omega (arith, K .each k lt .within, K .few) } }
-
   pub clause-slots : Slots times (byDiscovery σ (map slotOf C))
-  clause-slots = record { size = 2 * K .vars; few = omega (arith, K .few); room = omega (arith, K .few, K .long); each = λ x m. clause-within x (sorted-out σ (map slotOf C) m) .0 }
+  clause-slots = record { size = 2 * K .vars; few = omega (arith, K .few); room = omega (arith, K .few, K .long); each = λ x m. clause-within K x (sorted-out σ (map slotOf C) m) .0 }
 
   pub clause-inside : Inside times (innerSlots σ C)
-  clause-inside = record { vars = K .vars; few = K .few; long = K .long; each = λ x m. clause-within x (inner-mem (2 * K .vars) σ (K .nested) C clause-within clause-small m) .0 }
+  clause-inside = record { vars = K .vars; few = K .few; long = K .long; each = λ x m. clause-within K x (inner-mem (2 * K .vars) σ (K .nested) C (clause-within K) clause-small m) .0 }
 
   pub inner-length : length (innerSlots σ C) ≤ length C
   inner-length = omega (arith, inner-shorter σ (byDiscovery σ (map slotOf C)), length-sorted σ (map slotOf C), length-map C slotOf)
 
   outer-is : outerTwins σ C ≡ filter (λ y. not (heldByOne σ (byDiscovery σ (map twin (innerSlots σ C))) y)) (byDiscovery σ (map twin (innerSlots σ C)))
-  outer-is = outer-filter (2 * K .vars) σ (K .nested) (byDiscovery σ (map twin (innerSlots σ C))) (twins-below (2 * K .vars) σ (K .nested) C clause-within clause-small) (sorted-rising σ (map twin (innerSlots σ C)))
+  outer-is = outer-filter (2 * K .vars) σ (K .nested) (byDiscovery σ (map twin (innerSlots σ C))) (twins-below (2 * K .vars) σ (K .nested) C (clause-within K) clause-small) (sorted-rising σ (map twin (innerSlots σ C)))
 
   outer-below : (x : ℕ) → List·Memᴰ x (outerTwins σ C) → x < 2 * K .vars
-  outer-below x m = twins-below (2 * K .vars) σ (K .nested) C clause-within clause-small x (mem-filter _ (byDiscovery σ (map twin (innerSlots σ C))) (subst (List·Memᴰ x) outer-is m))
+  outer-below x m = twins-below (2 * K .vars) σ (K .nested) C (clause-within K) clause-small x (mem-filter _ (byDiscovery σ (map twin (innerSlots σ C))) (subst (List·Memᴰ x) outer-is m))
 
   pub clause-sorted : Sorted times (outerTwins σ C) C
   clause-sorted = record {
     slots = record { size = 2 * K .vars; few = omega (arith, K .few); room = omega (arith, K .few, K .long); each = outer-below };
     long = K .long;
-    lits = clause-lits;
+    lits = clause-lits K;
     searched = λ k lt. record {
       rises = rising-at σ (outerTwins σ C) (subst (Rising σ) (sym outer-is) (filter-rising σ _ (byDiscovery σ (map twin (innerSlots σ C))) (sorted-rising σ (map twin (innerSlots σ C)))));
       alone = λ j lj e. same-discovery (2 * K .vars) σ (K .nested) (getD (outerTwins σ C) j 0) (slotOf (negℤ (getD C k (pos 0)))) (outer-below (getD (outerTwins σ C) j 0) (getD-mem (outerTwins σ C) j 0 lj)) (complement k lt) e;
@@ -141,7 +116,7 @@ module _ {times : List ℕ} {C : List ℤ} (K : Clause times C) where
           subst (λ (x : ℕ). x < 2 * K .vars) (sym (slot-twin (getD C k (pos 0)) (L .above))) (twin-below (K .vars) (slotOf (getD C k (pos 0))) (slot-below (getD C k (pos 0)) (K .vars) (L .above) (L .within)))
 
   pub clause-shortened : keptBy (outerTwins σ C) C ≡ shorten slotOf σ C
-  clause-shortened = kept-shortened (2 * K .vars) σ (K .nested) C clause-within clause-small (λ l m. literals l m .above)
+  clause-shortened = kept-shortened (2 * K .vars) σ (K .nested) C (clause-within K) clause-small (λ l m. clause-literals K l m .above)
 
 -- ---- what the calls of `shorten_part` have given
 

@@ -1,2 +1,2 @@
-pub mod Stamped
+pub mod Sorted
 pub mod Figures

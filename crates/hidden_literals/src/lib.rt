@@ -7,38 +7,10 @@ ghost use lib.IntN.{ℤ, pos};
 ghost use Rattle.literal.specs.Literals.{slotOf, twin};
 ghost use Rattle.stamp_columns.specs.Columns.{columns};
 ghost use Rattle.hidden.specs.Hidden.{byDiscovery, shorten};
-ghost use Rattle.hidden_literals.specs.Stamped.{Searched, Lits, Sorted, Inside, Clause};
+ghost use Rattle.clause_slots.specs.Stamped.{Inside, Clause};
+ghost use Rattle.hidden_literals.specs.Sorted.{Searched, Sorted};
 ghost use Rattle.hidden_literals.specs.Figures.{inner, outer, among, keptBy};
 ghost use Rattle.stamp_columns.specs.Slots.{Slots};
-
-// ---- the slots of a clause
-
-// The slots of the literals of a part.
-pub fn slots_of(part: &[i32], out: &mut [u32])
-    requires { ⌜ Lits (now part) × (length (now out) ≡ length (now part)) ⌝ }
-    ensures { λ _. ⌜ now (out .exit) ≡ map slotOf (now (part .entry)) ⌝ }
-{
-    let mut i = 0;
-    while i < part.len() {
-        let l = part[i];
-        out[i] = literal::slot_of(l) as u32;
-        i += 1;
-    }
-}
-
-// The slots of the complements.
-pub fn twins_of(slots: &[u32], out: &mut [u32])
-    requires { ⌜ ((k : ℕ) → k < length (now slots) → getD (now slots) k 0 < 65536) × (length (now out) ≡ length (now slots)) ⌝ }
-    ensures { λ _. ⌜ now (out .exit) ≡ map twin (now (slots .entry)) ⌝ }
-{
-    let mut i = 0;
-    while i < slots.len() {
-        out[i] = literal::twin_of(slots[i]);
-        i += 1;
-    }
-}
-
-// ---- figure 5
 
 // Lines 1 to 4, over slots by rising discovery, from the last to the first: one that ends after a later one holds it and goes. What stays moves to the end; returns where it starts.
 fn keep_inner(slots: &mut [u32], times: &[u32]) -> usize
@@ -131,7 +103,7 @@ fn outer_twins(slots: &[u32], twins: &mut [u32], times: &[u32]) -> usize
     requires { ⌜ Inside (now times) (now slots) × (length (now twins) ≡ length (now slots)) ⌝ }
     ensures { λ r. ⌜ (r ≤ length (now (slots .entry))) × (take r (now (twins .exit)) ≡ outer (columns (now (times .entry)) []) 0 (byDiscovery (columns (now (times .entry)) []) (map twin (now (slots .entry))))) ⌝ }
 {
-    twins_of(slots, twins);
+    clause_slots::twins_of(slots, twins);
     discovery_order::sort_slots(twins, times);
     keep_outer(twins, times)
 }

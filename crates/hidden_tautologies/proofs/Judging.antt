@@ -15,9 +15,9 @@ use Rattle.stamp_columns.proofs.Columns.{column-finishes}
 use Rattle.hidden.proofs.FreshColumns.{fresh-nested}
 use Rattle.hidden.proofs.Sorted.{sorted-out}
 use Rattle.stamp_columns.specs.Slots.{Slots}
-use Rattle.hidden_literals.specs.Stamped.{Lits, Inside, Clause}
+use Rattle.clause_slots.specs.Stamped.{Lits, Inside, Clause}
 use Rattle.hidden_tautologies.specs.Judged.{Both, Judged}
-use Rattle.hidden_literals.proofs.Shortened.{inside-small, inside-twins, clause-within, clause-lits}
+use Rattle.clause_slots.proofs.Clause.{inside-small, inside-twins, clause-within, clause-lits}
 
 module _ {times : List ℕ} {links C : List ℤ} (J : Judged times links C) where
   -- only the times count for the intervals

@@ -14,8 +14,8 @@ use Rattle.walk.specs.Walk.{Stamps}
 use Rattle.walk.specs.Forest.{discoveryAt, finishAt, parentAt}
 use Rattle.hidden.specs.Hidden.{passes, scanAt, scan}
 use Rattle.stamp_columns.specs.Slots.{Child}
-use Rattle.hidden_literals.proofs.Loops.{shown-lt, shown-le}
-use Rattle.hidden_literals.specs.Stamped.{Stamped}
+use Rattle.clause_slots.proofs.Mapping.{shown-lt, shown-le}
+use Rattle.clause_slots.specs.Stamped.{Stamped}
 use Rattle.hidden_tautologies.specs.Judged.{Two, Both}
 
 -- ---- what has stamps can be read

@@ -4,7 +4,7 @@ use mathlib.Core.List.{List, List·Memᴰ}
 use lib.ListN.{length, getD}
 use lib.IntN.{ℤ, pos}
 use Rattle.literal.specs.Literals.{Literal}
-use Rattle.hidden_literals.specs.Stamped.{Stamped}
+use Rattle.clause_slots.specs.Stamped.{Stamped}
 
 -- two slots that have stamps
 pub record Two (times : List ℕ) (links : List ℤ) (a b : ℕ) : Type 0 where

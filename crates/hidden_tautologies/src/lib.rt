@@ -63,8 +63,8 @@ pub fn hidden_tautology(
     requires { ⌜ Judged (now times) (now links) (now part) × (length (now slots) ≡ length (now part)) × (length (now twins) ≡ length (now part)) ⌝ }
     ensures { λ r. ⌜ (r ≡ hiddenTautology (columns (now (times .entry)) (now (links .entry))) (map slotOf (now (part .entry)))) × (now (slots .exit) ≡ byDiscovery (columns (now (times .entry)) []) (map slotOf (now (part .entry)))) ⌝ }
 {
-    hidden_literals::slots_of(part, slots);
-    hidden_literals::twins_of(slots, twins);
+    clause_slots::slots_of(part, slots);
+    clause_slots::twins_of(slots, twins);
     discovery_order::sort_slots(slots, times);
     discovery_order::sort_slots(twins, times);
     scan(times, links, part.len() == 2, slots, twins)

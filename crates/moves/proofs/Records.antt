@@ -27,7 +27,7 @@ use Rattle.tables.specs.Tables.{Tables}
 use Rattle.tables.specs.Fates.{Fate, kept, left, unit, conflict}
 use Rattle.tables.specs.Fates as fates
 use Rattle.stamp.specs.Stamp.{stampedTables}
-use Rattle.sweep.specs.Sweep.{sweepClause}
+use Rattle.sweep_visits.specs.Clause.{sweepClause}
 use Rattle.sound.specs.Formula.{Clause, dropped, standing}
 use Rattle.sound.specs.Sweep.{judge, sweepSlots}
 

@@ -14,7 +14,7 @@ use Rattle.hidden.specs.Hidden.{holds, insert, byDiscovery, passes, scanAt, sca
 use Rattle.tables.specs.Tables.{Tables, tables}
 use Rattle.tables.specs.Fates.{left, dropped}
 use Rattle.stamp.specs.Stamp.{stampsOf, stampedTables}
-use Rattle.sweep.specs.Sweep.{sweepClause}
+use Rattle.sweep_visits.specs.Clause.{sweepClause}
 use Rattle.paper.specs.Records.{discovered, finished, parent, Holds, Ancestor, self, up}
 use Rattle.paper.specs.Sweeping.{HiddenPair}
 

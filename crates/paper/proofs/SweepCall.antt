@@ -19,8 +19,9 @@ use Rattle.entry.proofs.Entering.{Entered, opens-entered, resumes-entered}
 use Rattle.visits.proofs.Entered.{NoMerge, entered-formed, entered-cursor}
 use Rattle.visits.proofs.Visiting.{visits-beside}
 use Rattle.visits.proofs.Advancing.{advance-cases}
-use Rattle.sweep.specs.Sweep.{sweepClause, sweepFrom, unlessStale, sweepBy, sweepCall}
-use Rattle.sweep.proofs.Visiting.{sweep-shrinks}
+use Rattle.sweep.specs.Sweep.{sweepFrom, unlessStale, sweepBy, sweepCall}
+use Rattle.sweep_visits.specs.Clause.{sweepClause}
+use Rattle.sweep_visits.proofs.Visiting.{sweep-shrinks}
 use Rattle.paper.specs.Sweeping.{sweptFrom, SweptCall}
 use Rattle.paper.proofs.Accepted.{refusal-above}
 use Rattle.paper.proofs.Visits.{visits-others, visits-swept}

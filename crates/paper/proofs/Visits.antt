@@ -23,9 +23,9 @@ use Rattle.visits.proofs.Forming.{clause-fits, part-length, record-inside, reco
 use Rattle.visits.proofs.Stores.{recorded, recorded-here, recorded-other, storedAt, stored-view, stored-other}
 use Rattle.visits.proofs.StoreKeeps.{FormedIn}
 use Rattle.visits.proofs.Visiting.{visit-dropped, visit-standing}
-use Rattle.sweep.specs.Sweep.{sweepClause}
-use Rattle.sweep.proofs.Parting.{fate-short, fate-hidden, fate-left, shorten-shorter}
-use Rattle.sweep.proofs.VisitKeeps.{formed-visit}
+use Rattle.sweep_visits.specs.Clause.{sweepClause}
+use Rattle.sweep_visits.proofs.Parting.{fate-short, fate-hidden, fate-left, shorten-shorter}
+use Rattle.sweep_visits.proofs.VisitKeeps.{formed-visit}
 use Rattle.paper.specs.Clauses.{clauseAt, flagAt}
 use Rattle.paper.specs.Sweeping.{HiddenPair, Shortened, SweptAs}
 use Rattle.paper.proofs.Fates.{long-exact, shortened-exact, shortened-printed, pair-hidden}

@@ -14,7 +14,7 @@ use Rattle.state.specs.declared.Pass.{Pass}
 use Rattle.state.specs.declared.Pass.the-variants.{Idle, Propagate, Merge, Sweep}
 use Rattle.tables.specs.Tables.{Tables}
 use Rattle.tables.specs.Fates.{visit}
-use Rattle.sweep.specs.Sweep.{sweepClause}
+use Rattle.sweep_visits.specs.Clause.{sweepClause}
 use Rattle.paper.specs.Clauses.{clauseAt, flagAt}
 use Rattle.paper.specs.Records.{discovered, parent, Holds}
 

@@ -37,9 +37,10 @@ use Rattle.merge.proofs.Visiting.{merge-shrinks}
 use Rattle.merge.proofs.Calling.{open-cases, settled-cases}
 use Rattle.failed.specs.Failed.{failedFresh, failedBy, failedCall}
 use Rattle.failed.specs.Failed as failing
-use Rattle.sweep.specs.Sweep.{sweepClause, sweepBy, sweepCall}
+use Rattle.sweep.specs.Sweep.{sweepBy, sweepCall}
+use Rattle.sweep_visits.specs.Clause.{sweepClause}
 use Rattle.sweep.specs.Sweep as sweeping
-use Rattle.sweep.proofs.Visiting.{sweep-shrinks}
+use Rattle.sweep_visits.proofs.Visiting.{sweep-shrinks}
 
 abbrev pub Reads : Tables → After → Type 0
 Reads t a = SameStamps t (a .tables)

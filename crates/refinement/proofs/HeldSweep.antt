@@ -29,9 +29,10 @@ use Rattle.visits.proofs.Entered.{NoMerge, entered-formed, entered-cursor}
 use Rattle.visits.proofs.Visiting.{SameStamps, visits-beside}
 use Rattle.visits.proofs.StoreKeeps.{formed-shape-as}
 use Rattle.visits.proofs.Advancing.{advance-cases}
-use Rattle.sweep.specs.Sweep.{sweepClause, sweepFrom, unlessStale, sweepBy, sweepCall}
-use Rattle.sweep.proofs.Visiting.{sweep-shrinks}
-use Rattle.sweep.proofs.VisitKeeps.{formed-visits}
+use Rattle.sweep.specs.Sweep.{sweepFrom, unlessStale, sweepBy, sweepCall}
+use Rattle.sweep_visits.specs.Clause.{sweepClause}
+use Rattle.sweep_visits.proofs.Visiting.{sweep-shrinks}
+use Rattle.sweep_visits.proofs.VisitKeeps.{formed-visits}
 use Rattle.sound.specs.Formula.{Clause}
 use Rattle.sound.specs.Sweep as sound
 use Rattle.moves.specs.Core.{Core, load, withClauses}

@@ -24,9 +24,9 @@ use Rattle.sound.specs.Formula.{Clause, dropped, standing}
 use Rattle.sound.specs.Sweep.{sweepSlots, onStanding, visit, visitFirst, visitFrom}
 use Rattle.moves.specs.Core as core
 use Rattle.moves.proofs.Records.{shown, sweep-agree, sweep-fate}
-use Rattle.sweep.specs.Sweep.{sweepClause}
-use Rattle.sweep.proofs.Parting.{shorten-shorter}
-use Rattle.sweep.proofs.VisitKeeps.{formed-visit}
+use Rattle.sweep_visits.specs.Clause.{sweepClause}
+use Rattle.sweep_visits.proofs.Parting.{shorten-shorter}
+use Rattle.sweep_visits.proofs.VisitKeeps.{formed-visit}
 use Rattle.refinement.specs.Represented.{Represented}
 use Rattle.refinement.proofs.Propagated.{literalsAt, stands-as, drops-as, put-represented}
 

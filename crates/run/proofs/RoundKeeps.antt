@@ -16,7 +16,7 @@ use Rattle.tables.specs.Tables.{Tables}
 use Rattle.tables.specs.Clauses.{slotsFrom}
 use Rattle.tables.specs.Calls.{After}
 use Rattle.shape.specs.Shape.{Shape}
-use Rattle.hidden_literals.specs.Stamped.{Stamped}
+use Rattle.clause_slots.specs.Stamped.{Stamped}
 use Rattle.stamp.specs.Stamp.{stampAcyclic, stampOrdered}
 use Rattle.stamp.specs.Asking.{askOrdered}
 use Rattle.stamp.specs.declared.Ruling.{Ruling}

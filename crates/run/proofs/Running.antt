@@ -25,7 +25,7 @@ use Rattle.failed.specs.Failed as failing
 use Rattle.failed.specs.Steps.{Callable}
 use Rattle.failed.proofs.Calling.{granted-callable}
 use Rattle.sweep.specs.Sweep as sweeping
-use Rattle.sweep.specs.Visits.{Sweepable}
+use Rattle.sweep_visits.specs.Visits.{Sweepable}
 use Rattle.sweep.proofs.Entering.{entered-sweepable}
 use Rattle.settle.specs.Settle.{Standing, between, settle}
 use Rattle.round_order.specs.Order.{orderOf}

@@ -17,10 +17,11 @@ use Rattle.shape.specs.Shape.{Shape}
 use Rattle.visits.proofs.Visiting.{visits-beside}
 use Rattle.visits.proofs.StoreKeeps.{FormedIn, formed-shape-as}
 use Rattle.visits.proofs.Advancing.{advance-whole}
-use Rattle.hidden_literals.specs.Stamped.{Stamped}
-use Rattle.sweep.specs.Sweep.{sweepClause, sweepFrom}
-use Rattle.sweep.proofs.Visiting.{sweep-shrinks}
-use Rattle.sweep.proofs.VisitKeeps.{formed-visits}
+use Rattle.clause_slots.specs.Stamped.{Stamped}
+use Rattle.sweep.specs.Sweep.{sweepFrom}
+use Rattle.sweep_visits.specs.Clause.{sweepClause}
+use Rattle.sweep_visits.proofs.Visiting.{sweep-shrinks}
+use Rattle.sweep_visits.proofs.VisitKeeps.{formed-visits}
 
 module _ (t : Tables) (st : State) (F : FormedIn (st .v) (st .n) t) (S : Stamped (st .v) (t .times) (t .links)) (times : 4096 ≤ length (t .times)) (links : 4096 ≤ length (t .links)) where
   abbrev σ : Stamps

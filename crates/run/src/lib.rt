@@ -21,7 +21,7 @@ ghost use Rattle.stamp.specs.Stamp.{stampOrdered};
 ghost use Rattle.failed.specs.Failed as failing;
 ghost use Rattle.failed.specs.Steps.{Callable};
 ghost use Rattle.sweep.specs.Sweep as sweeping;
-ghost use Rattle.sweep.specs.Visits.{Sweepable};
+ghost use Rattle.sweep_visits.specs.Visits.{Sweepable};
 ghost use Rattle.settle.specs.Settle.{between};
 ghost use Rattle.round_order.specs.Order.{orderOf};
 ghost use Rattle.run.specs.Run.{programme, follow, round, unchanged, rounds, runFrom, runReply, runCall};

@@ -17,7 +17,7 @@ use Rattle.entry.specs.declared.Entry.the-variants.{No, Opens, Resumes}
 use Rattle.entry.proofs.Entering.{Entered}
 use Rattle.visits.proofs.Entered.{NoMerge, entered-formed}
 use Rattle.sweep.specs.Sweep.{sweepFrom, unlessStale, sweepBy, sweepCall}
-use Rattle.sweep.specs.Visits.{Sweepable}
+use Rattle.sweep_visits.specs.Visits.{Sweepable}
 
 pub entered-sweepable : {p : Pass} {t : Tables} {st : State} → Entered p t st → NoMerge p → st .fresh ≡ true → Sweepable (st .n) (t .clauses) (t .literals) (t .times) (t .links)
 entered-sweepable {p} {t} {st} E other fresh = record {

@@ -6,7 +6,8 @@ use Rattle.literal.specs.Literals.{Literal, slotOf}
 use Rattle.base.specs.Lists.{filter}
 use lib.IntN.{pos, negℤ}
 use mathlib.Core.List.{List, []}
-use Rattle.hidden_literals.proofs.Loops.{Moving, moving-literal, moving-searched, moving-stays, moving-goes, literal-small, literal-neg, neg-bound}
+use Rattle.hidden_literals.proofs.Loops.{Moving, moving-literal, moving-searched, moving-stays, moving-goes}
+use Rattle.clause_slots.proofs.Mapping.{literal-small, literal-neg, neg-bound}
 use lib.ListN.{length, getD, length-set}
 use mathlib.Core.Path.{_≡_, refl, sym, _∙_}
 use native.Mathlib.Omega.{arith}

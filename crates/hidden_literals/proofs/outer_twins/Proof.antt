@@ -1,5 +1,6 @@
 -- `hidden_literals::outer_twins` meets its contract. Assumes nothing.
-use Rattle.hidden_literals.proofs.Shortened.{inside-small, inside-twins, twins-given}
+use Rattle.hidden_literals.proofs.Shortened.{twins-given}
+use Rattle.clause_slots.proofs.Clause.{inside-small, inside-twins}
 use Rattle.discovery_order.proofs.Sorting.{sorted-slots}
 use Rattle.stamp_columns.specs.Slots.{Slots}
 use mathlib.Core.List.{[]}
@@ -10,7 +11,7 @@ use Rattle.hidden_literals.proofs.outer_twins.Tie as tie
 use Rattle.hidden_literals.proofs.outer_twins.Reads as reads
 use Rattle.hidden_literals.proofs.outer_twins.Lts as lts
 use Rattle.hidden_literals.proofs.keep_outer.Reads as keep-outer-reads
-use Rattle.hidden_literals.proofs.twins_of.Reads as twins-of-reads
+use Rattle.clause_slots.proofs.twins_of.Reads as twins-of-reads
 use Rattle.discovery_order.proofs.sort_slots.Reads as sort-slots-reads
 
 -- the complements have times

@@ -1,7 +1,8 @@
 -- `hidden_literals::shorten_part` meets its contract. Assumes nothing.
 use Rattle.hidden_literals.proofs.Shortening.{outerTwins}
 use Rattle.hidden_literals.proofs.Shortened.{clause-slots, clause-inside, clause-sorted, inner-given, inner-many, inner-few, outer-given, part-given}
-use Rattle.hidden_literals.specs.Stamped.{Inside, Sorted}
+use Rattle.clause_slots.specs.Stamped.{Inside}
+use Rattle.hidden_literals.specs.Sorted.{Sorted}
 use Rattle.stamp_columns.specs.Columns.{columns}
 use Rattle.discovery_order.proofs.Sorting.{rest-part}
 use Rattle.stamp_columns.specs.Slots.{Slots}

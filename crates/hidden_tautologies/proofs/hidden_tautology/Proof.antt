@@ -7,8 +7,8 @@ use Rattle.hidden_tautologies.proofs.hidden_tautology.Tie as tie
 use Rattle.hidden_tautologies.proofs.hidden_tautology.Reads as reads
 use Rattle.hidden_tautologies.proofs.hidden_tautology.Lts as lts
 use Rattle.hidden_tautologies.proofs.scan.Reads as scan-reads
-use Rattle.hidden_literals.proofs.slots_of.Reads as slots-of-reads
-use Rattle.hidden_literals.proofs.twins_of.Reads as twins-of-reads
+use Rattle.clause_slots.proofs.slots_of.Reads as slots-of-reads
+use Rattle.clause_slots.proofs.twins_of.Reads as twins-of-reads
 use Rattle.discovery_order.proofs.sort_slots.Reads as sort-slots-reads
 
 slots-of-requires : tie.Need-slots-of-requires

@@ -3,7 +3,7 @@ use Rattle.hidden_tautologies.specs.Judged.{Two}
 use borrow.Author.Tests.{not-true, not-false}
 use mathlib.Core.Path.{sym, _∙_}
 use Rattle.hidden_tautologies.proofs.Scanning.{Scanning, scanning-none, both-two, stamped-time, scanning-empty, scanning-end, scanning-next-pos, scanning-next-neg, scanning-yes}
-use Rattle.hidden_literals.proofs.Loops.{shown-lt, shown-le}
+use Rattle.clause_slots.proofs.Mapping.{shown-lt, shown-le}
 use Rattle.stamp_columns.specs.Columns.{columns}
 use lib.ListN.{length, getD}
 use Prim.Native.Nat.{_+_, _-_}

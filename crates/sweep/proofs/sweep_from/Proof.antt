@@ -4,7 +4,7 @@ use Rattle.stamp_columns.specs.Columns.{columns}
 use Rattle.tables.specs.Tables.{tables}
 use Rattle.visits.proofs.Counting.{formed-counted, counts-are}
 use Rattle.visits.proofs.Advancing.{advanced}
-use Rattle.sweep.specs.Sweep.{sweepClause}
+use Rattle.sweep_visits.specs.Clause.{sweepClause}
 use lib.ListN.{length, replicate, length-replicate}
 use mathlib.Core.Bool.{true, false}
 use mathlib.Core.Path.{_∙_}

@@ -1,4 +1,4 @@
--- `sweep::visit_clause` meets its contract. Assumes nothing.
+-- `sweep_visits::visit_clause` meets its contract. Assumes nothing.
 use Prim.Native.Nat.{_-_, _≤_}
 use native.Mathlib.Omega.{arith}
 use mathlib.Core.Path.{sym, _∙_}
@@ -8,11 +8,11 @@ use Rattle.stamp_columns.specs.Columns.{columns}
 use Rattle.tables.specs.Tables.{tables}
 use Rattle.visits.specs.Visited.{Visitable}
 use Rattle.visits.proofs.Composing.{visit-none, shrinks-variables, Bounds, lent-is, visit-is, visitable-placed, visitable-inside, lent-inside, lent-length, lent-short}
-use Rattle.sweep.specs.Sweep.{sweepClause}
-use Rattle.sweep.proofs.Visiting.{sweep-shrinks, sweepable-one, sweepable-judged}
+use Rattle.sweep_visits.specs.Clause.{sweepClause}
+use Rattle.sweep_visits.proofs.Visiting.{sweep-shrinks, sweepable-one, sweepable-judged}
 use borrow.Author.Needs.{needs}
-use Rattle.sweep.proofs.visit_clause.Statement.{statement}
-use Rattle.sweep.proofs.visit_clause.Tie as tie
+use Rattle.sweep_visits.proofs.visit_clause.Statement.{statement}
+use Rattle.sweep_visits.proofs.visit_clause.Tie as tie
 
 -- the clause that is visited
 clause : (s : tie.Start) → Visitable (s .args .k) (s .args .clauses .now) (s .args .literals .now) (s .pre .0 .sweepable .variables)

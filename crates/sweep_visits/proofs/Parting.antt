@@ -16,7 +16,7 @@ use Rattle.visits.specs.Holding.{holding}
 use Rattle.visits.specs.Visited.{partOf, partAfter}
 use Rattle.visits.specs.declared.Visited.the-variants.{Kept, Left, Dropped}
 use Rattle.visits.proofs.Fitting.{fit-filter, filter-shorter}
-use Rattle.sweep.specs.Sweep.{sweepClause}
+use Rattle.sweep_visits.specs.Clause.{sweepClause}
 
 -- clauses of 0 or 1 literals are left; else the scan decides
 pub fate-short : (σ : Stamps) (C : List ℤ) → length C < 2 → sweepClause σ C ≡ kept

@@ -1,13 +1,13 @@
--- `hidden_literals::twins_of` meets its contract. Assumes nothing.
-use Rattle.hidden_literals.proofs.Loops.{Mapping, mapping-more, mapping-done}
+-- `clause_slots::twins_of` meets its contract. Assumes nothing.
+use Rattle.clause_slots.proofs.Mapping.{Mapping, mapping-more, mapping-done}
 use Rattle.literal.specs.Literals.{twin}
 use lib.ListN.{length}
 use Prim.Native.Nat.{_-_}
 use borrow.Author.Needs.{needs}
-use Rattle.hidden_literals.proofs.twins_of.Statement.{statement}
-use Rattle.hidden_literals.proofs.twins_of.Tie as tie
-use Rattle.hidden_literals.proofs.twins_of.Reads as reads
-use Rattle.hidden_literals.proofs.twins_of.Lts as lts
+use Rattle.clause_slots.proofs.twins_of.Statement.{statement}
+use Rattle.clause_slots.proofs.twins_of.Tie as tie
+use Rattle.clause_slots.proofs.twins_of.Reads as reads
+use Rattle.clause_slots.proofs.twins_of.Lts as lts
 use Rattle.literal.proofs.twin_of.Reads as twin-of-reads
 
 abbrev Inv-loop : tie.InvT-loop

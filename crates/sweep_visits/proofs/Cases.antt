@@ -8,7 +8,7 @@ use Rattle.walk.specs.Walk.{Stamps}
 use Rattle.stamp_columns.specs.Columns.{columns}
 use Rattle.hidden.specs.Hidden.{holds, insert, byDiscovery, passes, scanAt, scan, hiddenTautology, unhidden, shorten}
 use Rattle.tables.specs.Fates.{kept, left, dropped}
-use Rattle.sweep.specs.Sweep.{sweepClause}
+use Rattle.sweep_visits.specs.Clause.{sweepClause}
 
 stamped : Stamps
 stamped =

@@ -1,16 +1,16 @@
--- `sweep::sweep_visits` meets its contract. Assumes nothing.
-use Rattle.sweep.proofs.VisitKeeps.{Sweeping, sweeping-none, sweeping-next, sweeping-more, sweeping-done}
+-- `sweep_visits::sweep_visits` meets its contract. Assumes nothing.
+use Rattle.sweep_visits.proofs.VisitKeeps.{Sweeping, sweeping-none, sweeping-next, sweeping-more, sweeping-done}
 use Rattle.stamp_columns.specs.Columns.{columns}
 use Rattle.tables.specs.Tables.{tables}
 use Rattle.visits.proofs.Composing.{visit-tables}
-use Rattle.sweep.specs.Sweep.{sweepClause}
+use Rattle.sweep_visits.specs.Clause.{sweepClause}
 use lib.ListN.{length}
 use mathlib.Core.Path.{_≡_, refl, _∙_}
 use native.Mathlib.Omega.{arith}
 use Prim.Native.Nat.{_+_, _-_}
 use borrow.Author.Needs.{needs}
-use Rattle.sweep.proofs.sweep_visits.Statement.{statement}
-use Rattle.sweep.proofs.sweep_visits.Tie as tie
+use Rattle.sweep_visits.proofs.sweep_visits.Statement.{statement}
+use Rattle.sweep_visits.proofs.sweep_visits.Tie as tie
 
 abbrev Inv-loop : tie.InvT-loop
 Inv-loop clauses₀ literals₀ times links slots₀ twins₀ k m i₀ clauses literals slots twins i = Sweeping k m i clauses₀ literals₀ clauses literals times links × (length slots ≡ length slots₀) × (length twins ≡ length twins₀) × (length clauses ≡ length clauses₀) × (length literals ≡ length literals₀)

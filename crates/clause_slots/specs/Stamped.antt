@@ -1,13 +1,11 @@
 -- What the functions on one clause ask of the stamp tables and of its slots. Assumes nothing: these are definitions.
 use Prim.Native.Nat.{ℕ, _*_, _≤_, _<_}
-use mathlib.Core.Path.{_≡_}
 use mathlib.Core.List.{List, [], List·Memᴰ}
 use lib.ListN.{length, getD}
-use lib.IntN.{ℤ, pos, negℤ}
-use Rattle.literal.specs.Literals.{Literal, slotOf}
-use Rattle.walk.specs.Forest.{discoveryAt, finishAt}
+use lib.IntN.{ℤ, pos}
+use Rattle.literal.specs.Literals.{Literal}
+use Rattle.walk.specs.Forest.{finishAt}
 use Rattle.stamps.specs.Fresh.{FreshStamps}
-use Rattle.stamp_columns.specs.Slots.{Slots}
 use Rattle.stamp_columns.specs.Columns.{columns}
 use Rattle.hidden.proofs.Intervals.{Nested}
 
@@ -18,21 +16,9 @@ pub record Stamped (v : ℕ) (times : List ℕ) (links : List ℤ) : Type 0 wher
   pub linked : 4 * v ≤ length links
   pub fresh : FreshStamps v times links
 
--- discoveries never fall along the list, and one that is discovered with s is s
-pub record Searched (times xs : List ℕ) (s : ℕ) : Type 0 where
-  pub rises : (j k : ℕ) → j < k → k < length xs → discoveryAt (columns times []) (getD xs j 0) ≤ discoveryAt (columns times []) (getD xs k 0)
-  pub alone : (k : ℕ) → k < length xs → discoveryAt (columns times []) (getD xs k 0) ≡ discoveryAt (columns times []) s → getD xs k 0 ≡ s
-
 -- literals, each of one of 1,024 variables
 pub record Lits (C : List ℤ) : Type 0 where
   pub each : (k : ℕ) → k < length C → Literal 1024 (getD C k (pos 0))
-
--- slots that can be searched for the complement of any literal of C
-pub record Sorted (times xs : List ℕ) (C : List ℤ) : Type 0 where
-  pub slots : Slots times xs
-  pub long : 4096 ≤ length times
-  pub lits : Lits C
-  pub searched : (k : ℕ) → k < length C → Searched times xs (slotOf (negℤ (getD C k (pos 0))))
 
 -- slots of some variables' literals, and of their complements
 pub record Inside (times xs : List ℕ) : Type 0 where

@@ -5,7 +5,7 @@ use mathlib.Core.List.{List}
 use lib.ListN.{length}
 use lib.IntN.{ℤ}
 use Rattle.visits.specs.Formed.{Formed}
-use Rattle.hidden_literals.specs.Stamped.{Stamped}
+use Rattle.clause_slots.specs.Stamped.{Stamped}
 
 -- n clauses without the mark, in which no Merge is open, with fresh stamps, whatever records the variables have
 pub record Sweepable (n : ℕ) (clauses : List ℕ) (literals : List ℤ) (times : List ℕ) (links : List ℤ) : Type 0 where

@@ -13,8 +13,8 @@ use Rattle.visits.specs.Visited.{Visitable}
 use Rattle.visits.proofs.Forming.{clause-fits}
 use Rattle.visits.proofs.Visiting.{Shrinks, stays, leaves, drops}
 use Rattle.hidden_tautologies.specs.Judged.{Judged}
-use Rattle.sweep.specs.Sweep.{sweepClause}
-use Rattle.sweep.specs.Visits.{SweepableFrom}
+use Rattle.sweep_visits.specs.Clause.{sweepClause}
+use Rattle.sweep_visits.specs.Visits.{SweepableFrom}
 
 -- Sweep keeps a clause, shortens it or drops it
 pub sweep-shrinks : (σ : Stamps) (C : List ℤ) → Shrinks (sweepClause σ C)

@@ -22,9 +22,9 @@ use Rattle.visits.proofs.Forming.{clause-fits, part-length}
 use Rattle.visits.proofs.Fitting.{fit-slots}
 use Rattle.visits.proofs.StoreKeeps.{FormedIn, formed-shortened, formed-dropped, formed-cases}
 use Rattle.visits.proofs.Visiting.{visits-next, visits-none}
-use Rattle.sweep.specs.Sweep.{sweepClause}
-use Rattle.sweep.specs.Visits.{Sweepable, SweepableFrom}
-use Rattle.sweep.proofs.Parting.{shorten-shorter, shorten-fits}
+use Rattle.sweep_visits.specs.Clause.{sweepClause}
+use Rattle.sweep_visits.specs.Visits.{Sweepable, SweepableFrom}
+use Rattle.sweep_visits.proofs.Parting.{shorten-shorter, shorten-fits}
 
 module _ {v n : ℕ} (t : Tables) (F : FormedIn v n t) (σ : Stamps) (N : Nested (2 * v) σ) (k : ℕ) (lt : k < n) where
   -- what figure 5 leaves of clause k

@@ -1,13 +1,13 @@
--- `sweep::visit_part` meets its contract. Assumes nothing.
-use Rattle.sweep.proofs.Parting.{part-short, part-dropped, part-left, shorten-shorter}
+-- `sweep_visits::visit_part` meets its contract. Assumes nothing.
+use Rattle.sweep_visits.proofs.Parting.{part-short, part-dropped, part-left, shorten-shorter}
 use Rattle.hidden_tautologies.proofs.Judging.{judged-clause}
 use Rattle.stamp_columns.specs.Columns.{columns}
 use mathlib.Core.List.{[]}
 use mathlib.Core.Path.{sym, _∙_}
 use native.Mathlib.Omega.{arith}
 use borrow.Author.Needs.{needs}
-use Rattle.sweep.proofs.visit_part.Statement.{statement}
-use Rattle.sweep.proofs.visit_part.Tie as tie
+use Rattle.sweep_visits.proofs.visit_part.Statement.{statement}
+use Rattle.sweep_visits.proofs.visit_part.Tie as tie
 
 returns : tie.Need-returns
 returns c = let a = c .before .before .before .before .args in part-short (a .times .now) (a .links .now) (a .part .now) (a .part .now) (c .if1 .taken)

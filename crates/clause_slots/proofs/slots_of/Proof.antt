@@ -1,6 +1,6 @@
--- `hidden_literals::slots_of` meets its contract. Assumes nothing.
+-- `clause_slots::slots_of` meets its contract. Assumes nothing.
 use Rattle.literal.proofs.Signed.{read}
-use Rattle.hidden_literals.proofs.Loops.{Mapping, mapping-more, mapping-done, literal-has, slot-bound}
+use Rattle.clause_slots.proofs.Mapping.{Mapping, mapping-more, mapping-done, literal-has, slot-bound}
 use Rattle.literal.specs.Literals.{slotOf}
 use lib.IntN.{pos}
 use lib.ListN.{length, getD}
@@ -8,10 +8,10 @@ use mathlib.Core.Path.{_≡_}
 use native.Mathlib.Omega.{arith}
 use Prim.Native.Nat.{_-_}
 use borrow.Author.Needs.{needs}
-use Rattle.hidden_literals.proofs.slots_of.Statement.{statement}
-use Rattle.hidden_literals.proofs.slots_of.Tie as tie
-use Rattle.hidden_literals.proofs.slots_of.Reads as reads
-use Rattle.hidden_literals.proofs.slots_of.Lts as lts
+use Rattle.clause_slots.proofs.slots_of.Statement.{statement}
+use Rattle.clause_slots.proofs.slots_of.Tie as tie
+use Rattle.clause_slots.proofs.slots_of.Reads as reads
+use Rattle.clause_slots.proofs.slots_of.Lts as lts
 use Rattle.literal.proofs.slot_of.Reads as slot-of-reads
 
 abbrev Inv-loop : tie.InvT-loop

@@ -1,0 +1,2 @@
+pub mod Mapping
+pub mod Clause

@@ -1,0 +1,4 @@
+pub mod Cases
+pub mod Parting
+pub mod Visiting
+pub mod VisitKeeps
