@@ -1,2 +1,3 @@
 pub mod Decide
 pub mod Lists
+pub mod Bytes

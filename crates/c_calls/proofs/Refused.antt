@@ -32,8 +32,8 @@ use Rattle.propagate.specs.Propagate.{replied, propagateFrom, propagateBy, prop
 use Rattle.propagate_visits.specs.Visits.{Progress, going, settled, contradicted, begin, propagateVisits}
 use Rattle.merge.specs.Merge.{edgesOf, clashes, mergeOpen, mergeSettled, mergeBy, mergeCall}
 use Rattle.stamp.specs.Stamp.{firstBad, stampAcyclic, stampSettled, stampOrdered, stampBy, stampCall}
-use Rattle.failed.specs.Failed.{failedFresh, unlessStale as unlessFresh, failedBy, failedCall}
-use Rattle.sweep.specs.Sweep.{unlessStale, sweepBy, sweepCall}
+use Rattle.failed.specs.Failed.{failedFresh, failedUnlessStale, failedBy, failedCall}
+use Rattle.sweep.specs.Sweep.{sweepUnlessStale, sweepBy, sweepCall}
 use Rattle.run.specs.Run.{runBy, runCall}
 use Rattle.c_numbers.specs.StateNumbers.{stateOf}
 use Rattle.c_numbers.specs.CCalls.{ready, refuseUnread, AfterC, afterC, putStateBy, told, callC}
@@ -124,7 +124,7 @@ failed-keeps : Keeps failedCall
 unfolding failedCall failedFresh
 failed-keeps t st = entered (openingOf t st)
   where
-    stale : (fresh : Bool) → Kept t st (unlessFresh fresh t st)
+    stale : (fresh : Bool) → Kept t st (failedUnlessStale fresh t st)
     stale true = inl refl
     stale false = inr (refl, refl)
 
@@ -136,7 +136,7 @@ sweep-keeps : (n : ℕ) → Keeps (sweepCall n)
 unfolding sweepCall
 sweep-keeps n t st = entered (entryOf own.Sweep t st)
   where
-    stale : (fresh : Bool) (k : ℕ) → Kept t st (unlessStale fresh n k t st)
+    stale : (fresh : Bool) (k : ℕ) → Kept t st (sweepUnlessStale fresh n k t st)
     stale true k = advances _ _ _ _ _ _ _ _ _
     stale false k = inr (refl, refl)
 

@@ -9,19 +9,19 @@ use borrow.Author.Tests.{le-leb, lt-leb}
 use Rattle.state.specs.Answers.{Reply, replyOf, firstValue, resultBy}
 use Rattle.state.specs.declared.Answer.the-variants.{Refused}
 use Rattle.state.specs.declared.Refusal.the-variants.{Shape}
-use Rattle.c_numbers.specs.StateNumbers.{over}
+use Rattle.c_numbers.specs.StateNumbers.{putFront}
 use Rattle.c_numbers.specs.CCalls.{valuesOf, putAnswerBy, putAnswer, refuseUnread}
 use Rattle.c_numbers.proofs.Over.{one-over}
 
-pub answer-made : (r : Reply) (a left : List ℕ) → r .number ≡ 0 → left ≡ over (valuesOf r) a → (pos 0 ≡ resultBy (r .number) 0) × (left ≡ putAnswer r a)
+pub answer-made : (r : Reply) (a left : List ℕ) → r .number ≡ 0 → left ≡ putFront (valuesOf r) a → (pos 0 ≡ resultBy (r .number) 0) × (left ≡ putAnswer r a)
 unfolding putAnswer
 answer-made r a left made e = (ap (λ (n : ℕ). resultBy n 0) (sym made), e ∙ ap (λ (n : ℕ). putAnswerBy n r a) (sym made))
 
 pub answer-refused : (r : Reply) (a : List ℕ) (v : ℕ) → (r .number ≡ 0 → ⊥) → 1 ≤ length a → v ≡ firstValue (r .values) → set a 0 v ≡ putAnswer r a
 unfolding putAnswer
-answer-refused r a v refused long e = one-over v a long ∙ ap (λ (x : ℕ). over (x ∷ []) a) e ∙ numbered (r .number) refused
+answer-refused r a v refused long e = one-over v a long ∙ ap (λ (x : ℕ). putFront (x ∷ []) a) e ∙ numbered (r .number) refused
   where
-    numbered : (n : ℕ) → (n ≡ 0 → ⊥) → over (firstValue (r .values) ∷ []) a ≡ putAnswerBy n r a
+    numbered : (n : ℕ) → (n ≡ 0 → ⊥) → putFront (firstValue (r .values) ∷ []) a ≡ putAnswerBy n r a
     numbered zero d = absurd (d refl)
     numbered (suc n) d = refl
 

@@ -15,7 +15,7 @@ use Rattle.state.specs.declared.Refusal.the-variants.{Shape}
 use Rattle.tables.specs.Tables.{Tables}
 use Rattle.tables.specs.Calls.{After}
 use Rattle.write.specs.Write.{AfterWrite, writeCall}
-use Rattle.c_numbers.specs.StateNumbers.{over, digit, putState, stateOf, readable}
+use Rattle.c_numbers.specs.StateNumbers.{putFront, digit, putState, stateOf, readable}
 
 -- both slices are long enough, and the state's numbers are a state's
 unfoldable pub ready : List ℕ → List ℕ → Bool
@@ -29,8 +29,8 @@ valuesOf r = getD (r .values) 0 0 ∷ getD (r .values) 1 0 ∷ getD (r .values) 
 
 -- by the reply's number, which is 0 where the call was made
 abbrev pub putAnswerBy : ℕ → Reply → List ℕ → List ℕ
-putAnswerBy zero r a = over (valuesOf r) a
-putAnswerBy (suc _) r a = over (firstValue (r .values) ∷ []) a
+putAnswerBy zero r a = putFront (valuesOf r) a
+putAnswerBy (suc _) r a = putFront (firstValue (r .values) ∷ []) a
 
 unfoldable pub putAnswer : Reply → List ℕ → List ℕ
 putAnswer r a = putAnswerBy (r .number) r a

@@ -12,8 +12,8 @@ use Rattle.state.specs.declared.Pass.{Pass}
 use Rattle.state.specs.declared.Pass.the-variants.{Idle, Propagate, Merge, Sweep}
 
 -- numbers over the front of a slice; those behind them stay
-abbrev pub over : List ℕ → List ℕ → List ℕ
-over new old = new ++ drop (length new) old
+abbrev pub putFront : List ℕ → List ℕ → List ℕ
+putFront new old = new ++ drop (length new) old
 
 -- ---- from a state to its numbers
 
@@ -43,7 +43,7 @@ abbrev pub numbersOf : State → List ℕ
 numbersOf st = st .v ∷ st .n ∷ passNumber (st .pass) ∷ cursorNumber (st .pass) ∷ changedNumber (st .pass) ∷ digit (st .fresh) ∷ digit (st .mark) ∷ []
 
 unfoldable pub putState : State → List ℕ → List ℕ
-putState st numbers = over (numbersOf st) numbers
+putState st numbers = putFront (numbersOf st) numbers
 
 -- ---- from numbers to a state
 

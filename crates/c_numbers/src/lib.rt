@@ -6,7 +6,7 @@ ghost use lib.ListN.{length};
 ghost use Rattle.state.specs.Answers.{replyOf, resultBy};
 ghost use Rattle.tables.specs.Tables.{Tables};
 ghost use Rattle.tables.specs.Calls.{after};
-ghost use Rattle.c_numbers.specs.StateNumbers.{over, digit, passNumber, cursorNumber, changedNumber, passOf, passReadable, stateOf, putState, readable};
+ghost use Rattle.c_numbers.specs.StateNumbers.{putFront, digit, passNumber, cursorNumber, changedNumber, passOf, passReadable, stateOf, putState, readable};
 ghost use Rattle.c_numbers.specs.CCalls.{ready, valuesOf, putAnswer, refuseUnread, told, afterC};
 use state::Answer;
 use state::Outcome;
@@ -139,7 +139,7 @@ fn put_state(state: &mut [u32], st: State)
 // Numbers behind the fourth stay.
 fn put_four(answer: &mut [u64], first: u64, second: u64, third: u64, fourth: u64)
     requires { ⌜ 4 ≤ length (now answer) ⌝ }
-    ensures { λ _. ⌜ now (answer .exit) ≡ over (first ∷ second ∷ third ∷ fourth ∷ []) (now (answer .entry)) ⌝ }
+    ensures { λ _. ⌜ now (answer .exit) ≡ putFront (first ∷ second ∷ third ∷ fourth ∷ []) (now (answer .entry)) ⌝ }
 {
     answer[0] = first;
     answer[1] = second;
@@ -150,7 +150,7 @@ fn put_four(answer: &mut [u64], first: u64, second: u64, third: u64, fourth: u64
 // What a call that was made answers: Open alone sets the fourth.
 fn put_values(answer: &mut [u64], a: Answer)
     requires { ⌜ 4 ≤ length (now answer) ⌝ }
-    ensures { λ _. ⌜ now (answer .exit) ≡ over (valuesOf (replyOf a)) (now (answer .entry)) ⌝ }
+    ensures { λ _. ⌜ now (answer .exit) ≡ putFront (valuesOf (replyOf a)) (now (answer .entry)) ⌝ }
 {
     match a {
         Answer::Open(counts) => put_four(

@@ -118,12 +118,12 @@ settle-many (suc fuel) w =
 
 -- ---- the codes
 
-failed-many : (b : Bool) (t : Tables) (st : State) → AsMany t (failing.unlessStale b t st .tables)
+failed-many : (b : Bool) (t : Tables) (st : State) → AsMany t (failing.failedUnlessStale b t st .tables)
 unfolding failedFresh
 failed-many true t st = record { times = refl; links = refl }
 failed-many false t st = same t
 
-sweep-many : (b : Bool) (steps k : ℕ) (t : Tables) (st : State) → AsMany t (sweeping.unlessStale b steps k t st .tables)
+sweep-many : (b : Bool) (steps k : ℕ) (t : Tables) (st : State) → AsMany t (sweeping.sweepUnlessStale b steps k t st .tables)
 sweep-many true steps k t st = advance-many _ _ true false steps k t st
 sweep-many false steps k t st = same t
 

@@ -40,7 +40,8 @@ use Rattle.round_order.specs.Order.{orderOf}
 use Rattle.run.specs.Run.{follow, round, unchanged, runFrom, runCall}
 use Rattle.simplify.specs.Texts.{simplifyText, unhideText}
 use Rattle.call_lists.specs.Lists.{merge, stamp, failed, sweep, stepOn, stepsOn}
-use Rattle.cases.specs.Case.{bytes, Case, calls, prints, Seen, All}
+use Rattle.base.specs.Bytes.{bytes}
+use Rattle.cases.specs.Case.{Case, calls, prints, Seen, All}
 
 -- what is expected: replies, mark, the fronts of clauses, literals, variables, times and links, and what Write gives
 abbrev sees : List Reply → Bool → List ℕ → List ℤ → List ℤ → List ℕ → List ℤ → List ℕ → Seen

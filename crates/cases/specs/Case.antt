@@ -1,13 +1,13 @@
 -- A worked case: a text is loaded into empty tables, a list of calls follows, and what is then seen is compared in one equation, so that everything is computed once. Or a text goes through the program.
 -- Assumes nothing: these are definitions.
 use Prim.Native.Nat.{ℕ}
-use Prim.Native.String.{String, [] as nil, _∷_ as cons}
-use Prim.Native.Char.{code}
+use Prim.Native.String.{String}
 use mathlib.Core.Path.{_≡_}
 use mathlib.Core.Bool.{Bool}
 use mathlib.Core.List.{List, [], _∷_, map}
 use lib.ListN.{length, take}
 use lib.IntN.{ℤ}
+use Rattle.base.specs.Bytes.{bytes}
 use Rattle.state.specs.States.{emptyState}
 use Rattle.state.specs.Answers.{Reply}
 use Rattle.tables.specs.Calls.{After}
@@ -15,10 +15,6 @@ use Rattle.load.specs.Load.{loadCall}
 use Rattle.write.specs.Write.{writeText}
 use Rattle.simplify.specs.Texts.{emptyTables, unhideText}
 use Rattle.call_lists.specs.Lists.{Call, Step, Trail, stepsOn}
-
-abbrev pub bytes : String → List ℕ
-bytes nil = []
-bytes (cons c s) = code c ∷ bytes s
 
 -- every table is lent as stated
 abbrev pub whole : Call → Step

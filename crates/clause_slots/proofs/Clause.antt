@@ -11,11 +11,11 @@ use Rattle.literal.proofs.Laws.{slot-below}
 use Rattle.literal.proofs.Twins.{twin-below}
 use Rattle.hidden.proofs.Intervals.{Within}
 use Rattle.stamp_columns.specs.Slots.{Slots}
-use Rattle.clause_slots.specs.Stamped.{Lits, Inside, Clause}
+use Rattle.clause_slots.specs.Stamped.{Lits, StampedSlots, StampedClause}
 
 -- ---- slots and their complements
 
-module _ {times xs : List ℕ} (I : Inside times xs) where
+module _ {times xs : List ℕ} (I : StampedSlots times xs) where
   pub inside-small : (k : ℕ) → k < length xs → getD xs k 0 < 65536
   inside-small k lt = omega (arith, I .each (getD xs k 0) (getD-mem xs k 0 lt), I .few)
 
@@ -29,7 +29,7 @@ module _ {times xs : List ℕ} (I : Inside times xs) where
 
 -- ---- the literals of a clause
 
-module _ {times : List ℕ} {C : List ℤ} (K : Clause times C) where
+module _ {times : List ℕ} {C : List ℤ} (K : StampedClause times C) where
   pub clause-literals : (l : ℤ) → List·Memᴰ l C → Literal (K .vars) l
   clause-literals = each-mem (Literal (K .vars)) C (pos 0) (K .each)
 

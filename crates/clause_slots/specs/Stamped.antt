@@ -21,14 +21,14 @@ pub record Lits (C : List ℤ) : Type 0 where
   pub each : (k : ℕ) → k < length C → Literal 1024 (getD C k (pos 0))
 
 -- slots of some variables' literals, and of their complements
-pub record Inside (times xs : List ℕ) : Type 0 where
+pub record StampedSlots (times xs : List ℕ) : Type 0 where
   pub vars : ℕ
   pub few : vars ≤ 1024
   pub long : 4096 ≤ length times
   pub each : (x : ℕ) → List·Memᴰ x xs → x < 2 * vars
 
 -- literals of a clause whose slots have nested intervals
-pub record Clause (times : List ℕ) (C : List ℤ) : Type 0 where
+pub record StampedClause (times : List ℕ) (C : List ℤ) : Type 0 where
   pub vars : ℕ
   pub few : vars ≤ 1024
   pub long : 4096 ≤ length times

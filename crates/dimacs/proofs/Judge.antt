@@ -11,7 +11,7 @@ use borrow.Author.Tests.{lt-ltb, le-ltb, le-leb, lt-leb, leb-true, leb-false, lt
 use Rattle.dimacs.specs.Words.{Word, word, wordsAt, span, isDigit}
 use Rattle.dimacs.specs.Tokens.{Meaning, bad, nought, literal, meaning, tokenBy, tokenOf, decimal}
 use Rattle.dimacs.specs.Text.{Budget, budget, judge, judgeEnd}
-use Rattle.dimacs.specs.Header.{number, withinLimit, after, header, headerRest, comments, expect, lineEnd, pCnf}
+use Rattle.dimacs.specs.Header.{number, withinLimit, andThen, header, headerRest, comments, expect, lineEnd, pCnf}
 use Rattle.dimacs.specs.declared.Token.{Token}
 use Rattle.dimacs.specs.declared.Token.the-variants.{End, Zero, Literal, Bad}
 use Rattle.state.specs.declared.Refusal.{Refusal}
@@ -192,7 +192,7 @@ end-few l end ok e n =
     rw (e, judgeEnd, q)
 
 -- ---- a header's V is at most 1,024
-after-got : (p : Piece) (k : ℕ → ℕ → Header) (v n at : ℕ) → after p k ≡ Fields v n at → (value : ℕ) × (next : ℕ) × (p ≡ Got value next) × (k value next ≡ Fields v n at)
+after-got : (p : Piece) (k : ℕ → ℕ → Header) (v n at : ℕ) → andThen p k ≡ Fields v n at → (value : ℕ) × (next : ℕ) × (p ≡ Got value next) × (k value next ≡ Fields v n at)
 after-got (Wrong r) k v n at e = absurd (let z : _≡_ {A = ℕ} 0 1 = cc in omega arith)
 after-got (Got value next) k v n at e = (value, next, refl, e)
 

@@ -44,9 +44,9 @@ lineEnd [] at = Got 0 at
 lineEnd (b ∷ s) at = elim (eqb b 10) [ true ↦ Got 0 (at + 1) | false ↦ Wrong (Grammar at) ]
 
 -- a piece, and what follows with its value and the offset after it
-abbrev pub after : Piece → (ℕ → ℕ → Header) → Header
-after (Wrong r) k = NoHeader r
-after (Got value at) k = k value at
+abbrev pub andThen : Piece → (ℕ → ℕ → Header) → Header
+andThen (Wrong r) k = NoHeader r
+andThen (Got value at) k = k value at
 
 -- "p cnf "
 abbrev pub pCnf : List ℕ
@@ -55,13 +55,13 @@ pCnf = 112 ∷ 32 ∷ 99 ∷ 110 ∷ 102 ∷ 32 ∷ []
 -- behind V: a space, N, and the line's end
 unfoldable pub headerRest : ℕ → List ℕ → ℕ → Header
 headerRest v text at =
-    after (expect (32 ∷ []) (drop at text) at) (λ _ at.
-    after (number 4096 (drop at text) at) (λ n at.
-    after (lineEnd (drop at text) at) (λ _ at. Fields v n at)))
+    andThen (expect (32 ∷ []) (drop at text) at) (λ _ at.
+    andThen (number 4096 (drop at text) at) (λ n at.
+    andThen (lineEnd (drop at text) at) (λ _ at. Fields v n at)))
 
 -- comment lines, "p cnf ", V, and the rest
 unfoldable pub header : List ℕ → Header
 header text =
-    after (comments false text 0) (λ _ at.
-    after (expect pCnf (drop at text) at) (λ _ at.
-    after (number 1024 (drop at text) at) (λ v at. headerRest v text at)))
+    andThen (comments false text 0) (λ _ at.
+    andThen (expect pCnf (drop at text) at) (λ _ at.
+    andThen (number 1024 (drop at text) at) (λ v at. headerRest v text at)))

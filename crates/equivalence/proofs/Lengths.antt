@@ -16,7 +16,7 @@ use Rattle.shape.specs.Shape.{Shape}
 use Rattle.printing.specs.Printing.{clausesText, headerText}
 use Rattle.write.specs.Writable.{total}
 use Rattle.write.specs.Write.{writtenClauses, writeText}
-use Rattle.write.specs.Gathered.{gathered, unitFor, classFor, unitAt, classAt, clauseAt, formula}
+use Rattle.write.specs.Gathered.{gathered, unitFor, classFor, unitAt, classAt, writtenAt, formula}
 use Rattle.write.proofs.Gathering.{header-then}
 use Rattle.write.proofs.Records.{class-none, class-some}
 use Rattle.write.proofs.Bounds.{total-append, clauses-short, ready, header-short, standing-count, standing-total}
@@ -67,7 +67,7 @@ module _ (t : Tables) (st : State) (S : Shape t st) where
   classes = gathered (classAt (t .variables)) (st .v) 0
 
   abbrev clauses : List (List ℤ)
-  clauses = gathered (clauseAt (t .clauses) (t .literals)) (st .n) 0
+  clauses = gathered (writtenAt (t .clauses) (t .literals)) (st .n) 0
 
   variables-room : room units + room classes ≤ 28 * st .v
   variables-room = records-room (unitAt (t .variables)) (classAt (t .variables)) (st .v)

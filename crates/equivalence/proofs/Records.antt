@@ -9,7 +9,7 @@ use lib.IntN.{ℤ, pos, negsuc, negℤ, natAbs}
 use borrow.Author.Tests.{not-true}
 use Rattle.base.proofs.Booleans.{bool-or, clash}
 use Rattle.literal.specs.Literals.{eqZ}
-use Rattle.literal.specs.Assignments.{Assignment, holds, someHolds, Satisfies}
+use Rattle.literal.specs.Assignments.{Assignment, trueUnder, someTrue, Satisfies}
 use Rattle.literal.proofs.Signed.{eqZ-true, eq-eqZ}
 use Rattle.literal.proofs.Truth.{holds-neg}
 use Rattle.write.specs.Gathered.{unitFor, classFor, clauseFor}
@@ -37,32 +37,32 @@ module _ (τ : Assignment) where
   unit-says w (pos (suc zero)) h small = (λ s. (λ e. one-or (τ w) .0 (s .0), λ e. absurd (let z : _≡_ {A = ℕ} 0 1 = cc in omega arith)), λ f. (one-or (τ w) .1 (f .0 refl), tt))
   unit-says w (pos (suc (suc n))) h small = absurd (omega arith)
   unit-says w (negsuc zero) h small =
-      let l : holds τ (negℤ (pos w)) ≡ not (τ w) = holds-neg τ (pos w) h in (
-        λ s. (λ e. absurd (let z : _≡_ {A = ℕ} 0 1 = cc in omega arith), λ e. not-true (τ w) (sym l ∙ one-or (holds τ (negℤ (pos w))) .0 (s .0))),
-        λ f. (one-or (holds τ (negℤ (pos w))) .1 (l ∙ ap not (f .1 refl)), tt),
+      let l : trueUnder τ (negℤ (pos w)) ≡ not (τ w) = holds-neg τ (pos w) h in (
+        λ s. (λ e. absurd (let z : _≡_ {A = ℕ} 0 1 = cc in omega arith), λ e. not-true (τ w) (sym l ∙ one-or (trueUnder τ (negℤ (pos w))) .0 (s .0))),
+        λ f. (one-or (trueUnder τ (negℤ (pos w))) .1 (l ∙ ap not (f .1 refl)), tt),
       )
   unit-says w (negsuc (suc n)) h small = absurd (omega arith)
 
   -- ---- a class
 
-  pub class-says : (w : ℕ) (class : ℤ) → 0 < w → 0 < natAbs class → Satisfies τ (classFor w class) ↔ (τ w ≡ holds τ class)
+  pub class-says : (w : ℕ) (class : ℤ) → 0 < w → 0 < natAbs class → Satisfies τ (classFor w class) ↔ (τ w ≡ trueUnder τ class)
   unfolding Satisfies
   class-says w class h above = ⊎-elim
       (λ (e : eqZ class (pos w) ≡ true).
       let own : class ≡ pos w = eqZ-true class (pos w) e in
-      (λ s. ap (holds τ) (sym own), λ q. subst (Satisfies τ) (sym (class-none w class own)) tt))
+      (λ s. ap (trueUnder τ) (sym own), λ q. subst (Satisfies τ) (sym (class-none w class own)) tt))
       (λ (e : eqZ class (pos w) ≡ false).
       let some = class-some w class (λ q. clash (eq-eqZ class (pos w) q) e) in
-      let a : holds τ (negℤ class) ≡ not (holds τ class) = holds-neg τ class above in
-      let b : holds τ (negℤ (pos w)) ≡ not (τ w) = holds-neg τ (pos w) h in (
-        λ s. let r = subst (Satisfies τ) some s in equal-or (τ w) (holds τ class) .0 (rw a at (r .0), rw b at (r .1 .0)),
-        λ q. let r = equal-or (τ w) (holds τ class) .1 q in subst (Satisfies τ) (sym some) (rw a (r .0), (rw b (r .1), tt)),
+      let a : trueUnder τ (negℤ class) ≡ not (trueUnder τ class) = holds-neg τ class above in
+      let b : trueUnder τ (negℤ (pos w)) ≡ not (τ w) = holds-neg τ (pos w) h in (
+        λ s. let r = subst (Satisfies τ) some s in equal-or (τ w) (trueUnder τ class) .0 (rw a at (r .0), rw b at (r .1 .0)),
+        λ q. let r = equal-or (τ w) (trueUnder τ class) .1 q in subst (Satisfies τ) (sym some) (rw a (r .0), (rw b (r .1), tt)),
       ))
       (bool-or (eqZ class (pos w)))
 
   -- ---- a clause
 
-  pub clause-says : (flag : ℕ) (c : List ℤ) → flag ≤ 1 → Satisfies τ (clauseFor flag c) ↔ (flag ≡ 1 → someHolds τ c ≡ true)
+  pub clause-says : (flag : ℕ) (c : List ℤ) → flag ≤ 1 → Satisfies τ (clauseFor flag c) ↔ (flag ≡ 1 → someTrue τ c ≡ true)
   unfolding Satisfies
   clause-says zero c h = (λ s e. absurd (omega (arith, e)), λ f. tt)
   clause-says (suc flag) c h = (λ s e. s .0, λ f. (f (omega arith), tt))

@@ -9,7 +9,7 @@ use Rattle.state.specs.declared.Refusal.{Refusal}
 use Rattle.state.specs.declared.Refusal.the-variants.{Grammar, Limit}
 use Rattle.dimacs.specs.Words.{Word, wordsAt, isDigit, span}
 use Rattle.dimacs.specs.Tokens.{Meaning, bad, nought, literal, meaning, decimal}
-use Rattle.dimacs.specs.Header.{comments, expect, withinLimit, number, lineEnd, after, pCnf, header, headerRest}
+use Rattle.dimacs.specs.Header.{comments, expect, withinLimit, number, lineEnd, andThen, pCnf, header, headerRest}
 use Rattle.dimacs.specs.Text.{Budget, budget, judge, judgeEnd, judgeBody, judgeText}
 use Rattle.dimacs.specs.declared.Piece.{Piece}
 use Rattle.dimacs.specs.declared.Piece.the-variants.{Wrong, Got}
@@ -33,7 +33,7 @@ abbrev HeaderBy : Header → Type 0
 HeaderBy (NoHeader r) = OfText r
 HeaderBy (Fields v n at) = Unit {0}
 
-after-by : (p : Piece) (k : ℕ → ℕ → Header) → PieceBy p → ((value at : ℕ) → HeaderBy (k value at)) → HeaderBy (after p k)
+after-by : (p : Piece) (k : ℕ → ℕ → Header) → PieceBy p → ((value at : ℕ) → HeaderBy (k value at)) → HeaderBy (andThen p k)
 after-by (Wrong r) k h rest = h
 after-by (Got value at) k h rest = rest value at
 

@@ -7,14 +7,14 @@ use mathlib.Core.Logic.{_↔_}
 use mathlib.Core.List.{List, _++_}
 use lib.IntN.{ℤ, pos, negsuc}
 use Rattle.base.proofs.Booleans.{clash}
-use Rattle.literal.specs.Assignments.{Assignment, holds, someHolds, Satisfies}
+use Rattle.literal.specs.Assignments.{Assignment, trueUnder, someTrue, Satisfies}
 use Rattle.state.specs.declared.State.{State}
 use Rattle.tables.specs.Tables.{Tables, standing, classOf, valueOf}
 use Rattle.tables.specs.Clauses.{literalsOf}
 use Rattle.tables.specs.Stands.{Stands}
 use Rattle.shape.specs.Shape.{Shape}
 use Rattle.write.specs.Write.{writtenClauses}
-use Rattle.write.specs.Gathered.{gathered, unitAt, classAt, clauseAt, formula}
+use Rattle.write.specs.Gathered.{gathered, unitAt, classAt, writtenAt, formula}
 use Rattle.write.proofs.Bounds.{ready}
 use Rattle.write.proofs.Text.{written-marked, written-unmarked}
 use Rattle.equivalence.proofs.Satisfying.{satisfies-both, satisfies-each, gathered-satisfies, satisfies-gathered}
@@ -30,15 +30,15 @@ module _ (t : Tables) (st : State) (S : Shape t st) (τ : Assignment) where
   classes = gathered (classAt (t .variables)) (st .v) 0
 
   abbrev clauses : List (List ℤ)
-  clauses = gathered (clauseAt (t .clauses) (t .literals)) (st .n) 0
+  clauses = gathered (writtenAt (t .clauses) (t .literals)) (st .n) 0
 
   unit-at : (w : ℕ) → w < st .v → Satisfies τ (unitAt (t .variables) w) ↔ ((valueOf (t .variables) (w + 1) ≡ pos 1 → τ (w + 1) ≡ true) × (valueOf (t .variables) (w + 1) ≡ negsuc 0 → τ (w + 1) ≡ false))
   unit-at w h = unit-says τ (w + 1) (valueOf (t .variables) (w + 1)) (omega arith) (S .variables w h .value)
 
-  class-at : (w : ℕ) → w < st .v → Satisfies τ (classAt (t .variables) w) ↔ (τ (w + 1) ≡ holds τ (classOf (t .variables) (w + 1)))
+  class-at : (w : ℕ) → w < st .v → Satisfies τ (classAt (t .variables) w) ↔ (τ (w + 1) ≡ trueUnder τ (classOf (t .variables) (w + 1)))
   class-at w h = class-says τ (w + 1) (classOf (t .variables) (w + 1)) (omega arith) (S .variables w h .class .above)
 
-  clause-at : (i : ℕ) → i < st .n → Satisfies τ (clauseAt (t .clauses) (t .literals) i) ↔ (standing (t .clauses) i ≡ 1 → someHolds τ (literalsOf (t .clauses) (t .literals) i) ≡ true)
+  clause-at : (i : ℕ) → i < st .n → Satisfies τ (writtenAt (t .clauses) (t .literals) i) ↔ (standing (t .clauses) i ≡ 1 → someTrue τ (literalsOf (t .clauses) (t .literals) i) ≡ true)
   clause-at i h = clause-says τ (standing (t .clauses) i) (literalsOf (t .clauses) (t .literals) i) (S .clauses .parts .flag i h)
 
   formula-stands : st .mark ≡ false → Stands t st τ ↔ Satisfies τ (formula (t .clauses) (t .literals) (t .variables) (st .v) (st .n))
@@ -47,13 +47,13 @@ module _ (t : Tables) (st : State) (S : Shape t st) (τ : Assignment) where
         (gathered-satisfies τ (unitAt (t .variables)) (st .v) (λ w h. unit-at w h .1 (s .truths w h, s .falsehoods w h)))
         (satisfies-both τ classes clauses
         (gathered-satisfies τ (classAt (t .variables)) (st .v) (λ w h. class-at w h .1 (s .classes w h)))
-        (gathered-satisfies τ (clauseAt (t .clauses) (t .literals)) (st .n) (λ i h. clause-at i h .1 (s .clauses i h)))),
+        (gathered-satisfies τ (writtenAt (t .clauses) (t .literals)) (st .n) (λ i h. clause-at i h .1 (s .clauses i h)))),
     λ s.
         let front = satisfies-each τ units (classes ++ clauses) s in
         let back = satisfies-each τ classes clauses (front .1) in
         record {
           unmarked = off;
-          clauses = λ i h. clause-at i h .0 (satisfies-gathered τ (clauseAt (t .clauses) (t .literals)) (st .n) (back .1) i h);
+          clauses = λ i h. clause-at i h .0 (satisfies-gathered τ (writtenAt (t .clauses) (t .literals)) (st .n) (back .1) i h);
           classes = λ w h. class-at w h .0 (satisfies-gathered τ (classAt (t .variables)) (st .v) (back .0) w h);
           truths = λ w h. unit-at w h .0 (satisfies-gathered τ (unitAt (t .variables)) (st .v) (front .0) w h) .0;
           falsehoods = λ w h. unit-at w h .0 (satisfies-gathered τ (unitAt (t .variables)) (st .v) (front .0) w h) .1;

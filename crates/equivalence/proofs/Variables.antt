@@ -86,7 +86,7 @@ found-same f t st = go (f .opposite)
     go true = refl
     go false = refl
 
-fresh-same : (b : Bool) (t : Tables) (st : State) → Same st (failing.unlessStale b t st)
+fresh-same : (b : Bool) (t : Tables) (st : State) → Same st (failing.failedUnlessStale b t st)
 unfolding failedFresh
 fresh-same true t st = found-same (failedFrom (columns (t .times) (t .links)) (2 * st .v) (st .v) 0 (found (t .variables) 0 false)) t st
 fresh-same false t st = refl
@@ -95,7 +95,7 @@ failed-same : (x : Opening) (t : Tables) (st : State) → Same st (failedBy x t 
 failed-same (Denied r) t st = refl
 failed-same Granted t st = fresh-same (st .fresh) t st
 
-swept-same : (b : Bool) (steps k : ℕ) (t : Tables) (st : State) → Same st (sweeping.unlessStale b steps k t st)
+swept-same : (b : Bool) (steps k : ℕ) (t : Tables) (st : State) → Same st (sweeping.sweepUnlessStale b steps k t st)
 swept-same true steps k t st = advance-same _ _ _ _ steps k t st
 swept-same false steps k t st = refl
 

@@ -19,12 +19,12 @@ use Rattle.entry.specs.declared.Opening.{Opening}
 use Rattle.entry.specs.declared.Opening.the-variants.{Denied, Granted}
 use Rattle.entry.proofs.Entering.{granted-entered}
 use Rattle.visits.proofs.Entered.{entered-formed}
-use Rattle.failed.specs.Failed.{Found, found, failedFrom, withVariables, stateAfter, failedReply, failedFresh, unlessStale, failedBy, failedCall}
-use Rattle.failed.specs.Steps.{foundOf, Stamped, Callable}
+use Rattle.failed.specs.Failed.{Found, found, failedFrom, withVariables, stateAfter, failedReply, failedFresh, failedUnlessStale, failedBy, failedCall}
+use Rattle.failed.specs.Steps.{foundOf, FullStamps, Callable}
 use Rattle.failed.specs.declared.Tally.{Tally}
 
 -- the shape rule says of fresh stamps what the functions ask
-pub shape-stamped : {t : Tables} {st : State} → Shape t st → st .fresh ≡ true → Stamped (st .v) (t .times) (t .links)
+pub shape-stamped : {t : Tables} {st : State} → Shape t st → st .fresh ≡ true → FullStamps (st .v) (t .times) (t .links)
 shape-stamped S f = record { few = S .v-limit; times-room = S .long .times; links-room = S .long .links; fresh = S .stamps f }
 
 -- ---- the answer
@@ -37,11 +37,11 @@ module _ (t : Tables) (st : State) (r : Tally) (vs : List ℤ) (is : foundOf r v
 -- ---- fresh or not
 
 module _ (t : Tables) (st : State) where
-  pub fresh-runs : st .fresh ≡ true → failedFresh t st ≡ unlessStale (st .fresh) t st
-  fresh-runs e = ap (λ (b : Bool). unlessStale b t st) (sym e)
+  pub fresh-runs : st .fresh ≡ true → failedFresh t st ≡ failedUnlessStale (st .fresh) t st
+  fresh-runs e = ap (λ (b : Bool). failedUnlessStale b t st) (sym e)
 
-  pub stale-refused : st .fresh ≡ false → refuse Stale st t ≡ unlessStale (st .fresh) t st
-  stale-refused e = ap (λ (b : Bool). unlessStale b t st) (sym e)
+  pub stale-refused : st .fresh ≡ false → refuse Stale st t ≡ failedUnlessStale (st .fresh) t st
+  stale-refused e = ap (λ (b : Bool). failedUnlessStale b t st) (sym e)
 
   -- ---- the two ways of the call
 
@@ -49,7 +49,7 @@ module _ (t : Tables) (st : State) where
   unfolding failedCall
   call-refused r e = ap (λ (x : Opening). failedBy x t st) (sym e)
 
-  pub call-granted : openingOf t st ≡ Granted → unlessStale (st .fresh) t st ≡ failedCall t st
+  pub call-granted : openingOf t st ≡ Granted → failedUnlessStale (st .fresh) t st ≡ failedCall t st
   unfolding failedCall
   call-granted e = ap (λ (x : Opening). failedBy x t st) (sym e)
 

@@ -23,11 +23,11 @@ use Rattle.hidden.proofs.Intervals.{true-holds, inside}
 use Rattle.hidden.proofs.Failed.{Linked, climb, failed-slot, failed-climb}
 use Rattle.hidden.proofs.FreshColumns.{fresh-linked}
 use Rattle.stamp_columns.specs.Slots.{Child}
-use Rattle.failed.specs.Steps.{Rooted, Stamped, Shared}
+use Rattle.failed.specs.Steps.{Rooted, FullStamps, Shared}
 
 -- ---- fresh stamps
 
-module _ {v : ℕ} {times : List ℕ} {links : List ℤ} (S : Stamped v times links) where
+module _ {v : ℕ} {times : List ℕ} {links : List ℤ} (S : FullStamps v times links) where
   pub stamped-linked : Linked (2 * v) (columns times links)
   stamped-linked = fresh-linked times links v (S .fresh)
 
@@ -163,7 +163,7 @@ module _ {times : List ℕ} {links : List ℤ} {s t x : ℕ} (C : Climbing times
       step lower zero le eq = absurd (omega arith)
       step lower (suc m) le eq = (m, omega arith, sym (climb-on σ m x (twin s) short) ∙ eq)
 
-  pub climbing-ends : holds σ x t ≡ true → (v : ℕ) → Stamped v times links → s < 2 * v → x ≡ failedSlot σ (2 * v) s
+  pub climbing-ends : holds σ x t ≡ true → (v : ℕ) → FullStamps v times links → s < 2 * v → x ≡ failedSlot σ (2 * v) s
   climbing-ends e v S lt =
       sym (climb-ends σ (C .steps) x (twin s) (subst (λ (k : ℕ). holds σ x k ≡ true) (C .other) e))
       ∙ C .left

@@ -15,7 +15,7 @@ use Rattle.hidden.specs.Failed.{sameStart, failedSlot}
 use Rattle.tables.specs.Values.{isTrue, isFalse, setTrue}
 use Rattle.visits.specs.Formed.{Variables, Known}
 use Rattle.failed.specs.Failed.{Found, found, assert, failedAt, failedFrom}
-use Rattle.failed.specs.Steps.{foundOf, Rooted, Stamped, Shared, Failable}
+use Rattle.failed.specs.Steps.{foundOf, Rooted, FullStamps, Shared, Failable}
 use Rattle.failed.specs.declared.Tally.{Tally}
 use Rattle.failed.proofs.Climbing.{stamped-rooted, failed-below, slot-ranged}
 use Rattle.failed.proofs.Valuing.{Kept, kept-at, at-most}
@@ -55,7 +55,7 @@ module _ {vs : List ℤ} {times : List ℕ} {links : List ℤ} {w : ℕ} (F : Fa
     pub able-shared : Shared times links (2 * w)
     able-shared = record { count = F .count; stamped = F .stamped; below = first-below; same = same }
 
-    module _ (x : ℕ) (ensured : (v : ℕ) → Stamped v times links → 2 * w < 2 * v → x ≡ failedSlot (columns times links) (2 * v) (2 * w)) where
+    module _ (x : ℕ) (ensured : (v : ℕ) → FullStamps v times links → 2 * w < 2 * v → x ≡ failedSlot (columns times links) (2 * v) (2 * w)) where
       failed-within : x < 2 * F .count
       failed-within = subst (λ (k : ℕ). k < 2 * F .count) (sym (ensured (F .count) (F .stamped) first-below)) (failed-below (F .stamped) (2 * w) first-below same)
 
@@ -101,13 +101,13 @@ from-none σ size v w f le = let e : v - w ≡ 0 = omega arith in ap (λ (m : �
 
 -- before variable w + 1, with n values set
 pub record Failing (v : ℕ) (times : List ℕ) (links : List ℤ) (vs₀ vs : List ℤ) (w n : ℕ) : Type 0 where
-  pub stamped : Stamped v times links
+  pub stamped : FullStamps v times links
   pub rows : Variables v vs
   pub size : length vs ≡ length vs₀
   pub set : n ≤ w
   pub left : failedFrom (columns times links) (2 * v) v 0 (found vs₀ 0 false) ≡ failedFrom (columns times links) (2 * v) (v - w) w (found vs n false)
 
-pub failing-none : {v : ℕ} {times : List ℕ} {links : List ℤ} {vs : List ℤ} → Stamped v times links → Variables v vs → Failing v times links vs vs 0 0
+pub failing-none : {v : ℕ} {times : List ℕ} {links : List ℤ} {vs : List ℤ} → FullStamps v times links → Variables v vs → Failing v times links vs vs 0 0
 failing-none {v} {times} {links} {vs} S R = record {
   stamped = S;
   rows = R;
@@ -127,7 +127,7 @@ module _ {v : ℕ} {times : List ℕ} {links vs₀ vs : List ℤ} {w n : ℕ} (F
     pub failing-few : n ≤ 1024
     failing-few = omega (arith, F .set, F .stamped .few)
 
-    module _ (r : Tally) (vs′ : List ℤ) (ensured : (u : ℕ) → Stamped u times links → w < u → foundOf r vs′ ≡ failedAt (columns times links) (2 * u) w vs n) where
+    module _ (r : Tally) (vs′ : List ℤ) (ensured : (u : ℕ) → FullStamps u times links → w < u → foundOf r vs′ ≡ failedAt (columns times links) (2 * u) w vs n) where
       at-is : foundOf r vs′ ≡ failedAt (columns times links) (2 * v) w vs n
       at-is = ensured v (F .stamped) lt
 

@@ -19,13 +19,13 @@ use Rattle.entry.proofs.Entering.{Entered, granted-entered}
 use Rattle.visits.specs.Formed.{Formed}
 use Rattle.visits.proofs.Forming.{formed-values, formed-marked, formed-shape}
 use Rattle.visits.proofs.Entered.{entered-formed}
-use Rattle.failed.specs.Failed.{Found, found, failedFrom, withVariables, failedFresh, unlessStale, failedBy, failedCall}
-use Rattle.failed.specs.Steps.{Stamped}
+use Rattle.failed.specs.Failed.{Found, found, failedFrom, withVariables, failedFresh, failedUnlessStale, failedBy, failedCall}
+use Rattle.failed.specs.Steps.{FullStamps}
 use Rattle.failed.proofs.Valuing.{Kept, failed-kept}
 use Rattle.failed.proofs.Calling.{shape-stamped}
 
 module _ (t : Tables) (st : State) where
-  pub fresh-shape : Formed (st .v) (st .n) (st .n) false (t .clauses) (t .literals) (t .variables) → Stamped (st .v) (t .times) (t .links) → Shape (failedFresh t st .tables) (failedFresh t st .state)
+  pub fresh-shape : Formed (st .v) (st .n) (st .n) false (t .clauses) (t .literals) (t .variables) → FullStamps (st .v) (t .times) (t .links) → Shape (failedFresh t st .tables) (failedFresh t st .state)
   unfolding failedFresh
   fresh-shape F S = go (f .opposite)
     where
@@ -42,7 +42,7 @@ module _ (t : Tables) (st : State) where
       go true = formed-shape (withVariables (f .variables) t) (marked st) (formed-marked G) (S .times-room) (S .links-room) tt (λ e. S .fresh)
       go false = formed-shape (withVariables (f .variables) t) (closed true st) G (S .times-room) (S .links-room) tt (λ e. S .fresh)
 
-  entered-shape : Entered Idle t st → (b : Bool) → st .fresh ≡ b → Shape (unlessStale b t st .tables) (unlessStale b t st .state)
+  entered-shape : Entered Idle t st → (b : Bool) → st .fresh ≡ b → Shape (failedUnlessStale b t st .tables) (failedUnlessStale b t st .state)
   entered-shape E true e = fresh-shape (entered-formed E tt) (shape-stamped (E .shape) e)
   entered-shape E false e = E .shape
 

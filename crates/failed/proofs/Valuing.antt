@@ -19,7 +19,7 @@ use Rattle.tables.specs.Values.{isTrue, isFalse, setTrue}
 use Rattle.visits.specs.Formed.{Variables}
 use Rattle.visits.proofs.MadeTrue.{true-classes, true-variables}
 use Rattle.failed.specs.Failed.{Found, found, assert, failedAt, failedFrom}
-use Rattle.failed.specs.Steps.{Stamped}
+use Rattle.failed.specs.Steps.{FullStamps}
 use Rattle.failed.proofs.Climbing.{slot-ranged, failed-below}
 
 -- w′ has the classes of w, and is as long; the values may differ
@@ -55,7 +55,7 @@ assert-most l w n = go (isTrue w l) (isFalse w l)
     go false true = omega arith
     go false false = le-refl _
 
-module _ {v : ℕ} {times : List ℕ} {links : List ℤ} (S : Stamped v times links) where
+module _ {v : ℕ} {times : List ℕ} {links : List ℤ} (S : FullStamps v times links) where
   module _ {w : List ℤ} (R : Variables v w) (k : ℕ) (lt : k < v) (n : ℕ) where
     -- one variable
     pub kept-at : Kept v w (failedAt (columns times links) (2 * v) k w n .variables)

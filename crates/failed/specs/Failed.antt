@@ -57,13 +57,13 @@ failedReply f t st = answered (Failed (f .set)) (stateAfter (f .opposite) st) (w
 unfoldable pub failedFresh : Tables → State → After
 failedFresh t st = failedReply (failedFrom (columns (t .times) (t .links)) (2 * st .v) (st .v) 0 (found (t .variables) 0 false)) t st
 
-abbrev pub unlessStale : Bool → Tables → State → After
-unlessStale true t st = failedFresh t st
-unlessStale false t st = refuse Stale st t
+abbrev pub failedUnlessStale : Bool → Tables → State → After
+failedUnlessStale true t st = failedFresh t st
+failedUnlessStale false t st = refuse Stale st t
 
 abbrev pub failedBy : Opening → Tables → State → After
 failedBy (Denied r) t st = refuse r st t
-failedBy Granted t st = unlessStale (st .fresh) t st
+failedBy Granted t st = failedUnlessStale (st .fresh) t st
 
 unfoldable pub failedCall : Tables → State → After
 failedCall t st = failedBy (openingOf t st) t st

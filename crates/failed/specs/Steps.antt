@@ -30,7 +30,7 @@ pub record Rooted (links : List ℤ) (s : ℕ) : Type 0 where
   pub start : Literal 1024 (startIn links s)
 
 -- fresh stamps of v variables
-pub record Stamped (v : ℕ) (times : List ℕ) (links : List ℤ) : Type 0 where
+pub record FullStamps (v : ℕ) (times : List ℕ) (links : List ℤ) : Type 0 where
   pub few : v ≤ 1024
   pub times-room : 4096 ≤ length times
   pub links-room : 4096 ≤ length links
@@ -39,18 +39,18 @@ pub record Stamped (v : ℕ) (times : List ℕ) (links : List ℤ) : Type 0 wher
 -- a slot of stamped variables that has the same start as its twin
 pub record Shared (times : List ℕ) (links : List ℤ) (s : ℕ) : Type 0 where
   pub count : ℕ
-  pub stamped : Stamped count times links
+  pub stamped : FullStamps count times links
   pub below : s < 2 * count
   pub same : sameStart (columns times links) s ≡ true
 
 -- w + 1 is one of the variables that are stamped and whose records these are
 pub record Failable (variables : List ℤ) (times : List ℕ) (links : List ℤ) (w : ℕ) : Type 0 where
   pub count : ℕ
-  pub stamped : Stamped count times links
+  pub stamped : FullStamps count times links
   pub rows : Variables count variables
   pub below : w < count
 
 -- what a call that refusals 1, 4 and 5 let pass knows
 pub record Callable (st : State) (variables : List ℤ) (times : List ℕ) (links : List ℤ) : Type 0 where
   pub rows : Variables (st .v) variables
-  pub stamped : st .fresh ≡ true → Stamped (st .v) times links
+  pub stamped : st .fresh ≡ true → FullStamps (st .v) times links

@@ -17,8 +17,8 @@ ghost use Rattle.hidden.specs.Failed.{sameStart, failedSlot};
 ghost use Rattle.tables.specs.Lent.{lent, returned, unlent};
 ghost use Rattle.tables.specs.Calls.{after};
 ghost use Rattle.visits.specs.Formed.{Variables, Known};
-ghost use Rattle.failed.specs.Failed.{found, assert, failedAt, failedFrom, failedFresh, unlessStale, failedCall, stateAfter};
-ghost use Rattle.failed.specs.Steps.{foundOf, root, Rooted, Stamped, Shared, Failable, Callable};
+ghost use Rattle.failed.specs.Failed.{found, assert, failedAt, failedFrom, failedFresh, failedUnlessStale, failedCall, stateAfter};
+ghost use Rattle.failed.specs.Steps.{foundOf, root, Rooted, FullStamps, Shared, Failable, Callable};
 
 // How many values were set, and whether the opposite value was met.
 pub struct Tally {
@@ -58,7 +58,7 @@ fn holds(times: &[u32], a: u32, b: u32) -> bool
 // It ends: the start holds both, and discovery falls from each slot to its parent.
 fn climb(times: &[u32], links: &[i32], s: u32) -> u32
     requires { ⌜ Shared (now times) (now links) s ⌝ }
-    ensures { λ r. ⌜ ((v : ℕ) → Stamped v (now (times .entry)) (now (links .entry)) → s < 2 * v → r ≡ failedSlot (columns (now (times .entry)) (now (links .entry))) (2 * v) s) ⌝ }
+    ensures { λ r. ⌜ ((v : ℕ) → FullStamps v (now (times .entry)) (now (links .entry)) → s < 2 * v → r ≡ failedSlot (columns (now (times .entry)) (now (links .entry))) (2 * v) s) ⌝ }
 {
     let t = literal::twin_of(s);
     let mut x = s;
@@ -95,7 +95,7 @@ fn assert_true(variables: &mut [i32], l: i32, n: u32) -> Tally
 // Variable w + 1, of slots 2w and 2w + 1: the complement of the literal that has failed, if one has, becomes true.
 fn fail_variable(variables: &mut [i32], times: &[u32], links: &[i32], w: u32, n: u32) -> Tally
     requires { ⌜ Failable (now variables) (now times) (now links) w × (n ≤ 1024) ⌝ }
-    ensures { λ r. ⌜ ((v : ℕ) → Stamped v (now (times .entry)) (now (links .entry)) → w < v
+    ensures { λ r. ⌜ ((v : ℕ) → FullStamps v (now (times .entry)) (now (links .entry)) → w < v
         → foundOf r (now (variables .exit)) ≡ failedAt (columns (now (times .entry)) (now (links .entry))) (2 * v) w (now (variables .entry)) n) ⌝ }
 {
     let s = 2 * w;
@@ -113,7 +113,7 @@ fn fail_variable(variables: &mut [i32], times: &[u32], links: &[i32], w: u32, n:
 
 // The v variables in rising order; the opposite value ends it.
 fn fail_from(variables: &mut [i32], times: &[u32], links: &[i32], v: u32) -> Tally
-    requires { ⌜ Stamped v (now times) (now links) × Variables v (now variables) ⌝ }
+    requires { ⌜ FullStamps v (now times) (now links) × Variables v (now variables) ⌝ }
     ensures { λ r. ⌜ foundOf r (now (variables .exit)) ≡ failedFrom (columns (now (times .entry)) (now (links .entry))) (2 * v) v 0 (found (now (variables .entry)) 0 false) ⌝ }
 {
     let mut w: u32 = 0;
@@ -147,7 +147,7 @@ fn state_after(st: State, opposite: bool) -> State
 
 // The call on fresh stamps, for every content of the clause and literal tables, which it does not read.
 fn failed_fresh(variables: &mut [i32], times: &[u32], links: &[i32], st: State) -> Outcome
-    requires { ⌜ Stamped (st .v) (now times) (now links) × Variables (st .v) (now variables) ⌝ }
+    requires { ⌜ FullStamps (st .v) (now times) (now links) × Variables (st .v) (now variables) ⌝ }
     ensures { λ r. ⌜ ((clauses : List ℕ) (literals : List ℤ) → after r (returned (unlent clauses) (unlent literals) variables times links)
         ≡ failedFresh (lent (unlent clauses) (unlent literals) variables times links) st) ⌝ }
 {
@@ -164,7 +164,7 @@ fn failed_fresh(variables: &mut [i32], times: &[u32], links: &[i32], st: State) 
 pub fn unless_stale(variables: &mut [i32], times: &[u32], links: &[i32], st: State) -> Outcome
     requires { ⌜ Callable st (now variables) (now times) (now links) ⌝ }
     ensures { λ r. ⌜ ((clauses : List ℕ) (literals : List ℤ) → after r (returned (unlent clauses) (unlent literals) variables times links)
-        ≡ unlessStale (st .fresh) (lent (unlent clauses) (unlent literals) variables times links) st) ⌝ }
+        ≡ failedUnlessStale (st .fresh) (lent (unlent clauses) (unlent literals) variables times links) st) ⌝ }
 {
     if st.fresh {
         return failed_fresh(variables, times, links, st);

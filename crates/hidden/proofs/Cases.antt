@@ -7,7 +7,7 @@ use Rattle.base.specs.Lists.{any, filter, first, anyBelow}
 use Rattle.literal.specs.Literals.{twin}
 use Rattle.walk.specs.Walk.{Stamps}
 use Rattle.walk.specs.Compressed.{stamps}
-use Rattle.hidden.specs.Hidden.{holds, insert, byDiscovery, passes, scanAt, scan, hiddenTautology, unhidden, shorten, without, loop, start, linesPos, linesNeg, figure5}
+use Rattle.hidden.specs.Hidden.{holds, insert, byDiscovery, passes, scanAt, scan, hiddenTautology, unhidden, shorten, without, loop, loopFrom, linesPos, linesNeg, figure5}
 use Rattle.hidden.specs.Failed.{sameStart, holdsBoth, lowest, failedSlot}
 
 -- P2, (-1 2)(-2 3)(1 3 4): 1 is [1,6], 2 [2,5], 3 [3,4], -3 [7,12], -2 [8,11], -1 [9,10], 4 [13,14], -4 [15,16]; P3 and P5 have the same stamps
@@ -39,7 +39,7 @@ columns4 = stamps 20 (5 ∷ 11 ∷ 6 ∷ 10 ∷ 2 ∷ 9 ∷ 1 ∷ 14 ∷ 17 ∷ 
 
 -- of (1 3 5), 1 goes since its complement is held by -3, though 1 does not hold 3
 contrapositive : (hiddenTautology columns4 (0 ∷ 4 ∷ 8 ∷ []) ≡ false) × (shorten (λ s. s) columns4 (0 ∷ 4 ∷ 8 ∷ []) ≡ 4 ∷ 8 ∷ []) × (figure5 columns4 (0 ∷ 4 ∷ 8 ∷ []) ≡ 4 ∷ 8 ∷ [])
-unfolding columns4 filter twin holds insert byDiscovery passes scanAt scan hiddenTautology any unhidden shorten without loop start linesPos linesNeg figure5
+unfolding columns4 filter twin holds insert byDiscovery passes scanAt scan hiddenTautology any unhidden shorten without loop loopFrom linesPos linesNeg figure5
 contrapositive = (refl, refl, refl)
 
 -- source document 000, end of section 5: the clause (a b c) is a hidden tautology; shortened, it is none
@@ -47,5 +47,5 @@ columns5 : Stamps
 columns5 = stamps 12 (2 ∷ 9 ∷ 1 ∷ 5 ∷ 6 ∷ 11 ∷ []) (3 ∷ 10 ∷ 4 ∷ 8 ∷ 7 ∷ 12 ∷ []) (2 ∷ 1 ∷ 2 ∷ 3 ∷ 3 ∷ 5 ∷ []) (2 ∷ 1 ∷ 2 ∷ 3 ∷ 3 ∷ 5 ∷ [])
 
 scan-first : (hiddenTautology columns5 (0 ∷ 2 ∷ 4 ∷ []) ≡ true) × (shorten (λ s. s) columns5 (0 ∷ 2 ∷ 4 ∷ []) ≡ 0 ∷ 4 ∷ []) × (figure5 columns5 (0 ∷ 2 ∷ 4 ∷ []) ≡ 0 ∷ 4 ∷ []) × (hiddenTautology columns5 (0 ∷ 4 ∷ []) ≡ false)
-unfolding columns5 filter twin holds insert byDiscovery passes scanAt scan hiddenTautology any unhidden shorten without loop start linesPos linesNeg figure5
+unfolding columns5 filter twin holds insert byDiscovery passes scanAt scan hiddenTautology any unhidden shorten without loop loopFrom linesPos linesNeg figure5
 scan-first = (refl, refl, refl, refl)

@@ -15,7 +15,7 @@ use Rattle.literal.specs.Literals.{twin}
 use Rattle.literal.proofs.Twins.{twin-twice, twin-eq}
 use Rattle.walk.specs.Walk.{Stamps}
 use Rattle.walk.specs.Forest.{discoveryAt, finishAt}
-use Rattle.hidden.specs.Hidden.{holds, byDiscovery, unhidden, shorten, without, loop, start, linesPos, linesNeg, figure5}
+use Rattle.hidden.specs.Hidden.{holds, byDiscovery, unhidden, shorten, without, loop, loopFrom, linesPos, linesNeg, figure5}
 use Rattle.hidden.proofs.Intervals.{Nested, Within, holds-true, true-holds, inside}
 use Rattle.hidden.proofs.Sorted.{Sorted, Rising, sorted-in, sorted-out, sorted-rising}
 use Rattle.hidden.proofs.Shorten.{unhidden-self, unhidden-sub}
@@ -115,8 +115,8 @@ module _ (goes : ℕ → ℕ → Bool) (σ : Stamps) where
     hit-first x xs z = rw (W .never (finishAt σ x), hit)
 
     -- so the loop from the second element takes out what the loop from the first would
-    start-filter : (literal : ℕ → ℕ) → ((x : ℕ) → literal (literal x) ≡ x) → (x : ℕ) (xs C : List ℕ) → start goes literal σ (x ∷ xs) C ≡ filter (λ l. not (hit (finishAt σ x) (x ∷ xs) (literal l))) C
-    unfolding start
+    start-filter : (literal : ℕ → ℕ) → ((x : ℕ) → literal (literal x) ≡ x) → (x : ℕ) (xs C : List ℕ) → loopFrom goes literal σ (x ∷ xs) C ≡ filter (λ l. not (hit (finishAt σ x) (x ∷ xs) (literal l))) C
+    unfolding loopFrom
     start-filter literal inv x xs C = loop-filter literal inv (finishAt σ x) xs C ∙ filter-same _ _ C (λ l m. ap not (sym (hit-first x xs (literal l))))
 
     -- a loop whose wrong side means `implies` is the filter by `implies`
@@ -124,8 +124,8 @@ module _ (goes : ℕ → ℕ → Bool) (σ : Stamps) where
         → ((l : ℕ) → List·Memᴰ l C → List·Memᴰ (literal l) xs) → ((x : ℕ) → List·Memᴰ x xs → List·Memᴰ (literal x) C)
         → ((l m : ℕ) → List·Memᴰ l C → List·Memᴰ m C → Ord (literal m) (literal l) → goes (finishAt σ (literal m)) (finishAt σ (literal l)) ≡ true → (m ≡ l → ⊥) × (implies l m ≡ true))
         → ((l m : ℕ) → List·Memᴰ l C → List·Memᴰ m C → (m ≡ l → ⊥) → implies l m ≡ true → (Ord (literal l) (literal m) → ⊥) × (goes (finishAt σ (literal m)) (finishAt σ (literal l)) ≡ true))
-        → start goes literal σ xs C ≡ unhidden (λ s. s) implies C
-    unfolding start unhidden filter
+        → loopFrom goes literal σ xs C ≡ unhidden (λ s. s) implies C
+    unfolding loopFrom unhidden filter
     loop-unhidden literal inv Ord implies [] [] s to from there back = refl
     loop-unhidden literal inv Ord implies (c ∷ C) [] s to from there back = absurd (List·Memᴰ·not-nil (to c (List·Memᴰ·head refl)))
     loop-unhidden literal inv Ord implies C (x ∷ xs) s to from there back =

@@ -77,17 +77,17 @@ loop goes literal σ finished (x ∷ xs) C =
     ]
 
 -- lines 1 and 5: the first element gives `finished`, and the loop starts at the second
-unfoldable pub start : (ℕ → ℕ → Bool) → (ℕ → ℕ) → Stamps → List ℕ → List ℕ → List ℕ
-start goes literal σ [] C = C
-start goes literal σ (x ∷ xs) C = loop goes literal σ (finishAt σ x) xs C
+unfoldable pub loopFrom : (ℕ → ℕ → Bool) → (ℕ → ℕ) → Stamps → List ℕ → List ℕ → List ℕ
+loopFrom goes literal σ [] C = C
+loopFrom goes literal σ (x ∷ xs) C = loop goes literal σ (finishAt σ x) xs C
 
 -- over the literals by falling discovery: l goes if fin l > finished
 unfoldable pub linesPos : Stamps → List ℕ → List ℕ
-linesPos σ C = start (λ finished f. ltb finished f) (λ l. l) σ (reverse (byDiscovery σ C)) C
+linesPos σ C = loopFrom (λ finished f. ltb finished f) (λ l. l) σ (reverse (byDiscovery σ C)) C
 
 -- over the complements by rising discovery: l goes if fin (twin l) < finished
 unfoldable pub linesNeg : Stamps → List ℕ → List ℕ
-linesNeg σ C = start (λ finished f. ltb f finished) twin σ (byDiscovery σ (map twin C)) C
+linesNeg σ C = loopFrom (λ finished f. ltb f finished) twin σ (byDiscovery σ (map twin C)) C
 
 unfoldable pub figure5 : Stamps → List ℕ → List ℕ
 figure5 σ C = linesNeg σ (linesPos σ C)

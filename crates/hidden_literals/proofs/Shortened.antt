@@ -23,7 +23,7 @@ use Rattle.hidden.proofs.Intervals.{Nested, Within}
 use Rattle.hidden.proofs.Sorted.{Rising, sorted-out, sorted-rising}
 use Rattle.stamp_columns.specs.Slots.{Slots}
 use Rattle.discovery_order.proofs.Sorting.{length-sorted}
-use Rattle.clause_slots.specs.Stamped.{Inside, Clause}
+use Rattle.clause_slots.specs.Stamped.{StampedSlots, StampedClause}
 use Rattle.clause_slots.proofs.Clause.{clause-literals, clause-within, clause-lits}
 use Rattle.hidden_literals.specs.Sorted.{Sorted}
 use Rattle.hidden_literals.specs.Figures.{least, inner, outer, keptBy}
@@ -77,7 +77,7 @@ inner-shorter σ (x ∷ xs) = go (ltb (least σ xs) (finishAt σ x)) (inner-shor
     go true h = omega arith
     go false h = omega arith
 
-module _ {times : List ℕ} {C : List ℤ} (K : Clause times C) where
+module _ {times : List ℕ} {C : List ℤ} (K : StampedClause times C) where
   abbrev σ : Stamps
   σ = columns times []
 
@@ -87,7 +87,7 @@ module _ {times : List ℕ} {C : List ℤ} (K : Clause times C) where
   pub clause-slots : Slots times (byDiscovery σ (map slotOf C))
   clause-slots = record { size = 2 * K .vars; few = omega (arith, K .few); room = omega (arith, K .few, K .long); each = λ x m. clause-within K x (sorted-out σ (map slotOf C) m) .0 }
 
-  pub clause-inside : Inside times (innerSlots σ C)
+  pub clause-inside : StampedSlots times (innerSlots σ C)
   clause-inside = record { vars = K .vars; few = K .few; long = K .long; each = λ x m. clause-within K x (inner-mem (2 * K .vars) σ (K .nested) C (clause-within K) clause-small m) .0 }
 
   pub inner-length : length (innerSlots σ C) ≤ length C
@@ -120,7 +120,7 @@ module _ {times : List ℕ} {C : List ℤ} (K : Clause times C) where
 
 -- ---- what the calls of `shorten_part` have given
 
-module _ {times : List ℕ} {C : List ℤ} (K : Clause times C) {slots : List ℕ} (sorted : slots ≡ byDiscovery (columns times []) (map slotOf C)) (s₁ : List ℕ) (first : ℕ)
+module _ {times : List ℕ} {C : List ℤ} (K : StampedClause times C) {slots : List ℕ} (sorted : slots ≡ byDiscovery (columns times []) (map slotOf C)) (s₁ : List ℕ) (first : ℕ)
     (inners : (links : List ℤ) → drop first s₁ ≡ inner (columns times links) slots) where
   pub inner-given : drop first s₁ ≡ innerSlots (columns times []) C
   inner-given = inners [] ∙ ap (inner (columns times [])) sorted

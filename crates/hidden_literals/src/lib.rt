@@ -7,7 +7,7 @@ ghost use lib.IntN.{ℤ, pos};
 ghost use Rattle.literal.specs.Literals.{slotOf, twin};
 ghost use Rattle.stamp_columns.specs.Columns.{columns};
 ghost use Rattle.hidden.specs.Hidden.{byDiscovery, shorten};
-ghost use Rattle.clause_slots.specs.Stamped.{Inside, Clause};
+ghost use Rattle.clause_slots.specs.Stamped.{StampedSlots, StampedClause};
 ghost use Rattle.hidden_literals.specs.Sorted.{Searched, Sorted};
 ghost use Rattle.hidden_literals.specs.Figures.{inner, outer, among, keptBy};
 ghost use Rattle.stamp_columns.specs.Slots.{Slots};
@@ -100,7 +100,7 @@ fn keep_part(part: &mut [i32], slots: &[u32], times: &[u32]) -> usize
 
 // The complements of slots, by rising discovery, without those that another holds: they are put in front; returns how many.
 fn outer_twins(slots: &[u32], twins: &mut [u32], times: &[u32]) -> usize
-    requires { ⌜ Inside (now times) (now slots) × (length (now twins) ≡ length (now slots)) ⌝ }
+    requires { ⌜ StampedSlots (now times) (now slots) × (length (now twins) ≡ length (now slots)) ⌝ }
     ensures { λ r. ⌜ (r ≤ length (now (slots .entry))) × (take r (now (twins .exit)) ≡ outer (columns (now (times .entry)) []) 0 (byDiscovery (columns (now (times .entry)) []) (map twin (now (slots .entry))))) ⌝ }
 {
     clause_slots::twins_of(slots, twins);
@@ -110,7 +110,7 @@ fn outer_twins(slots: &[u32], twins: &mut [u32], times: &[u32]) -> usize
 
 // Figure 5 on a part whose slots are given by rising discovery, with room for as many; how many literals stay.
 pub fn shorten_part(part: &mut [i32], slots: &mut [u32], twins: &mut [u32], times: &[u32]) -> usize
-    requires { ⌜ Clause (now times) (now part) × (now slots ≡ byDiscovery (columns (now times) []) (map slotOf (now part))) × (length (now twins) ≡ length (now part)) ⌝ }
+    requires { ⌜ StampedClause (now times) (now part) × (now slots ≡ byDiscovery (columns (now times) []) (map slotOf (now part))) × (length (now twins) ≡ length (now part)) ⌝ }
     ensures { λ r. ⌜ (r ≡ length (shorten slotOf (columns (now (times .entry)) []) (now (part .entry))))
         × (now (part .exit) ≡ shorten slotOf (columns (now (times .entry)) []) (now (part .entry)) ++ replicate (length (now (part .entry)) - length (shorten slotOf (columns (now (times .entry)) []) (now (part .entry)))) (pos 0)) ⌝ }
 {

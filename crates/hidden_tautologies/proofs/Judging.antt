@@ -15,7 +15,7 @@ use Rattle.stamp_columns.proofs.Columns.{column-finishes}
 use Rattle.hidden.proofs.FreshColumns.{fresh-nested}
 use Rattle.hidden.proofs.Sorted.{sorted-out}
 use Rattle.stamp_columns.specs.Slots.{Slots}
-use Rattle.clause_slots.specs.Stamped.{Lits, Inside, Clause}
+use Rattle.clause_slots.specs.Stamped.{Lits, StampedSlots, StampedClause}
 use Rattle.hidden_tautologies.specs.Judged.{Both, Judged}
 use Rattle.clause_slots.proofs.Clause.{inside-small, inside-twins, clause-within, clause-lits}
 
@@ -24,7 +24,7 @@ module _ {times : List ℕ} {links C : List ℤ} (J : Judged times links C) wher
   timed : Nested (2 * J .vars) (columns times [])
   timed = let N = fresh-nested times links (J .vars) (J .stamped .fresh) in record { spans = N .spans; parted = N .parted }
 
-  pub judged-clause : Clause times C
+  pub judged-clause : StampedClause times C
   judged-clause = record {
     vars = J .vars;
     few = J .stamped .few;
@@ -41,7 +41,7 @@ module _ {times : List ℕ} {links C : List ℤ} (J : Judged times links C) wher
   unfolding judged-clause
   judged-below x m = clause-within judged-clause x m
 
-  judged-inside : Inside times (map slotOf C)
+  judged-inside : StampedSlots times (map slotOf C)
   judged-inside = record { vars = J .vars; few = J .stamped .few; long = J .long; each = λ x m. judged-below x m .0 }
 
   module _ (s₁ t₁ : List ℕ) (slots : s₁ ≡ map slotOf C) (twins : t₁ ≡ map twin s₁) where

@@ -5,13 +5,13 @@ use mathlib.Core.Path.{_≡_, refl, sym, ap, _∙_}
 use mathlib.Core.Bool.{not, Bool·not-not}
 use lib.IntN.{ℤ, pos, negsuc, negℤ, natAbs}
 use Rattle.literal.specs.Literals.{litAt, twin}
-use Rattle.literal.specs.Assignments.{Assignment, holds}
+use Rattle.literal.specs.Assignments.{Assignment, trueUnder}
 use Rattle.literal.proofs.Laws.{lit-above, lit-twin}
 
-pub holds-neg : (τ : Assignment) (l : ℤ) → 0 < natAbs l → holds τ (negℤ l) ≡ not (holds τ l)
+pub holds-neg : (τ : Assignment) (l : ℤ) → 0 < natAbs l → trueUnder τ (negℤ l) ≡ not (trueUnder τ l)
 holds-neg τ (pos zero) h = absurd (omega arith)
 holds-neg τ (pos (suc n)) h = refl
 holds-neg τ (negsuc n) h = sym (Bool·not-not (τ (suc n)))
 
-pub holds-twin : (τ : Assignment) (s : ℕ) → holds τ (litAt (twin s)) ≡ not (holds τ (litAt s))
-holds-twin τ s = ap (holds τ) (lit-twin s) ∙ holds-neg τ (litAt s) (lit-above s)
+pub holds-twin : (τ : Assignment) (s : ℕ) → trueUnder τ (litAt (twin s)) ≡ not (trueUnder τ (litAt s))
+holds-twin τ s = ap (trueUnder τ) (lit-twin s) ∙ holds-neg τ (litAt s) (lit-above s)

@@ -15,15 +15,15 @@ truthBy true b = b
 truthBy false b = not b
 
 -- the truth of a literal
-abbrev pub holds : Assignment → ℤ → Bool
-holds τ l = truthBy (nonNeg l) (τ (natAbs l))
+abbrev pub trueUnder : Assignment → ℤ → Bool
+trueUnder τ l = truthBy (nonNeg l) (τ (natAbs l))
 
 -- some literal of the clause is true
-abbrev pub someHolds : Assignment → List ℤ → Bool
-someHolds τ [] = false
-someHolds τ (l ∷ ls) = holds τ l || someHolds τ ls
+abbrev pub someTrue : Assignment → List ℤ → Bool
+someTrue τ [] = false
+someTrue τ (l ∷ ls) = trueUnder τ l || someTrue τ ls
 
 -- an assignment satisfies the clauses
 unfoldable pub Satisfies : Assignment → List (List ℤ) → Type 0
 Satisfies τ [] = Unit {0}
-Satisfies τ (c ∷ cs) = (someHolds τ c ≡ true) × Satisfies τ cs
+Satisfies τ (c ∷ cs) = (someTrue τ c ≡ true) × Satisfies τ cs

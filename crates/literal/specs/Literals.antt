@@ -3,6 +3,8 @@
 -- The record number of a literal is called its slot; the slot of the complement is its twin. Assumes nothing: these are definitions.
 use Prim.Native.Nat.{ℕ, _+_, _*_, _-_, _/_, _%_, _<_, _≤_}
 use mathlib.Core.Bool.{Bool, true, false, _&&_}
+use mathlib.Core.List.{List}
+use lib.ListN.{length, getD}
 use lib.Dec.{leb, ltb, eqb}
 use lib.IntN.{ℤ, pos, negsuc, negℤ, natAbs}
 use lib.Signed.{nonNeg}
@@ -10,6 +12,10 @@ use lib.Signed.{nonNeg}
 -- an i32 that is not the smallest, so that its complement is an i32 too
 pub record Small (l : ℤ) : Type 0 where
   pub small : natAbs l < 2147483648
+
+-- no literal of a list is the smallest i32, so that each has a complement
+pub record EachSmall (C : List ℤ) : Type 0 where
+  pub each : (k : ℕ) → k < length C → Small (getD C k (pos 0))
 
 -- a literal of the variables 1 to v
 pub record Literal (v : ℕ) (l : ℤ) : Type 0 where

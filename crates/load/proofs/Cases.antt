@@ -4,12 +4,12 @@ use mathlib.Core.Path.{_≡_, refl}
 use mathlib.Core.Bool.{Bool, true, false}
 use mathlib.Core.List.{List, [], _∷_, _++_}
 use Prim.Native.Nat.{ℕ, zero, suc}
-use Prim.Native.String.{String, [] as nil, _∷_ as cons}
-use Prim.Native.Char.{code}
+use Prim.Native.String.{String}
 use native.Mathlib.Decide.{decLe}
 use native.Mathlib.Omega.{arith}
 use lib.ListN.{length, take, drop, replicate}
 use lib.IntN.{ℤ, pos, negsuc}
+use Rattle.base.specs.Bytes.{bytes}
 use Rattle.base.specs.Decide.{and?, so?}
 use Rattle.state.specs.States.{state, loadedState}
 use Rattle.state.specs.Answers.{Reply, reply, refusalNumber, refusalPlace}
@@ -24,10 +24,6 @@ use Rattle.dimacs.specs.Text.{judge, judgeText, clausesOf}
 use Rattle.dimacs.specs.declared.Verdict.{Verdict}
 use Rattle.dimacs.specs.declared.Verdict.the-variants.{Refused as No, Fits}
 use Rattle.load.specs.Load.{loadCall, laid, clauseRecords, literalPlaces, variableRecords}
-
-abbrev bytes : String → List ℕ
-bytes nil = []
-bytes (cons c s) = code c ∷ bytes s
 
 -- ---- what a load starts from: tables that hold 7 everywhere, with one place more than stated, and a state with an open pass and fresh stamps
 abbrev lent : ℕ → Tables

@@ -23,7 +23,7 @@ use Rattle.dimacs.specs.Text.{Budget, budget, judge, literalOf, clausesOf}
 use Rattle.dimacs.specs.declared.Verdict.the-variants.{Fits}
 use Rattle.dimacs.proofs.Judge.{Seen, SeenLiteral, judge-zero, judge-literal}
 use Rattle.load.specs.Load.{keptOf, clauseRecords, literalPlaces, anyEmpty}
-use Rattle.load.specs.Laid.{Work, work, progress, keptEnd, flag, recordAt, endClause, wasRead, addLiteral, Ending, Adding, Accepted, LaidBy}
+use Rattle.load.specs.Laid.{Work, work, progress, keptEnd, flag, putClauseRecord, endClause, wasRead, addLiteral, ClauseEnd, Adding, Accepted, LaidBy}
 use Rattle.load.proofs.Steps.{kept-between, add-repeat, add-new}
 use Rattle.load.proofs.Texts.{fits-not-bad, fits-zero, fits-clause, fits-range, fits-room, fits-seen, fits-literal, clauses-zero, clauses-literal, clauses-end}
 
@@ -237,23 +237,23 @@ module _ {text : List ℕ} {body : ℕ} {c₀ : List ℕ} {l₀ : List ℤ} {at 
 
 -- ---- a clause's end
 record-is : (c : List ℕ) (k start size standing : ℕ) → 3 * k + 3 ≤ length c
-    → recordAt c k start size standing ≡ (take (3 * k) c ++ (start ∷ size ∷ standing ∷ [])) ++ drop (3 * k + 3) c
+    → putClauseRecord c k start size standing ≡ (take (3 * k) c ++ (start ∷ size ∷ standing ∷ [])) ++ drop (3 * k + 3) c
 record-is c k start size standing h =
     let two : 3 * k + 2 ≡ suc (3 * k + 1) = omega arith in
-    let e : recordAt c k start size standing ≡ sets c (3 * k) (start ∷ size ∷ standing ∷ []) = rw (two, add-one (3 * k)) in
+    let e : putClauseRecord c k start size standing ≡ sets c (3 * k) (start ∷ size ∷ standing ∷ []) = rw (two, add-one (3 * k)) in
     e ∙ sets-eq (start ∷ size ∷ standing ∷ []) c (3 * k) h
 
 record-front : (c : List ℕ) (k start size standing : ℕ) → 3 * k + 3 ≤ length c
-    → take (3 * (k + 1)) (recordAt c k start size standing) ≡ take (3 * k) c ++ (start ∷ size ∷ standing ∷ [])
+    → take (3 * (k + 1)) (putClauseRecord c k start size standing) ≡ take (3 * k) c ++ (start ∷ size ∷ standing ∷ [])
 record-front c k start size standing h =
     let p : List ℕ = take (3 * k) c ++ (start ∷ size ∷ standing ∷ []) in
     let n : length p ≡ 3 * (k + 1) = length-append (take (3 * k) c) (start ∷ size ∷ standing ∷ []) ∙ omega (arith, length-take-le (3 * k) c (omega arith)) in
     ap (take (3 * (k + 1))) (record-is c k start size standing h) ∙ take-at p (drop (3 * k + 3) c) (3 * (k + 1)) n
 
-record-length : (c : List ℕ) (k start size standing : ℕ) → length (recordAt c k start size standing) ≡ length c
+record-length : (c : List ℕ) (k start size standing : ℕ) → length (putClauseRecord c k start size standing) ≡ length c
 record-length c k start size standing = simp length-set
 
-record-beyond : (c : List ℕ) (k start size standing : ℕ) → 3 * k + 2 < 12288 → drop 12288 (recordAt c k start size standing) ≡ drop 12288 c
+record-beyond : (c : List ℕ) (k start size standing : ℕ) → 3 * k + 2 < 12288 → drop 12288 (putClauseRecord c k start size standing) ≡ drop 12288 c
 record-beyond c k start size standing h =
     drop-set-lt 12288 (set (set c (3 * k) start) (3 * k + 1) size) (3 * k + 2) standing h
     ∙ drop-set-lt 12288 (set c (3 * k) start) (3 * k + 1) size (omega arith)
@@ -312,7 +312,7 @@ module _ {text : List ℕ} {body : ℕ} {c₀ : List ℕ} {l₀ : List ℤ} {at 
     zero-clause : L .n - w .progress .clauses ≡ 0 → ⊥
     zero-clause = fits-zero (L .v) (budgetOf L) (length text) (L .n) body (L .accepted) s
 
-    pub zero-ending : Ending (length (w .clauses)) (w .progress)
+    pub zero-ending : ClauseEnd (length (w .clauses)) (w .progress)
     zero-ending = record {
       room = omega (arith, zero-clause, L .number .0, L .long .0);
       begins = L .begins;

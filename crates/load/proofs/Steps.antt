@@ -9,7 +9,7 @@ use lib.ListN.{getD, set}
 use lib.IntN.{ℤ, negℤ}
 use borrow.Author.Tests.{eq-eqb, ne-eqb}
 use Rattle.literal.specs.Literals.{slotOf}
-use Rattle.load.specs.Laid.{Work, work, progress, keptEnd, flag, recordAt, endClause, wasRead, addLiteral}
+use Rattle.load.specs.Laid.{Work, work, progress, keptEnd, flag, putClauseRecord, endClause, wasRead, addLiteral}
 use Rattle.load.specs.declared.Progress.{Progress}
 
 pub or-when-true : (a b : Bool) → a ≡ true → a ≡ (a || b)
@@ -29,7 +29,7 @@ kept-between p h = go (p .dropped)
     go false = (h, omega arith)
 
 pub ended : (c : List ℕ) (p : Progress) {c′ : List ℕ} {end standing : ℕ} {mark : Bool}
-    → end ≡ keptEnd p → standing ≡ flag (p .dropped) → c′ ≡ recordAt c (p .clauses) (p .start) (end - p .start) standing → mark ≡ (p .mark || eqb (p .end) (p .start))
+    → end ≡ keptEnd p → standing ≡ flag (p .dropped) → c′ ≡ putClauseRecord c (p .clauses) (p .start) (end - p .start) standing → mark ≡ (p .mark || eqb (p .end) (p .start))
     → (l : List ℤ) (s : List ℕ) → work c′ l s (progress (p .clauses + 1) end end false mark) ≡ endClause (work c l s p)
 unfolding endClause
 ended c p e f g h l s = rw (g, h, f, e)

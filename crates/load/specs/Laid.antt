@@ -40,14 +40,14 @@ abbrev pub flag : Bool → ℕ
 flag dropped = elim dropped [ true ↦ 0 | false ↦ 1 ]
 
 -- the clause table with the record of clause k, counted from 0
-abbrev pub recordAt : List ℕ → ℕ → ℕ → ℕ → ℕ → List ℕ
-recordAt c k start size standing = set (set (set c (3 * k) start) (3 * k + 1) size) (3 * k + 2) standing
+abbrev pub putClauseRecord : List ℕ → ℕ → ℕ → ℕ → ℕ → List ℕ
+putClauseRecord c k start size standing = set (set (set c (3 * k) start) (3 * k + 1) size) (3 * k + 2) standing
 
 -- the clause ends
 unfoldable pub endClause : Work → Work
 endClause w =
     work
-    (recordAt (w .clauses) (w .progress .clauses) (w .progress .start) (keptEnd (w .progress) - w .progress .start) (flag (w .progress .dropped)))
+    (putClauseRecord (w .clauses) (w .progress .clauses) (w .progress .start) (keptEnd (w .progress) - w .progress .start) (flag (w .progress .dropped)))
     (w .literals)
     (w .seen)
     (progress (w .progress .clauses + 1) (keptEnd (w .progress)) (keptEnd (w .progress)) false (w .progress .mark || eqb (w .progress .end) (w .progress .start)))
@@ -69,7 +69,7 @@ addLiteral l w =
     ]
 
 -- there is a record for the clause that ends
-pub record Ending (clauses : ℕ) (p : Progress) : Type 0 where
+pub record ClauseEnd (clauses : ℕ) (p : Progress) : Type 0 where
   pub room : 3 * p .clauses + 3 ≤ clauses
   pub begins : p .start ≤ p .end
   pub within : p .end ≤ 16384

@@ -12,7 +12,7 @@ ghost use Rattle.state.specs.declared.State.{State};
 ghost use Rattle.tables.specs.Lent.{lent, returned, unlent};
 ghost use Rattle.tables.specs.Calls.{after};
 ghost use Rattle.load.specs.Load.{variableRecords, filled, loadBy, loadCall};
-ghost use Rattle.load.specs.Laid.{work, keptEnd, flag, recordAt, endClause, addLiteral, cleared, Ending, Adding, Accepted, LaidBy, LayReady, askLoad};
+ghost use Rattle.load.specs.Laid.{work, keptEnd, flag, putClauseRecord, endClause, addLiteral, cleared, ClauseEnd, Adding, Accepted, LaidBy, LayReady, askLoad};
 use dimacs::Token;
 use dimacs::Verdict;
 use state::Answer;
@@ -54,7 +54,7 @@ fn standing_flag(dropped: bool) -> u32
 // The record of clause k, counted from 0.
 fn put_record(clauses: &mut [u32], k: usize, start: u32, size: u32, standing: u32)
     requires { ⌜ 3 * k + 3 ≤ length (now clauses) ⌝ }
-    ensures { λ _. ⌜ now (clauses .exit) ≡ recordAt (now (clauses .entry)) k start size standing ⌝ }
+    ensures { λ _. ⌜ now (clauses .exit) ≡ putClauseRecord (now (clauses .entry)) k start size standing ⌝ }
 {
     let i = 3 * k;
     clauses[i] = start;
@@ -64,7 +64,7 @@ fn put_record(clauses: &mut [u32], k: usize, start: u32, size: u32, standing: u3
 
 // A clause ends: its record is laid, and the next clause starts behind it. It was empty if its literals end where they start.
 fn end_clause(clauses: &mut [u32], p: Progress) -> Progress
-    requires { ⌜ Ending (length (now clauses)) p ⌝ }
+    requires { ⌜ ClauseEnd (length (now clauses)) p ⌝ }
     ensures { λ r. ⌜ ((literals : List ℤ) (seen : List ℕ) → work (now (clauses .exit)) literals seen r ≡ endClause (work (now (clauses .entry)) literals seen p)) ⌝ }
 {
     let start = p.start;

@@ -12,7 +12,7 @@ use Rattle.base.proofs.Lists.{getD-mem}
 use Rattle.base.specs.Decide.{same-or}
 use Rattle.base.proofs.Booleans.{both-ways, not-itself}
 use Rattle.literal.specs.Literals.{Literal, slotOf, litAt, twin}
-use Rattle.literal.specs.Assignments.{Assignment, holds, someHolds}
+use Rattle.literal.specs.Assignments.{Assignment, trueUnder, someTrue}
 use Rattle.literal.proofs.Laws.{lit-slot, slot-below}
 use Rattle.literal.proofs.Truth.{holds-twin}
 use Rattle.walk.specs.Forest.{Reach}
@@ -37,13 +37,13 @@ use Rattle.merge.proofs.Opening.{clashes-some}
 -- ---- literals and slots
 
 -- a clause that is satisfied has a true literal, by its place
-true-place : (τ : Assignment) (C : List ℤ) → someHolds τ C ≡ true → (k : ℕ) × (k < length C) × (holds τ (getD C k (pos 0)) ≡ true)
+true-place : (τ : Assignment) (C : List ℤ) → someTrue τ C ≡ true → (k : ℕ) × (k < length C) × (trueUnder τ (getD C k (pos 0)) ≡ true)
 true-place τ [] e = absurd (false≢true e)
-true-place τ (x ∷ C) e = go (λ h. true-place τ C h) (holds τ x) refl
+true-place τ (x ∷ C) e = go (λ h. true-place τ C h) (trueUnder τ x) refl
   where
-    go : (someHolds τ C ≡ true → (k : ℕ) × (k < length C) × (holds τ (getD C k (pos 0)) ≡ true)) → (b : Bool) → holds τ x ≡ b → (k : ℕ) × (k < length (x ∷ C)) × (holds τ (getD (x ∷ C) k (pos 0)) ≡ true)
+    go : (someTrue τ C ≡ true → (k : ℕ) × (k < length C) × (trueUnder τ (getD C k (pos 0)) ≡ true)) → (b : Bool) → trueUnder τ x ≡ b → (k : ℕ) × (k < length (x ∷ C)) × (trueUnder τ (getD (x ∷ C) k (pos 0)) ≡ true)
     go rest true h = (0, omega arith, h)
-    go rest false h = let r = rest (ap (λ (b : Bool). b || someHolds τ C) (sym h) ∙ e) in (suc (r .0), omega (arith, r .1), r .2)
+    go rest false h = let r = rest (ap (λ (b : Bool). b || someTrue τ C) (sym h) ∙ e) in (suc (r .0), omega (arith, r .1), r .2)
 
 -- ---- a dropped clause has no literals, and gives no edges
 
@@ -80,12 +80,12 @@ present-edges cs s = ap (λ (l : List ℕ). outs l (tos cs) s) (sym (present-fro
 -- ---- truth along paths
 
 module _ {v n k : ℕ} {mark : Bool} {c : List ℕ} {l w : List ℤ} (F : Formed v n k mark c l w) (τ : Assignment)
-    (sat : (i : ℕ) → i < n → standing c i ≡ 1 → someHolds τ (literalsOf c l i) ≡ true) where
+    (sat : (i : ℕ) → i < n → standing c i ≡ 1 → someTrue τ (literalsOf c l i) ≡ true) where
   abbrev adj : ℕ → List ℕ
   adj = implications (slotsFrom c l n 0)
 
   abbrev val : ℕ → Bool
-  val s = holds τ (litAt s)
+  val s = trueUnder τ (litAt s)
 
   skew : Skew adj twin (2 * v)
   skew = listed-skew (formed-listed F)
@@ -101,7 +101,7 @@ module _ {v n k : ℕ} {mark : Bool} {c : List ℕ} {l w : List ℤ} (F : Formed
       let C : List ℤ = literalsOf c l i in
       let (j, lj, h) = true-place τ C (sat i lt stands) in
       let x : ℤ = getD C j (pos 0) in
-      (slotOf x, Memᴰ·map slotOf (getD-mem C j (pos 0) lj), ap (holds τ) (lit-slot x (clause-fits F i lt .ranged j lj .above)) ∙ h)
+      (slotOf x, Memᴰ·map slotOf (getD-mem C j (pos 0) lj), ap (trueUnder τ) (lit-slot x (clause-fits F i lt .ranged j lj .above)) ∙ h)
 
   satisfies : Satisfies val (present (slotsFrom c l n 0))
   satisfies = record {
@@ -131,11 +131,11 @@ module _ {v n k : ℕ} {mark : Bool} {c : List ℕ} {l w : List ℤ} (F : Formed
   reach-equal {a} {b} there back = both-ways (val a) (val b) (reach-true there) (reach-true back)
 
   -- THE LAW: a literal and its representative have the same truth
-  pub classes-equal : (x : ℤ) → Literal v x → holds τ x ≡ holds τ (representative adj v x)
+  pub classes-equal : (x : ℤ) → Literal v x → trueUnder τ x ≡ trueUnder τ (representative adj v x)
   unfolding representative
   classes-equal x R =
       let L = least-mutual adj (2 * v) (skew .inside) (slotOf x) (slot-below x v (R .above) (R .within)) in
-      ap (holds τ) (sym (lit-slot x (R .above))) ∙ reach-equal (L .there) (L .back)
+      ap (trueUnder τ) (sym (lit-slot x (R .above))) ∙ reach-equal (L .there) (L .back)
 
   -- and where v and −v share a component there is no such assignment
   pub clash-unsatisfied : clashes adj v ≡ true → ⊥
@@ -147,12 +147,12 @@ module _ (t : Tables) (st : State) {k : ℕ} {mark : Bool} (F : Formed (st .v) (
   abbrev new : ℤ → ℤ
   new = representative (edgesOf t (st .n)) (st .v)
 
-  same-truth : ((i : ℕ) → i < st .n → standing (t .clauses) i ≡ 1 → someHolds τ (literalsOf (t .clauses) (t .literals) i) ≡ true)
-      → (u : ℕ) → u < st .v → holds τ (classOf (t .variables) (u + 1)) ≡ holds τ (classOf (regrouped new (st .v) (t .variables)) (u + 1))
+  same-truth : ((i : ℕ) → i < st .n → standing (t .clauses) i ≡ 1 → someTrue τ (literalsOf (t .clauses) (t .literals) i) ≡ true)
+      → (u : ℕ) → u < st .v → trueUnder τ (classOf (t .variables) (u + 1)) ≡ trueUnder τ (classOf (regrouped new (st .v) (t .variables)) (u + 1))
   same-truth sat u lt =
       let C = F .vars .each u lt .class in
       classes-equal F τ sat (classOf (t .variables) (u + 1)) (record { above = C .above; within = omega (arith, C .within, lt) })
-      ∙ ap (holds τ) (sym (regrouped-class new (st .v) (t .variables) u lt (omega (arith, F .vars .few, F .vars .room))))
+      ∙ ap (trueUnder τ) (sym (regrouped-class new (st .v) (t .variables) u lt (omega (arith, F .vars .few, F .vars .room))))
 
   value-same : (u : ℕ) → valueOf (regrouped new (st .v) (t .variables)) (u + 1) ≡ valueOf (t .variables) (u + 1)
   value-same u = regrouped-value new (st .v) (t .variables) u

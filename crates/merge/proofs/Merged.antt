@@ -35,7 +35,7 @@ use Rattle.shape.specs.Shape.{Variable}
 use Rattle.visits.specs.Formed.{Formed}
 use Rattle.visits.proofs.Forming.{part-length, stands-one}
 use Rattle.visits.proofs.StoreKeeps.{FormedTo}
-use Rattle.table_graph.specs.Pairs.{Listed}
+use Rattle.table_graph.specs.Pairs.{ClausesInside}
 use Rattle.table_graph.proofs.Listing.{formed-listed, from-clauses, froms-mem, slot-literal}
 use Rattle.table_graph.proofs.Chain.{listed-skew}
 use Rattle.merge.specs.Merge.{edgesOf, clashes, representative, regrouped, mergedClasses}
@@ -59,7 +59,7 @@ outs-from (f ∷ fs) (t ∷ ts) p {q} m =
     (λ (d : f ≡ p → ⊥). List·Memᴰ·tail (outs-from fs ts p (subst (List·Memᴰ q) (outs-out f t p fs ts d) m)))
     (same-or f p)
 
-pub edge-variable : {v n : ℕ} {c : List ℕ} {l : List ℤ} → Listed v n c l → (s : ℕ) {q : ℕ} → List·Memᴰ q (implications (slotsFrom c l n 0) s)
+pub edge-variable : {v n : ℕ} {c : List ℕ} {l : List ℤ} → ClausesInside v n c l → (s : ℕ) {q : ℕ} → List·Memᴰ q (implications (slotsFrom c l n 0) s)
     → (i : ℕ) × (i < n) × (j : ℕ) × (j < lengthOf c i) × (variableAt l (startOf c i + j) ≡ s / 2 + 1)
 edge-variable {v} {n} {c} {l} L s m =
     let clauses : List (List ℕ) = slotsFrom c l n 0 in

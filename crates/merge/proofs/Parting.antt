@@ -7,7 +7,7 @@ use mathlib.Core.List.{List, _++_, map}
 use lib.ListN.{length, take, replicate, length-map, length-append, length-replicate}
 use lib.Seq.{take-at}
 use lib.IntN.{ℤ, pos}
-use Rattle.literal.specs.Literals.{Small}
+use Rattle.literal.specs.Literals.{Small, EachSmall}
 use Rattle.literal.specs.Clauses.{distinct, tautology}
 use Rattle.tables.specs.Values.{classLiteral}
 use Rattle.tables.specs.Fates.{left, dropped}
@@ -17,7 +17,7 @@ use Rattle.visits.proofs.Known.{known-small, known-class}
 use Rattle.visits.specs.Visited.{Part, partOf, partAfter}
 use Rattle.visits.specs.declared.Visited.the-variants.{Left, Dropped}
 use Rattle.merge.specs.Merge.{mergeClause}
-use Rattle.merge.specs.Visits.{EachSmall, substituted}
+use Rattle.merge.specs.Visits.{substituted}
 use Rattle.merge.proofs.Repeats.{distinct-short, distinct-all, all-at, all-map}
 
 -- class literals are small

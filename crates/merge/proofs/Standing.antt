@@ -11,7 +11,7 @@ use lib.IntN.{ℤ, pos, natAbs}
 use Rattle.base.specs.Decide.{same-or}
 use Rattle.literal.specs.Literals.{Literal}
 use Rattle.literal.specs.Clauses.{tautology}
-use Rattle.literal.specs.Assignments.{Assignment, holds, someHolds}
+use Rattle.literal.specs.Assignments.{Assignment, trueUnder, someTrue}
 use Rattle.state.specs.States.{opened}
 use Rattle.state.specs.declared.State.{State}
 use Rattle.state.specs.declared.Pass.{Pass}
@@ -47,12 +47,12 @@ use Rattle.merge.proofs.Truth.{Classed, substituted-true, dropped-true}
 
 -- clause i has a true literal if it stands
 abbrev True : Assignment → List ℕ → List ℤ → ℕ → Type 0
-True τ c l i = standing c i ≡ 1 → someHolds τ (literalsOf c l i) ≡ true
+True τ c l i = standing c i ≡ 1 → someTrue τ (literalsOf c l i) ≡ true
 
 -- ---- one clause is stored anew
 
 module _ {v n s : ℕ} {c : List ℕ} {l w : List ℤ} (F : Formed v n s false c l w) (k : ℕ) (lt : k < n) (E : List ℤ) (f : ℕ) (short : length E ≤ lengthOf c k) (τ : Assignment)
-    (here : True τ c l k ↔ (f ≡ 1 → someHolds τ E ≡ true)) where
+    (here : True τ c l k ↔ (f ≡ 1 → someTrue τ E ≡ true)) where
   abbrev c′ : List ℕ
   c′ = recorded c k (length E) f
 
@@ -66,7 +66,7 @@ module _ {v n s : ℕ} {c : List ℕ} {l w : List ℤ} (F : Formed v n s false c
   view = stored-view F k lt E f short
 
   stored-here : True τ c l k ↔ True τ c′ l′ k
-  stored-here = (λ h s. ap (someHolds τ) view ∙ here .0 h (sym flag ∙ s), λ h s. here .1 (λ e. sym (ap (someHolds τ) view) ∙ h (flag ∙ e)) s)
+  stored-here = (λ h s. ap (someTrue τ) view ∙ here .0 h (sym flag ∙ s), λ h s. here .1 (λ e. sym (ap (someTrue τ) view) ∙ h (flag ∙ e)) s)
 
   pub stored-true : (i : ℕ) → i < n → True τ c l i ↔ True τ c′ l′ i
   stored-true i li =
@@ -75,7 +75,7 @@ module _ {v n s : ℕ} {c : List ℕ} {l w : List ℤ} (F : Formed v n s false c
       (λ (d : i ≡ k → ⊥).
       let same : literalsOf c′ l′ i ≡ literalsOf c l i = stored-other F k lt E f short i li d in
       let still : standing c′ i ≡ standing c i = recorded-other c k (length E) f i d .1 in
-      (λ h s. ap (someHolds τ) same ∙ h (sym still ∙ s), λ h s. sym (ap (someHolds τ) same) ∙ h (still ∙ s)))
+      (λ h s. ap (someTrue τ) same ∙ h (sym still ∙ s), λ h s. sym (ap (someTrue τ) same) ∙ h (still ∙ s)))
       (same-or i k)
 
 -- ---- a visit
@@ -90,11 +90,11 @@ module _ (t : Tables) (v n k : ℕ) (F : FormedTo v n k t) (lt : k < n) (τ : As
   ranged : (i : ℕ) → i < length C → Literal v (getD C i (pos 0))
   ranged i h = clause-fits F k lt .ranged i h
 
-  classed : (i : ℕ) → i < length C → τ (natAbs (getD C i (pos 0))) ≡ holds τ (classOf (t .variables) (natAbs (getD C i (pos 0))))
+  classed : (i : ℕ) → i < length C → τ (natAbs (getD C i (pos 0))) ≡ trueUnder τ (classOf (t .variables) (natAbs (getD C i (pos 0))))
   classed i h =
       let x : ℕ = natAbs (getD C i (pos 0)) in
       let R : Literal v (getD C i (pos 0)) = ranged i h in
-      subst (λ (y : ℕ). τ y ≡ holds τ (classOf (t .variables) y)) (let e : x - 1 + 1 ≡ x = omega (arith, R .above) in e) (classes (x - 1) (omega (arith, R .above, R .within)))
+      subst (λ (y : ℕ). τ y ≡ trueUnder τ (classOf (t .variables) y)) (let e : x - 1 + 1 ≡ x = omega (arith, R .above) in e) (classes (x - 1) (omega (arith, R .above, R .within)))
 
   some : (i : ℕ) → i < length C → 0 < natAbs (classOf (t .variables) (natAbs (getD C i (pos 0))))
   some i h = known-row K .class .above
@@ -141,7 +141,7 @@ stands-as : (t t′ : Tables) (st : State) (τ : Assignment) → t′ .variables
 stands-as t t′ st τ e h S = record {
   unmarked = S .unmarked;
   clauses = λ i lt. h i lt (S .clauses i lt);
-  classes = λ u lt. subst (λ (w : List ℤ). τ (u + 1) ≡ holds τ (classOf w (u + 1))) (sym e) (S .classes u lt);
+  classes = λ u lt. subst (λ (w : List ℤ). τ (u + 1) ≡ trueUnder τ (classOf w (u + 1))) (sym e) (S .classes u lt);
   truths = λ u lt q. S .truths u lt (ap (λ (w : List ℤ). valueOf w (u + 1)) (sym e) ∙ q);
   falsehoods = λ u lt q. S .falsehoods u lt (ap (λ (w : List ℤ). valueOf w (u + 1)) (sym e) ∙ q);
 }
@@ -150,7 +150,7 @@ stands-as t t′ st τ e h S = record {
 pub visit-stands : (t : Tables) (st : State) (k : ℕ) (τ : Assignment) → FormedTo (st .v) (st .n) k t → k < st .n → Stands (visit (mergeClause (t .variables)) k t) st τ ↔ Stands t st τ
 visit-stands t st k τ F lt = (
   λ S.
-      let classes : Classed (st .v) (t .variables) τ = λ u lu. subst (λ (w : List ℤ). τ (u + 1) ≡ holds τ (classOf w (u + 1))) same (S .classes u lu) in
+      let classes : Classed (st .v) (t .variables) τ = λ u lu. subst (λ (w : List ℤ). τ (u + 1) ≡ trueUnder τ (classOf w (u + 1))) same (S .classes u lu) in
       stands-as (visit (mergeClause (t .variables)) k t) t st τ (sym same) (λ i li. visit-true t (st .v) (st .n) k F lt τ classes i li .1) S,
   λ S. stands-as t (visit (mergeClause (t .variables)) k t) st τ same (λ i li. visit-true t (st .v) (st .n) k F lt τ (S .classes) i li .0) S,
 )

@@ -10,7 +10,7 @@ use lib.IntN.{ℤ, pos, negℤ, natAbs}
 use lib.Signed.{nonNeg}
 use Rattle.literal.specs.Literals.{eqZ, signBy}
 use Rattle.literal.specs.Clauses.{has, distinct, distinctFrom, tautology}
-use Rattle.literal.specs.Assignments.{Assignment, truthBy, holds, someHolds}
+use Rattle.literal.specs.Assignments.{Assignment, truthBy, trueUnder, someTrue}
 use Rattle.literal.proofs.Signed.{eqZ-true}
 use Rattle.literal.proofs.Truth.{holds-neg}
 use Rattle.tables.specs.Tables.{classOf}
@@ -22,33 +22,33 @@ use Rattle.merge.proofs.Repeats.{All, distinct-all, all-map}
 -- ---- repeats
 
 -- a literal that stands in a clause makes it true if it is true
-has-holds : (τ : Assignment) (x : ℤ) (xs : List ℤ) → has x xs ≡ true → holds τ x ≡ true → someHolds τ xs ≡ true
+has-holds : (τ : Assignment) (x : ℤ) (xs : List ℤ) → has x xs ≡ true → trueUnder τ x ≡ true → someTrue τ xs ≡ true
 has-holds τ x [] e h = e
 has-holds τ x (y ∷ xs) e h = go (eqZ y x) refl e (has-holds τ x xs)
   where
-    go : (b : Bool) → eqZ y x ≡ b → (b || has x xs) ≡ true → (has x xs ≡ true → holds τ x ≡ true → someHolds τ xs ≡ true) → (holds τ y || someHolds τ xs) ≡ true
-    go true b e rest = ap (λ (z : Bool). z || someHolds τ xs) (ap (holds τ) (eqZ-true y x b) ∙ h)
-    go false b e rest = ap (λ (z : Bool). holds τ y || z) (rest e h) ∙ or-true (holds τ y)
+    go : (b : Bool) → eqZ y x ≡ b → (b || has x xs) ≡ true → (has x xs ≡ true → trueUnder τ x ≡ true → someTrue τ xs ≡ true) → (trueUnder τ y || someTrue τ xs) ≡ true
+    go true b e rest = ap (λ (z : Bool). z || someTrue τ xs) (ap (trueUnder τ) (eqZ-true y x b) ∙ h)
+    go false b e rest = ap (λ (z : Bool). trueUnder τ y || z) (rest e h) ∙ or-true (trueUnder τ y)
 
-some-snoc : (τ : Assignment) (xs : List ℤ) (x : ℤ) → someHolds τ (xs ++ (x ∷ [])) ≡ (someHolds τ xs || holds τ x)
-some-snoc τ [] x = or-false (holds τ x)
-some-snoc τ (y ∷ xs) x = ap (λ (b : Bool). holds τ y || b) (some-snoc τ xs x) ∙ sym (or-assoc (holds τ y) (someHolds τ xs) (holds τ x))
+some-snoc : (τ : Assignment) (xs : List ℤ) (x : ℤ) → someTrue τ (xs ++ (x ∷ [])) ≡ (someTrue τ xs || trueUnder τ x)
+some-snoc τ [] x = or-false (trueUnder τ x)
+some-snoc τ (y ∷ xs) x = ap (λ (b : Bool). trueUnder τ y || b) (some-snoc τ xs x) ∙ sym (or-assoc (trueUnder τ y) (someTrue τ xs) (trueUnder τ x))
 
-some-from : (τ : Assignment) (kept xs : List ℤ) → someHolds τ (distinctFrom kept xs) ≡ (someHolds τ kept || someHolds τ xs)
-some-from τ kept [] = sym (or-false (someHolds τ kept))
+some-from : (τ : Assignment) (kept xs : List ℤ) → someTrue τ (distinctFrom kept xs) ≡ (someTrue τ kept || someTrue τ xs)
+some-from τ kept [] = sym (or-false (someTrue τ kept))
 some-from τ kept (x ∷ xs) = go (has x kept) refl (some-from τ kept xs) (some-from τ (kept ++ (x ∷ [])) xs)
   where
-    absorbed : (h b : Bool) → holds τ x ≡ h → has x kept ≡ true → (someHolds τ kept || b) ≡ (someHolds τ kept || (h || b))
-    absorbed true b e k = let s : someHolds τ kept ≡ true = has-holds τ x kept k e in ap (λ (z : Bool). z || b) s ∙ sym (ap (λ (z : Bool). z || true) s)
+    absorbed : (h b : Bool) → trueUnder τ x ≡ h → has x kept ≡ true → (someTrue τ kept || b) ≡ (someTrue τ kept || (h || b))
+    absorbed true b e k = let s : someTrue τ kept ≡ true = has-holds τ x kept k e in ap (λ (z : Bool). z || b) s ∙ sym (ap (λ (z : Bool). z || true) s)
     absorbed false b e k = refl
 
-    go : (t : Bool) → has x kept ≡ t → someHolds τ (distinctFrom kept xs) ≡ (someHolds τ kept || someHolds τ xs)
-        → someHolds τ (distinctFrom (kept ++ (x ∷ [])) xs) ≡ (someHolds τ (kept ++ (x ∷ [])) || someHolds τ xs)
-        → someHolds τ (distinctFrom kept (x ∷ xs)) ≡ (someHolds τ kept || (holds τ x || someHolds τ xs))
-    go true e a b = rw (e, distinctFrom) (a ∙ absorbed (holds τ x) (someHolds τ xs) refl e)
-    go false e a b = rw (e, distinctFrom) (b ∙ ap (λ (z : Bool). z || someHolds τ xs) (some-snoc τ kept x) ∙ or-assoc (someHolds τ kept) (holds τ x) (someHolds τ xs))
+    go : (t : Bool) → has x kept ≡ t → someTrue τ (distinctFrom kept xs) ≡ (someTrue τ kept || someTrue τ xs)
+        → someTrue τ (distinctFrom (kept ++ (x ∷ [])) xs) ≡ (someTrue τ (kept ++ (x ∷ [])) || someTrue τ xs)
+        → someTrue τ (distinctFrom kept (x ∷ xs)) ≡ (someTrue τ kept || (trueUnder τ x || someTrue τ xs))
+    go true e a b = rw (e, distinctFrom) (a ∙ absorbed (trueUnder τ x) (someTrue τ xs) refl e)
+    go false e a b = rw (e, distinctFrom) (b ∙ ap (λ (z : Bool). z || someTrue τ xs) (some-snoc τ kept x) ∙ or-assoc (someTrue τ kept) (trueUnder τ x) (someTrue τ xs))
 
-pub some-distinct : (τ : Assignment) (xs : List ℤ) → someHolds τ (distinct xs) ≡ someHolds τ xs
+pub some-distinct : (τ : Assignment) (xs : List ℤ) → someTrue τ (distinct xs) ≡ someTrue τ xs
 some-distinct τ xs = some-from τ [] xs
 
 -- ---- both signs
@@ -58,47 +58,47 @@ either-true true b f = refl
 either-true false b f = f refl
 
 -- a clause that has v and −v is true
-pub tautology-true : (τ : Assignment) (xs : List ℤ) → All (λ x. 0 < natAbs x) xs → tautology xs ≡ true → someHolds τ xs ≡ true
+pub tautology-true : (τ : Assignment) (xs : List ℤ) → All (λ x. 0 < natAbs x) xs → tautology xs ≡ true → someTrue τ xs ≡ true
 tautology-true τ [] A e = e
 tautology-true τ (x ∷ xs) A e = go (has (negℤ x) xs) refl e (tautology-true τ xs (A .1))
   where
-    go : (b : Bool) → has (negℤ x) xs ≡ b → (b || tautology xs) ≡ true → (tautology xs ≡ true → someHolds τ xs ≡ true) → someHolds τ (x ∷ xs) ≡ true
-    go true b e rest = either-true (holds τ x) (someHolds τ xs) (λ f. has-holds τ (negℤ x) xs b (holds-neg τ x (A .0) ∙ ap not f))
-    go false b e rest = ap (λ (z : Bool). holds τ x || z) (rest e) ∙ or-true (holds τ x)
+    go : (b : Bool) → has (negℤ x) xs ≡ b → (b || tautology xs) ≡ true → (tautology xs ≡ true → someTrue τ xs ≡ true) → someTrue τ (x ∷ xs) ≡ true
+    go true b e rest = either-true (trueUnder τ x) (someTrue τ xs) (λ f. has-holds τ (negℤ x) xs b (holds-neg τ x (A .0) ∙ ap not f))
+    go false b e rest = ap (λ (z : Bool). trueUnder τ x || z) (rest e) ∙ or-true (trueUnder τ x)
 
 -- ---- classes
 
 -- each variable of v has its class literal's truth
 abbrev pub Classed : ℕ → List ℤ → Assignment → Type 0
-Classed v w τ = (u : ℕ) → u < v → τ (u + 1) ≡ holds τ (classOf w (u + 1))
+Classed v w τ = (u : ℕ) → u < v → τ (u + 1) ≡ trueUnder τ (classOf w (u + 1))
 
 -- a literal whose variable has its class literal's truth has it too
-pub class-holds : (τ : Assignment) (w : List ℤ) (l : ℤ) → 0 < natAbs (classOf w (natAbs l)) → τ (natAbs l) ≡ holds τ (classOf w (natAbs l)) → holds τ (classLiteral w l) ≡ holds τ l
+pub class-holds : (τ : Assignment) (w : List ℤ) (l : ℤ) → 0 < natAbs (classOf w (natAbs l)) → τ (natAbs l) ≡ trueUnder τ (classOf w (natAbs l)) → trueUnder τ (classLiteral w l) ≡ trueUnder τ l
 class-holds τ w l some e = go (nonNeg l)
   where
     c : ℤ
     c = classOf w (natAbs l)
 
-    go : (b : Bool) → holds τ (signBy b (classOf w (natAbs l))) ≡ truthBy b (τ (natAbs l))
+    go : (b : Bool) → trueUnder τ (signBy b (classOf w (natAbs l))) ≡ truthBy b (τ (natAbs l))
     go true = sym e
     go false = holds-neg τ (classOf w (natAbs l)) some ∙ ap not (sym e)
 
-some-map : (τ : Assignment) (f : ℤ → ℤ) (xs : List ℤ) → ((k : ℕ) → k < length xs → holds τ (f (getD xs k (pos 0))) ≡ holds τ (getD xs k (pos 0))) → someHolds τ (map f xs) ≡ someHolds τ xs
+some-map : (τ : Assignment) (f : ℤ → ℤ) (xs : List ℤ) → ((k : ℕ) → k < length xs → trueUnder τ (f (getD xs k (pos 0))) ≡ trueUnder τ (getD xs k (pos 0))) → someTrue τ (map f xs) ≡ someTrue τ xs
 some-map τ f [] h = refl
 some-map τ f (x ∷ xs) h = (λ j. h 0 (omega arith) j || some-map τ f xs (λ k l. h (suc k) (omega arith)) j)
 
 -- ---- one clause
 
-module _ (τ : Assignment) (w C : List ℤ) (classed : (k : ℕ) → k < length C → τ (natAbs (getD C k (pos 0))) ≡ holds τ (classOf w (natAbs (getD C k (pos 0)))))
+module _ (τ : Assignment) (w C : List ℤ) (classed : (k : ℕ) → k < length C → τ (natAbs (getD C k (pos 0))) ≡ trueUnder τ (classOf w (natAbs (getD C k (pos 0)))))
     (some : (k : ℕ) → k < length C → 0 < natAbs (classOf w (natAbs (getD C k (pos 0))))) where
   -- THE LAW of a visit that leaves a clause
-  pub substituted-true : someHolds τ (substituted w C) ≡ someHolds τ C
+  pub substituted-true : someTrue τ (substituted w C) ≡ someTrue τ C
   substituted-true =
       some-distinct τ (map (classLiteral w) C)
       ∙ some-map τ (classLiteral w) C (λ k h. class-holds τ w (getD C k (pos 0)) (some k h) (classed k h))
 
   -- and of one that drops it
-  pub dropped-true : tautology (substituted w C) ≡ true → someHolds τ C ≡ true
+  pub dropped-true : tautology (substituted w C) ≡ true → someTrue τ C ≡ true
   dropped-true e =
       sym substituted-true
       ∙ tautology-true τ (substituted w C)

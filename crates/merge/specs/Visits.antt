@@ -1,17 +1,11 @@
 -- What the functions of a visit ask of the tables, and say to each other. Assumes nothing: these are definitions.
-use Prim.Native.Nat.{ℕ, _≤_, _<_}
+use Prim.Native.Nat.{ℕ, _≤_}
 use mathlib.Core.Bool.{false}
 use mathlib.Core.List.{List, map}
-use lib.ListN.{length, getD}
-use lib.IntN.{ℤ, pos}
-use Rattle.literal.specs.Literals.{Small}
+use lib.IntN.{ℤ}
 use Rattle.literal.specs.Clauses.{distinct}
 use Rattle.tables.specs.Values.{classLiteral}
 use Rattle.visits.specs.Formed.{Formed}
-
--- no literal of a list is the smallest i32, so that each has a complement
-pub record EachSmall (C : List ℤ) : Type 0 where
-  pub each : (k : ℕ) → k < length C → Small (getD C k (pos 0))
 
 -- the clause with class literals in and repeats out
 abbrev pub substituted : List ℤ → List ℤ → List ℤ

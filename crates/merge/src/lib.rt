@@ -27,7 +27,8 @@ ghost use Rattle.visits.specs.Holding.{holding};
 ghost use Rattle.visits.specs.Visited.{Visitable, partOf, partAfter, visitOf, visitAt};
 ghost use Rattle.merge.specs.Merge.{clashes, regrouped, mergeClause, mergeFrom, mergeOpen, mergeSettled, mergeCall};
 ghost use Rattle.merge.specs.Opening.{openedClasses, through, Regroups};
-ghost use Rattle.merge.specs.Visits.{EachSmall, Mergeable};
+ghost use Rattle.merge.specs.Visits.{Mergeable};
+ghost use Rattle.literal.specs.Literals.{EachSmall};
 ghost use Rattle.merge.specs.Steps.{Resumable, Openable};
 
 // ---- the opening

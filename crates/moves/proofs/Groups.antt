@@ -27,7 +27,7 @@ use Rattle.merge.specs.Merge.{clashes}
 use Rattle.sound.specs.Formula.{literalsIn, graph}
 use Rattle.sound.specs.Kept.{Shaped}
 use Rattle.sound.proofs.Graph.{shaped-below}
-use Rattle.moves.specs.Core.{Core, marked, regroup}
+use Rattle.moves.specs.Core.{Core, markedCore, regroup}
 use Rattle.moves.specs.Moves.{Owned, Change, contrary, grouped}
 
 -- the class literal of a slot below size; the others have none but themselves
@@ -47,7 +47,7 @@ module _ (vars : ℕ) (k : Core) (shaped : Shaped vars (k .clauses)) where
 
   -- ---- a literal and its complement
 
-  pub clash-found : clashes adj vars ≡ true → Change k (marked k)
+  pub clash-found : clashes adj vars ≡ true → Change k (markedCore k)
   unfolding clashes connected
   clash-found h =
       let r = anyBelow-out vars (λ w. connected adj (2 * vars) (2 * w) (2 * w + 1)) h in

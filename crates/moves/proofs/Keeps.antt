@@ -18,7 +18,7 @@ use Rattle.sound.specs.Formula.{Clause, dropped, standing, value, True, Sat, Mo
 use Rattle.sound.proofs.Truth.{true-or, not-both}
 use Rattle.sound.proofs.Sound.{nth-mem, reach-true}
 use Rattle.sound.proofs.Fresh.{Fresh, fresh-stamp, fresh-sweep, sweep-models, failed-true}
-use Rattle.moves.specs.Core.{Core, ModelOf, load, clauseAt, put, learn, marked, isTrue, isFalse}
+use Rattle.moves.specs.Core.{Core, ModelOf, load, coreClause, put, learn, markedCore, coreTrue, coreFalse}
 use Rattle.moves.specs.Moves.{Change, satisfied, falsified, unit, conflict, contrary, grouped, substituted, tautology, Freshness, spent, fresh, Move, change, spend, stamp, failed, opposite, sweep, Moves, stay, go}
 
 -- the same assignments satisfy both
@@ -70,18 +70,18 @@ module _ (τ : Assignment) (f : List Clause) (i : ℕ) (c : Clause) where
 abbrev Meets : Core → Assignment → Type 0
 Meets k τ = ((s : ℕ) → value τ s ≡ value τ (k .class s)) × ((s : ℕ) → k .facts s ≡ true → True τ s)
 
-put-same : (k : Core) (i : ℕ) (c : Clause) → ((τ : Assignment) → Meets k τ → SatC τ c ↔ SatC τ (clauseAt k i)) → Same k (put i c k)
+put-same : (k : Core) (i : ℕ) (c : Clause) → ((τ : Assignment) → Meets k τ → SatC τ c ↔ SatC τ (coreClause k i)) → Same k (put i c k)
 put-same k i c h τ = (
   λ S. record { unmarked = S .unmarked; models = put-models τ (k .clauses) i c (h τ (S .classes, S .met) .0) (S .models); classes = S .classes; met = S .met },
   λ S. record { unmarked = S .unmarked; models = models-put τ (k .clauses) i c (h τ (S .classes, S .met) .1) (S .models); classes = S .classes; met = S .met },
 )
 
 -- a clause that is true anyway may be dropped
-drop-same : (k : Core) (i : ℕ) (C : List ℕ) → clauseAt k i ≡ standing C → ((τ : Assignment) → Meets k τ → Sat τ C) → Same k (put i dropped k)
+drop-same : (k : Core) (i : ℕ) (C : List ℕ) → coreClause k i ≡ standing C → ((τ : Assignment) → Meets k τ → Sat τ C) → Same k (put i dropped k)
 drop-same k i C e true-anyway = put-same k i dropped (λ τ m. (λ u. subst (SatC τ) (sym e) (true-anyway τ m), λ s. tt))
 
 -- and one for another that is true under the same conditions
-swap-same : (k : Core) (i : ℕ) (C D : List ℕ) → clauseAt k i ≡ standing C → ((τ : Assignment) → Meets k τ → Sat τ D ↔ Sat τ C) → Same k (put i (standing D) k)
+swap-same : (k : Core) (i : ℕ) (C D : List ℕ) → coreClause k i ≡ standing C → ((τ : Assignment) → Meets k τ → Sat τ D ↔ Sat τ C) → Same k (put i (standing D) k)
 swap-same k i C D e h = put-same k i (standing D) (λ τ m. subst (λ (x : Clause). Sat τ D ↔ SatC τ x) (sym e) (h τ m))
 
 -- a literal that is true in every assignment of what stands may get its value
@@ -97,20 +97,20 @@ learn-same k l true-in τ = (
 )
 
 -- a mark is right where nothing is left
-marked-same : (k : Core) → ((τ : Assignment) → ModelOf k τ → ⊥) → Same k (marked k)
+marked-same : (k : Core) → ((τ : Assignment) → ModelOf k τ → ⊥) → Same k (markedCore k)
 marked-same k none τ = (λ S. clash refl (S .unmarked), λ S. absurd (none τ S))
 
 -- ---- Propagate and Merge
 
 module _ (k : Core) (τ : Assignment) (m : Meets k τ) where
-  true-is : (l : ℕ) → isTrue k l ≡ true → True τ l
+  true-is : (l : ℕ) → coreTrue k l ≡ true → True τ l
   true-is l h = m .0 l ∙ m .1 (k .class l) h
 
-  false-is : (l : ℕ) → isFalse k l ≡ true → True τ l → ⊥
+  false-is : (l : ℕ) → coreFalse k l ≡ true → True τ l → ⊥
   false-is l h t = not-both τ (k .class l) (sym (m .0 l) ∙ t) (m .1 (twin (k .class l)) h)
 
 -- a clause's one literal is true: it gets its value, and then the clause is true anyway
-unit-same : (k : Core) (i l : ℕ) → clauseAt k i ≡ standing (l ∷ []) → Same k (learn (k .class l) (put i dropped k))
+unit-same : (k : Core) (i l : ℕ) → coreClause k i ≡ standing (l ∷ []) → Same k (learn (k .class l) (put i dropped k))
 unit-same k i l e τ =
     Iff·trans
     (drop-same (learn (k .class l) k) i (l ∷ []) e (λ υ M. (l, List·Memᴰ·head refl, M .0 l ∙ M .1 (k .class l) (ap (λ (b : Bool). b || k .facts (k .class l)) (eq-eqb (k .class l) (k .class l) refl)))) τ)

@@ -29,7 +29,7 @@ use Rattle.tables.specs.Fates as fates
 use Rattle.stamp.specs.Stamp.{stampedTables}
 use Rattle.sweep_visits.specs.Clause.{sweepClause}
 use Rattle.sound.specs.Formula.{Clause, dropped, standing}
-use Rattle.sound.specs.Sweep.{judge, sweepSlots}
+use Rattle.sound.specs.Sweep.{judgeClause, sweepSlots}
 
 -- ---- Stamp's records
 
@@ -79,7 +79,7 @@ stamped-agree v σ t hd hf hp hs =
 -- ---- Sweep's rule
 
 pub sweep-agree : (size : ℕ) (σ ρ : Stamps) → Agree size σ ρ → (C : List ℕ) → Within size C → sweepSlots σ C ≡ sweepSlots ρ C
-unfolding judge
+unfolding judgeClause
 sweep-agree size σ ρ A [] w = refl
 sweep-agree size σ ρ A (a ∷ []) w = refl
 sweep-agree size σ ρ A (a ∷ b ∷ ls) w =
@@ -97,7 +97,7 @@ shown C (unit l) = dropped
 shown C conflict = standing []
 
 pub sweep-fate : (σ : Stamps) (C : List ℤ) → shown C (sweepClause σ C) ≡ sweepSlots σ (map slotOf C)
-unfolding sweepClause judge
+unfolding sweepClause judgeClause
 sweep-fate σ [] = refl
 sweep-fate σ (a ∷ []) = refl
 sweep-fate σ (a ∷ b ∷ ls) = go (hiddenTautology σ (map slotOf (a ∷ b ∷ ls)))

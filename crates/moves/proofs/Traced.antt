@@ -13,7 +13,7 @@ use Rattle.hidden.proofs.Scan.{by-reads}
 use Rattle.sound.specs.Formula.{Clause, dropped, standing, graph}
 use Rattle.sound.proofs.Graph.{not-standing, standing-eq, edge-pair}
 use Rattle.sound.proofs.Sound.{from-sub}
-use Rattle.moves.specs.Core.{Core, load, clauseAt, put, Traced}
+use Rattle.moves.specs.Core.{Core, load, coreClause, put, Traced}
 use Rattle.moves.specs.Moves.{Owned, Change, satisfied, falsified, unit, conflict, contrary, grouped, substituted, tautology, Freshness, spent, Move, change, spend, stamp, failed, opposite, sweep, Moves, stay, go}
 
 map-sub : (g : ℕ → ℕ) {D C : List ℕ} → Sublistᴰ D C → Sublistᴰ (map g D) (map g C)
@@ -31,7 +31,7 @@ map-same g h e (x ∷ C) = λ i. e x i ∷ map-same g h e C i
 
 module _ (f : List Clause) (k : Core) (T : Traced f k) where
   -- a clause replaced by a part of itself, through the classes
-  put-traced : (i : ℕ) (c : Clause) → ((B : List ℕ) → c ≡ standing B → (D : List ℕ) × (clauseAt k i ≡ standing D) × Sublistᴰ (map (k .class) B) (map (k .class) D)) → Traced f (put i c k)
+  put-traced : (i : ℕ) (c : Clause) → ((B : List ℕ) → c ≡ standing B → (D : List ℕ) × (coreClause k i ≡ standing D) × Sublistᴰ (map (k .class) B) (map (k .class) D)) → Traced f (put i c k)
   put-traced i c h =
       record {
         once = T .once;
@@ -52,7 +52,7 @@ module _ (f : List Clause) (k : Core) (T : Traced f k) where
   dropped-traced : (i : ℕ) → Traced f (put i dropped k)
   dropped-traced i = put-traced i dropped (λ B e. absurd (not-standing e))
 
-  shorter-traced : (i : ℕ) (D C : List ℕ) → clauseAt k i ≡ standing C → Sublistᴰ (map (k .class) D) (map (k .class) C) → Traced f (put i (standing D) k)
+  shorter-traced : (i : ℕ) (D C : List ℕ) → coreClause k i ≡ standing C → Sublistᴰ (map (k .class) D) (map (k .class) C) → Traced f (put i (standing D) k)
   shorter-traced i D C e s = put-traced i (standing D) (λ B q. (C, e, subst (λ (x : List ℕ). Sublistᴰ (map (k .class) x) (map (k .class) C)) (standing-eq q) s))
 
   -- classes of class literals are those literals

@@ -29,8 +29,8 @@ abbrev pub load : List Clause → Core
 load f = record { clauses = f; class = λ s. s; facts = λ s. false; mark = false }
 
 -- the clause with record i
-abbrev pub clauseAt : Core → ℕ → Clause
-clauseAt k i = getD (k .clauses) i dropped
+abbrev pub coreClause : Core → ℕ → Clause
+coreClause k i = getD (k .clauses) i dropped
 
 abbrev pub withClauses : List Clause → Core → Core
 withClauses f k = record { clauses = f; class = k .class; facts = k .facts; mark = k .mark }
@@ -43,21 +43,21 @@ put i c k = withClauses (set (k .clauses) i c) k
 abbrev pub learn : ℕ → Core → Core
 learn t k = record { clauses = k .clauses; class = k .class; facts = λ s. eqb s t || k .facts s; mark = k .mark }
 
-abbrev pub marked : Core → Core
-marked k = record { clauses = k .clauses; class = k .class; facts = k .facts; mark = true }
+abbrev pub markedCore : Core → Core
+markedCore k = record { clauses = k .clauses; class = k .class; facts = k .facts; mark = true }
 
 -- older classes pass through the new
 abbrev pub regroup : (ℕ → ℕ) → Core → Core
 regroup ρ k = record { clauses = k .clauses; class = λ s. ρ (k .class s); facts = k .facts; mark = k .mark }
 
 -- a literal is true or false as the value of its class literal says
-abbrev pub isTrue : Core → ℕ → Bool
-isTrue k l = k .facts (k .class l)
+abbrev pub coreTrue : Core → ℕ → Bool
+coreTrue k l = k .facts (k .class l)
 
-abbrev pub isFalse : Core → ℕ → Bool
-isFalse k l = k .facts (twin (k .class l))
+abbrev pub coreFalse : Core → ℕ → Bool
+coreFalse k l = k .facts (twin (k .class l))
 
 -- every standing clause is the loaded one of its number with literals left out and the others in their order, once class literals are put in on both sides; and a class literal is its own class
 pub record Traced (f : List Clause) (k : Core) : Type 0 where
-  pub part : (i : ℕ) (D : List ℕ) → clauseAt k i ≡ standing D → (C : List ℕ) × (getD f i dropped ≡ standing C) × Sublistᴰ (map (k .class) D) (map (k .class) C)
+  pub part : (i : ℕ) (D : List ℕ) → coreClause k i ≡ standing D → (C : List ℕ) × (getD f i dropped ≡ standing C) × Sublistᴰ (map (k .class) D) (map (k .class) C)
   pub once : (s : ℕ) → k .class (k .class s) ≡ k .class s

@@ -11,9 +11,9 @@ use Rattle.walk.specs.Forest.{Reach}
 use Rattle.scc.specs.Groups.{cyclic}
 use Rattle.hidden.specs.Failed.{sameStart, failedSlot}
 use Rattle.sound.specs.Formula.{dropped, standing, graph, formulaStamps}
-use Rattle.sound.specs.Sweep.{visit, visitFrom}
+use Rattle.sound.specs.Sweep.{sweepVisit, visitFrom}
 use Rattle.sound.specs.Kept.{Shaped}
-use Rattle.moves.specs.Core.{Core, clauseAt, withClauses, put, learn, marked, regroup, isTrue, isFalse}
+use Rattle.moves.specs.Core.{Core, coreClause, withClauses, put, learn, markedCore, regroup, coreTrue, coreFalse}
 
 -- every literal that stands is its own class literal: no Merge has clauses still to visit
 abbrev pub Owned : Core → Type 0
@@ -22,21 +22,21 @@ Owned k = (C : List ℕ) → List·Memᴰ (standing C) (k .clauses) → (l : ℕ
 -- Propagate and Merge, which leave no stamps
 pub data Change (k : Core) : Core → Type 0 where
   -- Propagate: a clause with a true literal is dropped
-  satisfied : (i : ℕ) {C : List ℕ} {l : ℕ} → clauseAt k i ≡ standing C → List·Memᴰ l C → isTrue k l ≡ true → Change k (put i dropped k)
+  satisfied : (i : ℕ) {C : List ℕ} {l : ℕ} → coreClause k i ≡ standing C → List·Memᴰ l C → coreTrue k l ≡ true → Change k (put i dropped k)
   -- literals go that are false
-  falsified : (i : ℕ) {C D : List ℕ} → clauseAt k i ≡ standing C → Sublistᴰ D C → ((l : ℕ) → List·Memᴰ l C → List·Memᴰ l D ⊎ (isFalse k l ≡ true)) → Change k (put i (standing D) k)
+  falsified : (i : ℕ) {C D : List ℕ} → coreClause k i ≡ standing C → Sublistᴰ D C → ((l : ℕ) → List·Memᴰ l C → List·Memᴰ l D ⊎ (coreFalse k l ≡ true)) → Change k (put i (standing D) k)
   -- the value of a clause's one literal is set, at its class literal, and the clause dropped
-  unit : (i : ℕ) {l : ℕ} → clauseAt k i ≡ standing (l ∷ []) → Change k (learn (k .class l) (put i dropped k))
+  unit : (i : ℕ) {l : ℕ} → coreClause k i ≡ standing (l ∷ []) → Change k (learn (k .class l) (put i dropped k))
   -- a clause stands empty
-  conflict : (i : ℕ) → clauseAt k i ≡ standing [] → Change k (marked k)
+  conflict : (i : ℕ) → coreClause k i ≡ standing [] → Change k (markedCore k)
   -- Merge: a literal shares its group with its complement
-  contrary : (l : ℕ) → Reach (graph (k .clauses)) l (twin l) → Reach (graph (k .clauses)) (twin l) l → Change k (marked k)
+  contrary : (l : ℕ) → Reach (graph (k .clauses)) l (twin l) → Reach (graph (k .clauses)) (twin l) l → Change k (markedCore k)
   -- each literal gets a class literal from its group
   grouped : (ρ : ℕ → ℕ) → Owned k → ((s : ℕ) → Reach (graph (k .clauses)) s (ρ s) × Reach (graph (k .clauses)) (ρ s) s) → ((s : ℕ) → ρ (ρ s) ≡ ρ s) → Change k (regroup ρ k)
   -- class literals are put in, and repeats go
-  substituted : (i : ℕ) {C D : List ℕ} → clauseAt k i ≡ standing C → Sublistᴰ D (map (k .class) C) → ((l : ℕ) → List·Memᴰ l (map (k .class) C) → List·Memᴰ l D) → Change k (put i (standing D) k)
+  substituted : (i : ℕ) {C D : List ℕ} → coreClause k i ≡ standing C → Sublistᴰ D (map (k .class) C) → ((l : ℕ) → List·Memᴰ l (map (k .class) C) → List·Memᴰ l D) → Change k (put i (standing D) k)
   -- a clause with v and -v is dropped
-  tautology : (i : ℕ) {C : List ℕ} {l : ℕ} → clauseAt k i ≡ standing C → List·Memᴰ l C → List·Memᴰ (twin l) C → Change k (put i dropped k)
+  tautology : (i : ℕ) {C : List ℕ} {l : ℕ} → coreClause k i ≡ standing C → List·Memᴰ l C → List·Memᴰ (twin l) C → Change k (put i dropped k)
 
 -- stamps are spent, or fresh, with the number of clauses that Sweep has visited
 pub data Freshness : Type 0 where
@@ -52,9 +52,9 @@ pub data Move (vars : ℕ) : Core → Freshness → Core → Freshness → Type 
       → Move vars k w k (fresh (formulaStamps vars order (k .clauses)) 0)
   -- Failed sets the complement's value, or meets the opposite one
   failed : {k : Core} {σ : Stamps} {c : ℕ} (s : ℕ) → s < 2 * vars → sameStart σ s ≡ true → Move vars k (fresh σ c) (learn (k .class (twin (failedSlot σ (2 * vars) s))) k) (fresh σ c)
-  opposite : {k : Core} {σ : Stamps} {c : ℕ} (s : ℕ) → s < 2 * vars → sameStart σ s ≡ true → isFalse k (twin (failedSlot σ (2 * vars) s)) ≡ true → Move vars k (fresh σ c) (marked k) spent
+  opposite : {k : Core} {σ : Stamps} {c : ℕ} (s : ℕ) → s < 2 * vars → sameStart σ s ≡ true → coreFalse k (twin (failedSlot σ (2 * vars) s)) ≡ true → Move vars k (fresh σ c) (markedCore k) spent
   -- n visits of Sweep from the cursor on
-  sweep : {k : Core} {σ : Stamps} {c : ℕ} (n : ℕ) → Move vars k (fresh σ c) (withClauses (visitFrom (visit σ) c n (k .clauses)) k) (fresh σ (c + n))
+  sweep : {k : Core} {σ : Stamps} {c : ℕ} (n : ℕ) → Move vars k (fresh σ c) (withClauses (visitFrom (sweepVisit σ) c n (k .clauses)) k) (fresh σ (c + n))
 
 -- any number of moves
 pub data Moves (vars : ℕ) (k : Core) (w : Freshness) : Core → Freshness → Type 0 where

@@ -11,7 +11,7 @@ use Rattle.literal.specs.Literals.{Literal, Small}
 use Rattle.base.specs.Decide.{same-or}
 use Rattle.base.proofs.Lists.{getD-zeros}
 use Rattle.tables.specs.Tables.{startOf, lengthOf, variableAt}
-use Rattle.occurrences.specs.Chains.{nextOf, ownerOf, Chained, Before, Linking, Linkable, Room}
+use Rattle.occurrences.specs.Chains.{nextOf, ownerOf, Chained, Before, Linking, Linkable, ChainRoom}
 
 -- ---- the chains
 
@@ -99,7 +99,7 @@ module _ {vs heads places : List ℕ} (C : Chained vs heads places) (p u i : ℕ
 
 -- ---- the literals of the clauses
 
-module _ {n i m : ℕ} {c : List ℕ} {l : List ℤ} {heads places : List ℕ} (K : Linkable n c l) (lt : i < n) (inside : m < lengthOf c i) (R : Room heads places) (L : Linking i m c l heads places) where
+module _ {n i m : ℕ} {c : List ℕ} {l : List ℤ} {heads places : List ℕ} (K : Linkable n c l) (lt : i < n) (inside : m < lengthOf c i) (R : ChainRoom heads places) (L : Linking i m c l heads places) where
   abbrev place : ℕ
   place = startOf c i + m
 
@@ -213,7 +213,7 @@ linkable-fewer {n} {m} h K = record {
 }
 
 -- the same for the place itself, with what the code has read
-module _ {n i : ℕ} {c : List ℕ} {l : List ℤ} {heads places : List ℕ} (K : Linkable n c l) (lt : i < n) (R : Room heads places) (p w : ℕ) (low : startOf c i ≤ p) (high : p < startOf c i + lengthOf c i) (e : w ≡ variableAt l p) where
+module _ {n i : ℕ} {c : List ℕ} {l : List ℤ} {heads places : List ℕ} (K : Linkable n c l) (lt : i < n) (R : ChainRoom heads places) (p w : ℕ) (low : startOf c i ≤ p) (high : p < startOf c i + lengthOf c i) (e : w ≡ variableAt l p) where
   at : startOf c i + (p - startOf c i) ≡ p
   at = omega (arith, low)
 

@@ -9,7 +9,7 @@ use lib.ListN.{length, getD, set, length-set}
 use lib.Seq.{getD-set-same, getD-set-other}
 use Rattle.base.specs.Decide.{same-or, le-or}
 use Rattle.occurrences.specs.Chains.{nextOf, ownerOf, Chained}
-use Rattle.occurrences.specs.Pending.{Covered, Skippable, Walkable, HasChain, PendingAll}
+use Rattle.occurrences.specs.Pending.{Covered, Skippable, WalkableChains, HasChain, PendingAll}
 
 -- ---- one clause
 
@@ -81,8 +81,8 @@ pub record Walking (w p : ℕ) (heads places : List ℕ) (pending₀ : List Bool
   pub sizes : (length pending ≡ length pending₀) × (64 ≤ length blocks)
   pub covered : Covered pending blocks
   pub still : (i : ℕ) → getD pending₀ i false ≡ true → getD pending i false ≡ true
-  pub here : (vs : List ℕ) → Walkable vs heads places → (q : ℕ) → p ≡ q + 1 → getD vs q 0 ≡ w
-  pub behind : (vs : List ℕ) → Walkable vs heads places → (q : ℕ) → getD vs q 0 ≡ w → p ≤ q → getD pending (ownerOf places q) false ≡ true
+  pub here : (vs : List ℕ) → WalkableChains vs heads places → (q : ℕ) → p ≡ q + 1 → getD vs q 0 ≡ w
+  pub behind : (vs : List ℕ) → WalkableChains vs heads places → (q : ℕ) → getD vs q 0 ≡ w → p ≤ q → getD pending (ownerOf places q) false ≡ true
 
 pub walking-none : {w : ℕ} {heads places : List ℕ} {pending blocks : List Bool} → HasChain w heads places pending blocks → Walking w (getD heads w 0) heads places pending pending blocks
 walking-none {w} {heads} A = record {
@@ -129,7 +129,7 @@ module _ {w p : ℕ} {heads places : List ℕ} {pending₀ pending blocks blocks
   }
     where
       -- no place of w lies between this one and the next
-      farther : (vs : List ℕ) → Walkable vs heads places → (q : ℕ) → getD vs q 0 ≡ w → nextOf places (p - 1) ≤ q → (q ≡ p - 1 → ⊥) → p ≤ q
+      farther : (vs : List ℕ) → WalkableChains vs heads places → (q : ℕ) → getD vs q 0 ≡ w → nextOf places (p - 1) ≤ q → (q ≡ p - 1 → ⊥) → p ≤ q
       farther vs X q e h d =
           let y = W .here vs X (p - 1) at in
           ⊎-elim

@@ -43,6 +43,6 @@ pub record Linkable (n : ℕ) (clauses : List ℕ) (literals : List ℤ) : Type 
   pub parts : Parts n clauses
   pub ranged : (i : ℕ) → i < n → (k : ℕ) → k < lengthOf clauses i → Literal 1024 (getD literals (startOf clauses i + k) (pos 0))
 
-pub record Room (heads places : List ℕ) : Type 0 where
+pub record ChainRoom (heads places : List ℕ) : Type 0 where
   pub variables : 1025 ≤ length heads
   pub records : 32768 ≤ length places

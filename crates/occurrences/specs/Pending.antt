@@ -15,14 +15,14 @@ pub record Skippable (pending : List Bool) (a b : ℕ) : Type 0 where
   pub none : (i : ℕ) → a ≤ i → i < b → getD pending i false ≡ false
 
 -- the places of the chains are in the table, and their clauses are of the 4,096
-pub record Walkable (vs heads places : List ℕ) : Type 0 where
+pub record WalkableChains (vs heads places : List ℕ) : Type 0 where
   pub chained : Chained vs heads places
   pub inside : (q : ℕ) → 0 < getD vs q 0 → (2 * q + 1 < length places) × (ownerOf places q < 4096)
 
 -- variable w has a chain that can be walked
 pub record HasChain (w : ℕ) (heads places : List ℕ) (pending blocks : List Bool) : Type 0 where
   pub vs : List ℕ
-  pub walkable : Walkable vs heads places
+  pub walkable : WalkableChains vs heads places
   pub variable : (0 < w) × (w < length heads)
   pub room : (4096 ≤ length pending) × (64 ≤ length blocks)
   pub covered : Covered pending blocks
@@ -31,4 +31,4 @@ pub record HasChain (w : ℕ) (heads places : List ℕ) (pending blocks : List B
 pub record PendingAll (w : ℕ) (heads places : List ℕ) (pending pending′ blocks′ : List Bool) : Type 0 where
   pub covered : Covered pending′ blocks′
   pub still : (i : ℕ) → getD pending i false ≡ true → getD pending′ i false ≡ true
-  pub all : (vs : List ℕ) → Walkable vs heads places → (q : ℕ) → getD vs q 0 ≡ w → getD pending′ (ownerOf places q) false ≡ true
+  pub all : (vs : List ℕ) → WalkableChains vs heads places → (q : ℕ) → getD vs q 0 ≡ w → getD pending′ (ownerOf places q) false ≡ true

@@ -4,7 +4,7 @@ ghost use mathlib.Core.Bool.{false};
 ghost use mathlib.Core.List.{List};
 ghost use Prim.Native.Nat.{ℕ, _+_, _*_, _/_, _≤_, _<_};
 ghost use lib.ListN.{length, getD, set};
-ghost use Rattle.occurrences.specs.Chains.{Linkable, Linking, Room};
+ghost use Rattle.occurrences.specs.Chains.{Linkable, Linking, ChainRoom};
 ghost use Rattle.occurrences.specs.Pending.{Covered, Skippable, HasChain, PendingAll};
 
 // Puts place p of clause i at the front of the chain of variable w.
@@ -20,7 +20,7 @@ fn link_place(heads: &mut [u32], places: &mut [u32], w: usize, p: usize, i: u32)
 
 // Links the places of clause i.
 fn link_clause(clauses: &[u32], literals: &[i32], i: u32, heads: &mut [u32], places: &mut [u32])
-    requires { ⌜ Room (now heads) (now places) ⌝ }
+    requires { ⌜ ChainRoom (now heads) (now places) ⌝ }
     requires { ⌜ Linkable (i + 1) (now clauses) (now literals) ⌝ }
     requires { ⌜ Linking i 0 (now clauses) (now literals) (now heads) (now places) ⌝ }
     ensures { λ _. ⌜ Linking (i + 1) 0 (now (clauses .entry)) (now (literals .entry)) (now (heads .exit)) (now (places .exit)) ⌝ }
@@ -38,7 +38,7 @@ fn link_clause(clauses: &[u32], literals: &[i32], i: u32, heads: &mut [u32], pla
 
 // Links the places of n clauses. All chains are empty before.
 pub fn link(clauses: &[u32], literals: &[i32], n: u32, heads: &mut [u32], places: &mut [u32])
-    requires { ⌜ Room (now heads) (now places) ⌝ }
+    requires { ⌜ ChainRoom (now heads) (now places) ⌝ }
     requires { ⌜ Linkable n (now clauses) (now literals) ⌝ }
     requires { ⌜ Linking 0 0 (now clauses) (now literals) (now heads) (now places) ⌝ }
     ensures { λ _. ⌜ Linking n 0 (now (clauses .entry)) (now (literals .entry)) (now (heads .exit)) (now (places .exit)) ⌝ }

@@ -18,7 +18,7 @@ use Rattle.stamp.specs.Asking.{askOf}
 use Rattle.stamp.specs.declared.Ruling.{Ruling}
 use Rattle.stamp.specs.declared.Ruling.the-variants.{No, Fit}
 use Rattle.stamp.proofs.Asking.{Known, fit-known, call-refused, call-fit, acyclic-no, acyclic-yes}
-use Rattle.paper.specs.Stamping.{edgesOf}
+use Rattle.paper.specs.Stamping.{edgesFrom}
 
 -- no refusal has number 0
 pub refusal-above : (r : Refusal) → refusalNumber r ≡ 0 → ⊥
@@ -26,7 +26,7 @@ refusal-above r e = omega (arith, number-bounds r, e)
 
 pub record Accepted (order : List ℤ) (t : Tables) (st : State) : Type 0 where
   pub known : Known order t st
-  pub acyclic : cyclic (edgesOf t st) (2 * st .v) ≡ false
+  pub acyclic : cyclic (edgesFrom t st) (2 * st .v) ≡ false
   pub answer : stampCall order t st ≡ stampFresh order t st
 
 pub accepted : (order : List ℤ) (t : Tables) (st : State) → stampCall order t st .reply .number ≡ 0 → Accepted order t st
@@ -37,8 +37,8 @@ accepted order t st taken = by (askOf order t st) refl
 
     by : (r : Ruling) → askOf order t st ≡ r → Accepted order t st
     by (No r) e = refused r (ap (λ (a : After). a .reply .number) (sym (call-refused order t st r e)))
-    by Fit e = go (cyclic (edgesOf t st) (2 * st .v)) refl
+    by Fit e = go (cyclic (edgesFrom t st) (2 * st .v)) refl
       where
-        go : (b : Bool) → cyclic (edgesOf t st) (2 * st .v) ≡ b → Accepted order t st
+        go : (b : Bool) → cyclic (edgesFrom t st) (2 * st .v) ≡ b → Accepted order t st
         go true c = refused Cyclic (ap (λ (a : After). a .reply .number) (sym (call-fit order t st e) ∙ acyclic-no order t st c))
         go false c = record { known = fit-known t st order e; acyclic = c; answer = sym (call-fit order t st e) ∙ acyclic-yes order t st c }

@@ -13,20 +13,20 @@ use Rattle.base.proofs.Lists.{any-in, any-out}
 use Rattle.literal.specs.Literals.{Literal, slotOf}
 use Rattle.literal.proofs.Laws.{slot-same}
 use Rattle.hidden.specs.Hidden.{unhidden}
-use Rattle.paper.specs.Sweeping.{Left, none, stays, goes, ToNoOther}
+use Rattle.paper.specs.Sweeping.{Filtered, none, stays, goes, ToNoOther}
 
 -- a test that decides P leaves the literals that have P
-filter-left : (P : ℤ → Type 0) (test : ℤ → Bool) (C : List ℤ) → ((l : ℤ) → List·Memᴰ l C → (test l ≡ true → P l) × (test l ≡ false → P l → ⊥)) → Left P C (filter test C)
+filter-left : (P : ℤ → Type 0) (test : ℤ → Bool) (C : List ℤ) → ((l : ℤ) → List·Memᴰ l C → (test l ≡ true → P l) × (test l ≡ false → P l → ⊥)) → Filtered P C (filter test C)
 unfolding filter
 filter-left P test [] exact = none
 filter-left P test (x ∷ C) exact = go (filter-left P test C (λ l m. exact l (List·Memᴰ·tail m))) (test x) refl
   where
-    go : Left P C (filter test C) → (b : Bool) → test x ≡ b → Left P (x ∷ C) (elim b [ true ↦ x ∷ filter test C | false ↦ filter test C ])
+    go : Filtered P C (filter test C) → (b : Bool) → test x ≡ b → Filtered P (x ∷ C) (elim b [ true ↦ x ∷ filter test C | false ↦ filter test C ])
     go rest true e = stays (exact x (List·Memᴰ·head refl) .0 e) rest
     go rest false e = goes (exact x (List·Memᴰ·head refl) .1 e) rest
 
 pub unhidden-left : (v : ℕ) (R : ℤ → ℤ → Type 0) (implies : ℕ → ℕ → Bool) (C : List ℤ) → ((l : ℤ) → List·Memᴰ l C → Literal v l)
-    → ((l m : ℤ) → List·Memᴰ l C → List·Memᴰ m C → (implies (slotOf l) (slotOf m) ≡ true) ↔ R l m) → Left (ToNoOther R C) C (unhidden slotOf implies C)
+    → ((l m : ℤ) → List·Memᴰ l C → List·Memᴰ m C → (implies (slotOf l) (slotOf m) ≡ true) ↔ R l m) → Filtered (ToNoOther R C) C (unhidden slotOf implies C)
 unfolding unhidden
 unhidden-left v R implies C ranged exact = filter-left (ToNoOther R C) (λ l. not (any (hits l) (map slotOf C))) C (λ l i. (alone l i, joined l i))
   where

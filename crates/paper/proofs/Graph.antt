@@ -21,13 +21,13 @@ use Rattle.tables.specs.Clauses.{literalsOf, slotsAt, slotsFrom}
 use Rattle.visits.proofs.Forming.{shape-formed, clause-fits, part-length, stands-one}
 use Rattle.visits.proofs.Fitting.{fit-member}
 use Rattle.shape.specs.Shape.{Shape}
-use Rattle.table_graph.specs.Pairs.{Room}
+use Rattle.table_graph.specs.Pairs.{EdgeRoom}
 use Rattle.table_graph.proofs.Listing.{formed-listed, from-clauses, slots-in, fit-edges}
 use Rattle.sound.specs.Formula.{literalsIn, graph}
 use Rattle.sound.specs.Formula as formula
 use Rattle.sound.proofs.Graph.{edge-pair, reads-edge}
 use Rattle.paper.specs.Edges.{Pair, Edge, first, second}
-use Rattle.paper.specs.Stamping.{clausesOf, edgesOf, rootOf}
+use Rattle.paper.specs.Stamping.{slotClauses, edgesFrom, rootOf}
 
 -- ---- clauses of slots, as a formula
 
@@ -59,7 +59,7 @@ two-slots (a ∷ b ∷ c ∷ C) x y e = absurd (let n : length (map slotOf (a �
 
 module _ (t : Tables) (st : State) (S : Shape t st) where
   abbrev cs : List (List ℕ)
-  cs = clausesOf t st
+  cs = slotClauses t st
 
   below : (c : List ℕ) → List·Memᴰ c cs → (q : ℕ) → List·Memᴰ q c → q < 2 * st .v
   below = slots-in (formed-listed (shape-formed S))
@@ -86,16 +86,16 @@ module _ (t : Tables) (st : State) (S : Shape t st) where
   unfolding slotsAt
   pair-in P = subst (λ (C : List ℤ). List·Memᴰ (map slotOf C) cs) (P .literals) (clause-in (t .clauses) (t .literals) (st .n) 0 (P .clause) (omega arith) (omega (arith, P .within)))
 
-  read : {a b : ℤ} {x y : ℕ} → Pair t (st .n) a b → Reads (slotOf a) (slotOf b) x y → List·Memᴰ y (edgesOf t st x)
+  read : {a b : ℤ} {x y : ℕ} → Pair t (st .n) a b → Reads (slotOf a) (slotOf b) x y → List·Memᴰ y (edgesFrom t st x)
   read {a} {b} {x} {y} P r = subst (λ (adj : ℕ → List ℕ). List·Memᴰ y (adj x)) (same-graph cs) (reads-edge (map formula.standing cs) (slotOf a) (slotOf b) x y (Memᴰ·map formula.standing (pair-in P)) r)
 
-  pub edge-slots : {p q : ℤ} → Edge t (st .n) p q → List·Memᴰ (slotOf q) (edgesOf t st (slotOf p))
+  pub edge-slots : {p q : ℤ} → Edge t (st .n) p q → List·Memᴰ (slotOf q) (edgesFrom t st (slotOf p))
   edge-slots (first {a} {b} P e f) = read P (inl (ap slotOf e ∙ slot-twin a (pair-literals P .0 .above), ap slotOf f))
   edge-slots (second {a} {b} P e f) = read P (inr (ap slotOf e ∙ slot-twin b (pair-literals P .1 .above), ap slotOf f))
 
   -- ---- and an edge of slots is one of clauses
 
-  pub slots-edge : {p q : ℤ} → Literal (st .v) p → Literal (st .v) q → List·Memᴰ (slotOf q) (edgesOf t st (slotOf p)) → Edge t (st .n) p q
+  pub slots-edge : {p q : ℤ} → Literal (st .v) p → Literal (st .v) q → List·Memᴰ (slotOf q) (edgesFrom t st (slotOf p)) → Edge t (st .n) p q
   unfolding slotsAt
   slots-edge {p} {q} Lp Lq m =
       let r = edge-pair (map formula.standing cs) (slotOf p) (slotOf q) (subst (λ (adj : ℕ → List ℕ). List·Memᴰ (slotOf q) (adj (slotOf p))) (sym (same-graph cs)) m) in
@@ -127,10 +127,10 @@ module _ (t : Tables) (st : State) (S : Shape t st) where
         λ e p k. r .0 e (slotOf p) (edge-slots k),
         λ none. r .1 (λ s m.
             let lt = edge-below cs (st .v) below s (slotOf q) m .0 in
-            none (litAt s) (slots-edge (literal-at s lt) Lq (subst (λ (x : ℕ). List·Memᴰ (slotOf q) (edgesOf t st x)) (sym (slot-lit s)) m))),
+            none (litAt s) (slots-edge (literal-at s lt) Lq (subst (λ (x : ℕ). List·Memᴰ (slotOf q) (edgesFrom t st x)) (sym (slot-lit s)) m))),
       )
     where
-      room : Room (st .v) (st .n) (t .clauses) (t .literals) (replicate (2 * st .n) 0) (replicate (2 * st .n) 0) (replicate (2 * st .v + 1) 0) (replicate (2 * st .n) 0)
+      room : EdgeRoom (st .v) (st .n) (t .clauses) (t .literals) (replicate (2 * st .n) 0) (replicate (2 * st .n) 0) (replicate (2 * st .v + 1) 0) (replicate (2 * st .n) 0)
       room =
           let enough : 2 * st .n ≤ length {A = ℕ} (replicate (2 * st .n) 0) = omega (arith, length-replicate {A = ℕ} (2 * st .n) 0) in
           record { listed = formed-listed (shape-formed S); froms = enough; tos = enough; heads = enough; marks = length-replicate (2 * st .v + 1) 0 }

@@ -32,11 +32,11 @@ use Rattle.moves.proofs.Records.{stamped-agree}
 use Rattle.paper.specs.Records.{discovered, finished, parent, start, Holds, Ancestor}
 use Rattle.paper.specs.Records as records
 use Rattle.paper.specs.Edges.{Edge}
-use Rattle.paper.specs.Stamping.{clausesOf, edgesOf, walkOf, RecordOf, StampedAs}
+use Rattle.paper.specs.Stamping.{slotClauses, edgesFrom, walkOf, RecordOf, StampedAs}
 use Rattle.paper.proofs.Graph.{edge-literals, edge-slots, slots-edge, root-exact}
 use Rattle.paper.proofs.Walking.{stamps-walked}
 
-module _ {order : List ℤ} {t : Tables} {st : State} (K : Known order t st) (uncyclic : cyclic (edgesOf t st) (2 * st .v) ≡ false) where
+module _ {order : List ℤ} {t : Tables} {st : State} (K : Known order t st) (uncyclic : cyclic (edgesFrom t st) (2 * st .v) ≡ false) where
   abbrev σ : Stamps
   σ = walkOf order t st
 
@@ -44,16 +44,16 @@ module _ {order : List ℤ} {t : Tables} {st : State} (K : Known order t st) (un
   t′ = stampedTables (st .v) σ t
 
   abbrev adj : ℕ → List ℕ
-  adj = edgesOf t st
+  adj = edgesFrom t st
 
   P : Proper (st .v) (st .n) (t .clauses) (t .literals)
   P = known-proper K
 
-  below : (c : List ℕ) → List·Memᴰ c (clausesOf t st) → (q : ℕ) → List·Memᴰ q c → q < 2 * st .v
+  below : (c : List ℕ) → List·Memᴰ c (slotClauses t st) → (q : ℕ) → List·Memᴰ q c → q < 2 * st .v
   below = slots-in (P .listed)
 
   S : Stamped adj (2 * st .v) σ
-  S = stamps-stamped (clausesOf t st) (st .v) below (map slotOf order) (full-lists (K .full))
+  S = stamps-stamped (slotClauses t st) (st .v) below (map slotOf order) (full-lists (K .full))
 
   F : FreshStamps (st .v) (t′ .times) (t′ .links)
   F = written-fresh K
@@ -143,9 +143,9 @@ module _ {order : List ℤ} {t : Tables} {st : State} (K : Known order t st) (un
   edge-down p q k =
       let L = edge-literals t st (K .shape) k in
       let m = edge-slots t st (K .shape) k in
-      let none = cyclic-none (clausesOf t st) (st .v) below uncyclic in
+      let none = cyclic-none (slotClauses t st) (st .v) below uncyclic in
       ⊎-elim
-      (λ (e : slotOf p ≡ slotOf q). absurd (no-self-edge (clausesOf t st) (P .once) (slotOf q) (subst (λ (x : ℕ). List·Memᴰ (slotOf q) (adj x)) e m)))
+      (λ (e : slotOf p ≡ slotOf q). absurd (no-self-edge (slotClauses t st) (P .once) (slotOf q) (subst (λ (x : ℕ). List·Memᴰ (slotOf q) (adj x)) e m)))
       (λ (lt : finishAt σ (slotOf q) < finishAt σ (slotOf p)). omega (arith, lt, finishes-is p (L .0), finishes-is q (L .1)))
       (reach-down adj σ (S .forest) (λ a b e i d h. let c = back-cycle adj σ (S .forest) a b e i h in none a b d (c .0) (c .1)) (on-walk (L .0)) (on here m))
 
@@ -154,7 +154,7 @@ module _ {order : List ℤ} {t : Tables} {st : State} (K : Known order t st) (un
     listed = K .full;
     graph = λ p q Lp Lq. (λ m. slots-edge t st (K .shape) Lp Lq m, λ k. edge-slots t st (K .shape) k);
     roots = root-exact t st (K .shape);
-    walked = stamps-walked (clausesOf t st) (st .v) below (map slotOf order) (full-lists (K .full));
+    walked = stamps-walked (slotClauses t st) (st .v) below (map slotOf order) (full-lists (K .full));
     written = refl;
     records = record-of;
     ancestors = λ p q Lp Lq. (holds-ancestor p q Lp Lq, ancestor-holds p q Lp Lq);

@@ -19,7 +19,7 @@ use Rattle.entry.proofs.Entering.{Entered, opens-entered, resumes-entered}
 use Rattle.visits.proofs.Entered.{NoMerge, entered-formed, entered-cursor}
 use Rattle.visits.proofs.Visiting.{visits-beside}
 use Rattle.visits.proofs.Advancing.{advance-cases}
-use Rattle.sweep.specs.Sweep.{sweepFrom, unlessStale, sweepBy, sweepCall}
+use Rattle.sweep.specs.Sweep.{sweepFrom, sweepUnlessStale, sweepBy, sweepCall}
 use Rattle.sweep_visits.specs.Clause.{sweepClause}
 use Rattle.sweep_visits.proofs.Visiting.{sweep-shrinks}
 use Rattle.paper.specs.Sweeping.{sweptFrom, SweptCall}
@@ -44,13 +44,13 @@ sweep-call steps t st = by (entryOf own.Sweep t st) refl
         let swept : SweptCall steps t st (visits (sweepClause (columns (t .times) (t .links))) m k t) = record { visited = visits-swept t (st .v) S m k ends t F; others = visits-others t (st .v) S m k ends t F; times = B .times; links = B .links } in
         advance-cases Sweep true false (sweepClause (columns (t .times) (t .links))) steps k t st So (λ counts lt taken. swept) (λ counts done taken. swept)
 
-    unless : {p : Pass} → Entered p t st → NoMerge p → sweptFrom p ≤ st .n → (b : Bool) → st .fresh ≡ b → So (unlessStale b steps (sweptFrom (st .pass)) t st)
+    unless : {p : Pass} → Entered p t st → NoMerge p → sweptFrom p ≤ st .n → (b : Bool) → st .fresh ≡ b → So (sweepUnlessStale b steps (sweptFrom (st .pass)) t st)
     unless E d le true e = fresh E d le e
     unless E d le false e = λ taken. absurd (omega arith)
 
     -- where the visits begin is what the entry says
-    begun : {p : Pass} → Entered p t st → NoMerge p → sweptFrom p ≤ st .n → So (unlessStale (st .fresh) steps (sweptFrom p) t st)
-    begun E d le = subst (λ (k : ℕ). So (unlessStale (st .fresh) steps k t st)) (ap sweptFrom (E .pass)) (unless E d le (st .fresh) refl)
+    begun : {p : Pass} → Entered p t st → NoMerge p → sweptFrom p ≤ st .n → So (sweepUnlessStale (st .fresh) steps (sweptFrom p) t st)
+    begun E d le = subst (λ (k : ℕ). So (sweepUnlessStale (st .fresh) steps k t st)) (ap sweptFrom (E .pass)) (unless E d le (st .fresh) refl)
 
     by : (x : Entry) → entryOf own.Sweep t st ≡ x → So (sweepBy x steps t st)
     by (No r) q = λ taken. absurd (refusal-above r taken)

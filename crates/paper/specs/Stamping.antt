@@ -20,20 +20,20 @@ use Rattle.paper.specs.Edges.{Edge}
 use Rattle.paper.specs.Figure1.{Walked}
 
 -- the clauses as record numbers of their literals
-abbrev pub clausesOf : Tables → State → List (List ℕ)
-clausesOf t st = slotsFrom (t .clauses) (t .literals) (st .n) 0
+abbrev pub slotClauses : Tables → State → List (List ℕ)
+slotClauses t st = slotsFrom (t .clauses) (t .literals) (st .n) 0
 
 -- the literals that have an edge from p, in clause order
-abbrev pub edgesOf : Tables → State → ℕ → List ℕ
-edgesOf t st = implications (clausesOf t st)
+abbrev pub edgesFrom : Tables → State → ℕ → List ℕ
+edgesFrom t st = implications (slotClauses t st)
 
 -- no edge goes to q
 abbrev pub rootOf : Tables → State → ℕ → Bool
-rootOf t st q = absent q (tos (clausesOf t st))
+rootOf t st q = absent q (tos (slotClauses t st))
 
 -- the walk's stamps
 abbrev pub walkOf : List ℤ → Tables → State → Stamps
-walkOf order t st = stampsOf (clausesOf t st) (2 * st .v) (map slotOf order)
+walkOf order t st = stampsOf (slotClauses t st) (2 * st .v) (map slotOf order)
 
 -- the record of p holds the walk's times and links
 pub record RecordOf (σ : Stamps) (t′ : Tables) (p : ℤ) : Type 0 where
@@ -47,11 +47,11 @@ pub record StampedAs (order : List ℤ) (t : Tables) (st : State) (t′ : Tables
   -- "takes a list of all 2V literals"
   pub listed : Full (st .v) order
   -- "(a ∨ b) gives the edges −a → b and −b → a"
-  pub graph : (p q : ℤ) → Literal (st .v) p → Literal (st .v) q → List·Memᴰ (slotOf q) (edgesOf t st (slotOf p)) ↔ Edge t (st .n) p q
+  pub graph : (p q : ℤ) → Literal (st .v) p → Literal (st .v) q → List·Memᴰ (slotOf q) (edgesFrom t st (slotOf p)) ↔ Edge t (st .n) p q
   -- "A root has no edge into it."
   pub roots : (q : ℤ) → Literal (st .v) q → (rootOf t st (slotOf q) ≡ true) ↔ ((p : ℤ) → Edge t (st .n) p q → ⊥)
   -- "Stamp (000, figure 1)": the walk is figure 1's, over this graph, under this order
-  pub walked : Walked (edgesOf t st) (rootOf t st) (2 * st .v) (map slotOf order) (walkOf order t st)
+  pub walked : Walked (edgesFrom t st) (rootOf t st) (2 * st .v) (map slotOf order) (walkOf order t st)
   -- "The result is one record per literal: discovery, finish, parent, start. .. Records past 2V stay."
   pub written : t′ ≡ stampedTables (st .v) (walkOf order t st) t
   pub records : (p : ℤ) → Literal (st .v) p → RecordOf (walkOf order t st) t′ p

@@ -43,10 +43,10 @@ pub record HiddenPair (t : Tables) (C : List ℤ) : Type 0 where
 -- ---- figure 5
 
 -- D is the literals of C that have P, in order
-pub data Left (P : ℤ → Type 0) : List ℤ → List ℤ → Type 0 where
-  none : Left P [] []
-  stays : {l : ℤ} {C D : List ℤ} → P l → Left P C D → Left P (l ∷ C) (l ∷ D)
-  goes : {l : ℤ} {C D : List ℤ} → (P l → ⊥) → Left P C D → Left P (l ∷ C) D
+pub data Filtered (P : ℤ → Type 0) : List ℤ → List ℤ → Type 0 where
+  none : Filtered P [] []
+  stays : {l : ℤ} {C D : List ℤ} → P l → Filtered P C D → Filtered P (l ∷ C) (l ∷ D)
+  goes : {l : ℤ} {C D : List ℤ} → (P l → ⊥) → Filtered P C D → Filtered P (l ∷ C) D
 
 -- l has R to no other literal of C
 abbrev pub ToNoOther : (ℤ → ℤ → Type 0) → List ℤ → ℤ → Type 0
@@ -55,9 +55,9 @@ ToNoOther R C l = (m : ℤ) → List·Memᴰ m C → (m ≡ l → ⊥) → R l m
 pub record Shortened (t : Tables) (C D : List ℤ) : Type 0 where
   pub rest : List ℤ
   -- "first, each literal that holds another literal of the clause goes"
-  pub first : Left (ToNoOther (λ l m. Holds t l m) C) C rest
+  pub first : Filtered (ToNoOther (λ l m. Holds t l m) C) C rest
   -- "then, of the rest, each whose complement is held by another's complement"
-  pub second : Left (ToNoOther (λ l m. Holds t (negℤ m) (negℤ l)) rest) rest D
+  pub second : Filtered (ToNoOther (λ l m. Holds t (negℤ m) (negℤ l)) rest) rest D
 
 -- ---- a visit
 

@@ -2,16 +2,10 @@
 use Prim.Native.Nat.{ℕ, _+_}
 use mathlib.Core.Path.{_≡_}
 use mathlib.Core.List.{List}
-use lib.ListN.{length, getD}
+use lib.ListN.{length}
 use lib.Seq.{sets}
-use lib.IntN.{ℤ, pos}
-use Rattle.literal.specs.Literals.{Small}
 
 -- the bytes are stored from `at` on, as far as the output reaches, and r is the place behind them
 pub record Stored (bytes : List ℕ) (at : ℕ) (out out′ : List ℕ) (r : ℕ) : Type 0 where
   pub next : r ≡ at + length bytes
   pub stored : out′ ≡ sets out at bytes
-
--- none of the literals is the smallest i32
-pub record EachSmall (ls : List ℤ) : Type 0 where
-  pub each : (k : ℕ) → Small (getD ls k (pos 0))

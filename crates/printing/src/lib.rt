@@ -4,9 +4,9 @@ ghost use mathlib.Core.Path.{_≡_};
 ghost use Prim.Native.Nat.{_+_, _<_, _^_};
 ghost use lib.ListN.{length, set};
 ghost use lib.Seq.{sets};
-ghost use Rattle.literal.specs.Literals.{Small};
+ghost use Rattle.literal.specs.Literals.{Small, EachSmall};
 ghost use Rattle.printing.specs.Printing.{digits, literalText, clauseText, lineText, headerText, refusedLine};
-ghost use Rattle.printing.specs.Stored.{Stored, EachSmall};
+ghost use Rattle.printing.specs.Stored.{Stored};
 
 fn put_byte(out: &mut [u8], at: usize, b: u8) -> usize
     requires { ⌜ at < 2 ^ 63 ⌝ }

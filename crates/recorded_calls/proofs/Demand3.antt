@@ -33,12 +33,12 @@ use Rattle.calls.proofs.Spanned.{AsMany, run-many}
 use Rattle.refinement.proofs.Laid.{nth}
 use Rattle.refinement.proofs.Running.{run-keeps}
 use Rattle.refinement.proofs.Demand3.{demand-3, left-out}
-use Rattle.recorded_calls.specs.Steps.{Holding, columned, Enough, loadOnRecords, Left, runOnRecords, Step, Trail, stepsOn}
+use Rattle.recorded_calls.specs.Steps.{CallerTables, columned, Enough, loadOnRecords, AfterCall, runOnRecords, Step, Trail, stepsOn}
 use Rattle.recorded_calls.proofs.Reading.{Reads, load-reads}
 use Rattle.recorded_calls.proofs.Simulated.{stepInColumns, trailInColumns, leftInColumns, steps-simulated}
 
 -- 2,048 records have columns of 4,096 numbers
-enough-long : (h : Holding) → Enough h → Long (columned h)
+enough-long : (h : CallerTables) → Enough h → Long (columned h)
 enough-long h E = record {
   clauses = E .clauses;
   literals = E .literals;
@@ -51,7 +51,7 @@ enough-long h E = record {
     many p q = omega (arith, length-pairs p q (take 2048 (h .stamps)), length-take-le 2048 (h .stamps) (omega (arith, E .stamps)))
 
 -- a load over records is one over their columns
-load-simulated : (text : List ℕ) (h : Holding) (st : State) → loadCall text (columned h) st ≡ leftInColumns (loadOnRecords text h st)
+load-simulated : (text : List ℕ) (h : CallerTables) (st : State) → loadCall text (columned h) st ≡ leftInColumns (loadOnRecords text h st)
 load-simulated text h st = λ i. record { reply = a .reply; state = a .state; tables = tables (a .tables .clauses) (a .tables .literals) (a .tables .variables) (R .times i) (R .links i) }
   where
     a : After
@@ -64,7 +64,7 @@ load-simulated text h st = λ i. record { reply = a .reply; state = a .state; ta
 abbrev through : List ℤ → List ℤ → List ℕ
 through variables C = map (λ l. slotOf (classLiteral variables l)) C
 
-module _ (text : List ℕ) (v n body : ℕ) (accepted : judgeText text ≡ Fits v n body) (h : Holding) (enough : Enough h) (st : State) (ss : List Step) where
+module _ (text : List ℕ) (v n body : ℕ) (accepted : judgeText text ≡ Fits v n body) (h : CallerTables) (enough : Enough h) (st : State) (ss : List Step) where
   -- what stands after the load and the list
   abbrev ended : Trail
   ended = stepsOn ss (loadOnRecords text h st .held) (loadOnRecords text h st .state)
@@ -89,7 +89,7 @@ module _ (text : List ℕ) (v n body : ℕ) (accepted : judgeText text ≡ Fits 
 
 -- ---- Run
 
-run-simulated : (count : ℕ) (h : Holding) (st : State) → runCall count (columned h) st ≡ leftInColumns (runOnRecords count h st)
+run-simulated : (count : ℕ) (h : CallerTables) (st : State) → runCall count (columned h) st ≡ leftInColumns (runOnRecords count h st)
 run-simulated count h st = λ i. record { reply = a .reply; state = a .state; tables = tables (a .tables .clauses) (a .tables .literals) (a .tables .variables) (sym (packs .0) i) (sym (packs .1) i) }
   where
     a : After
@@ -104,8 +104,8 @@ run-simulated count h st = λ i. record { reply = a .reply; state = a .state; ta
         (M .links ∙ length-pairs (λ (r : StampRecord). r .parent) (λ (r : StampRecord). r .start) (take 2048 (h .stamps)))
 
 -- after an accepted load, a run over records keeps the satisfying assignments too
-module _ (text : List ℕ) (v n body : ℕ) (accepted : judgeText text ≡ Fits v n body) (h : Holding) (enough : Enough h) (st : State) (count : ℕ) where
-  abbrev ran : Left
+module _ (text : List ℕ) (v n body : ℕ) (accepted : judgeText text ≡ Fits v n body) (h : CallerTables) (enough : Enough h) (st : State) (count : ℕ) where
+  abbrev ran : AfterCall
   ran = runOnRecords count (loadOnRecords text h st .held) (loadOnRecords text h st .state)
 
   pub records-run : (τ : Assignment) → Stands (columned (ran .held)) (ran .state) τ ↔ Satisfies τ (textClauses text)

@@ -91,7 +91,7 @@ pub failed-reads : (t : Tables) (st : State) → Reads t (failedCall t st)
 unfolding failedCall failedFresh
 failed-reads t st = by (openingOf t st)
   where
-    unless : (b : Bool) → Reads t (failing.unlessStale b t st)
+    unless : (b : Bool) → Reads t (failing.failedUnlessStale b t st)
     unless true = record { times = refl; links = refl }
     unless false = stamps-same t
 
@@ -103,7 +103,7 @@ pub sweep-reads : (steps : ℕ) (t : Tables) (st : State) → Reads t (sweepCall
 unfolding sweepCall
 sweep-reads steps t st = by (entryOf own.Sweep t st)
   where
-    unless : (b : Bool) (k : ℕ) → Reads t (sweeping.unlessStale b steps k t st)
+    unless : (b : Bool) (k : ℕ) → Reads t (sweeping.sweepUnlessStale b steps k t st)
     unless true k = let σ = columns (t .times) (t .links) in advance-reads Sweep true false (sweepClause σ) (sweep-shrinks σ) steps k t st
     unless false k = stamps-same t
 

@@ -14,7 +14,7 @@ use Rattle.tables.specs.Calls.{After}
 use Rattle.calls.proofs.Recorded.{Kept, stamp-kept}
 use Rattle.call_lists.specs.Lists.{Call, propagate, merge, stamp, failed, sweep, callOn}
 use Rattle.call_lists.specs.Lists as columns
-use Rattle.recorded_calls.specs.Steps.{Holding, columned, Left, readingStamps, writingStamps, callOnRecords, Lent, lend, giveBack, Step, withBack, stepOn, Trail, stepsOn}
+use Rattle.recorded_calls.specs.Steps.{CallerTables, columned, AfterCall, readingStamps, writingStamps, callOnRecords, Lent, lend, giveBack, Step, withBack, stepOn, Trail, stepsOn}
 use Rattle.recorded_calls.proofs.Reading.{Reads, propagate-reads, merge-reads, failed-reads, sweep-reads}
 use Rattle.recorded_calls.proofs.Columns.{column-lent, column-read, column-written}
 
@@ -27,16 +27,16 @@ abbrev pub stepInColumns : Step → columns.Step
 stepInColumns s = record { call = s .call; lent = inColumns (s .lent) }
 
 -- what a call over records leaves, with the columns of its records
-abbrev pub leftInColumns : Left → After
+abbrev pub leftInColumns : AfterCall → After
 leftInColumns a = record { reply = a .reply; state = a .state; tables = columned (a .held) }
 
 -- the same numbers are lent
-lent-same : (k : Lent) (h : Holding) → columns.lend (inColumns k) (columned h) ≡ columned (lend k h)
+lent-same : (k : Lent) (h : CallerTables) → columns.lend (inColumns k) (columned h) ≡ columned (lend k h)
 lent-same k h = λ i.
     tables (take (k .clauses) (h .clauses)) (take (k .literals) (h .literals)) (take (k .variables) (h .variables))
     (column-lent (λ (r : StampRecord). r .discovery) (λ (r : StampRecord). r .finish) (k .stamps) (h .stamps) i) (column-lent (λ (r : StampRecord). r .parent) (λ (r : StampRecord). r .start) (k .stamps) (h .stamps) i)
 
-module _ (k : Lent) (h : Holding) where
+module _ (k : Lent) (h : CallerTables) where
   -- a call that reads the stamps
   reading : (a : After) → Reads (columned (lend k h)) a → columned (giveBack k h (readingStamps a (lend k h .stamps) .held)) ≡ columns.giveBack (inColumns k) (columned h) (a .tables)
   reading a R = λ i.
@@ -82,7 +82,7 @@ module _ (k : Lent) (h : Holding) where
 
 -- ---- lists of calls
 
-step-simulated : (s : Step) (h : Holding) (st : State) → columns.stepOn (stepInColumns s) (columned h) st ≡ leftInColumns (stepOn s h st)
+step-simulated : (s : Step) (h : CallerTables) (st : State) → columns.stepOn (stepInColumns s) (columned h) st ≡ leftInColumns (stepOn s h st)
 unfolding stepOn columns.stepOn
 step-simulated s h st = ap (λ (t : Tables). columns.withBack (inColumns (s .lent)) (columned h) (callOn (s .call) t st)) (lent-same (s .lent) h) ∙ sym (called (s .lent) h (s .call) st)
 
@@ -90,7 +90,7 @@ abbrev pub trailInColumns : Trail → columns.Trail
 trailInColumns a = record { tables = columned (a .held); state = a .state; replies = a .replies }
 
 -- THE LAW: the replies, the state and the tables
-pub steps-simulated : (ss : List Step) (h : Holding) (st : State) → columns.stepsOn (map stepInColumns ss) (columned h) st ≡ trailInColumns (stepsOn ss h st)
+pub steps-simulated : (ss : List Step) (h : CallerTables) (st : State) → columns.stepsOn (map stepInColumns ss) (columned h) st ≡ trailInColumns (stepsOn ss h st)
 unfolding stepsOn columns.stepsOn
 steps-simulated [] h st = refl
 steps-simulated (s ∷ ss) h st =

@@ -21,60 +21,60 @@ use Rattle.calls.specs.Calls.{recorded, inRecords, runInRecords}
 use Rattle.call_lists.specs.Lists.{Call, propagate, merge, stamp, failed, sweep}
 
 -- what the caller holds: the tables, the stamps as records
-pub record Holding : Type 0 where
+pub record CallerTables : Type 0 where
   pub clauses : List ℕ
   pub literals : List ℤ
   pub variables : List ℤ
   pub stamps : List StampRecord
 
-abbrev pub holding : List ℕ → List ℤ → List ℤ → List StampRecord → Holding
-holding c l v s = record { clauses = c; literals = l; variables = v; stamps = s }
+abbrev pub callerTables : List ℕ → List ℤ → List ℤ → List StampRecord → CallerTables
+callerTables c l v s = record { clauses = c; literals = l; variables = v; stamps = s }
 
 -- the tables that the definitions of the calls read in it: of the stamps, the columns of the first 2,048 records
-abbrev pub columned : Holding → Tables
+abbrev pub columned : CallerTables → Tables
 columned h = recorded (h .clauses) (h .literals) (h .variables) (h .stamps)
 
 -- no table is shorter than stated
-pub record Enough (h : Holding) : Type 0 where
+pub record Enough (h : CallerTables) : Type 0 where
   pub clauses : 12288 ≤ length (h .clauses)
   pub literals : 16384 ≤ length (h .literals)
   pub variables : 2048 ≤ length (h .variables)
   pub stamps : 2048 ≤ length (h .stamps)
 
 -- what a call leaves: its reply, the state, and what its caller then holds
-pub record Left : Type 0 where
+pub record AfterCall : Type 0 where
   pub reply : Reply
   pub state : State
-  pub held : Holding
+  pub held : CallerTables
 
-abbrev pub leaving : Outcome → Holding → Left
+abbrev pub leaving : Outcome → CallerTables → AfterCall
 leaving o h = record { reply = replyOf (o .answer); state = o .state; held = h }
 
 -- ---- one call on what is lent
 
 -- the stamps are lent for reading only
-abbrev pub readingStamps : After → List StampRecord → Left
-readingStamps a stamps = record { reply = a .reply; state = a .state; held = holding (a .tables .clauses) (a .tables .literals) (a .tables .variables) stamps }
+abbrev pub readingStamps : After → List StampRecord → AfterCall
+readingStamps a stamps = record { reply = a .reply; state = a .state; held = callerTables (a .tables .clauses) (a .tables .literals) (a .tables .variables) stamps }
 
 -- Stamp writes the lent records, and the other tables are lent to it for reading only
-abbrev pub writingStamps : After → Holding → Left
-writingStamps a h = record { reply = a .reply; state = a .state; held = holding (h .clauses) (h .literals) (h .variables) (inRecords a (h .stamps) .stamps) }
+abbrev pub writingStamps : After → CallerTables → AfterCall
+writingStamps a h = record { reply = a .reply; state = a .state; held = callerTables (h .clauses) (h .literals) (h .variables) (inRecords a (h .stamps) .stamps) }
 
-abbrev pub callOnRecords : Call → Holding → State → Left
+abbrev pub callOnRecords : Call → CallerTables → State → AfterCall
 callOnRecords (propagate steps) h st = readingStamps (propagateCall steps (columned h) st) (h .stamps)
 callOnRecords (merge steps) h st = readingStamps (mergeCall steps (columned h) st) (h .stamps)
 callOnRecords (stamp order) h st = writingStamps (stampCall order (columned h) st) h
 callOnRecords failed h st = readingStamps (failedCall (columned h) st) (h .stamps)
 callOnRecords (sweep steps) h st = readingStamps (sweepCall steps (columned h) st) (h .stamps)
 
-abbrev pub loadOnRecords : List ℕ → Holding → State → Left
+abbrev pub loadOnRecords : List ℕ → CallerTables → State → AfterCall
 loadOnRecords text h st = readingStamps (loadCall text (columned h) st) (h .stamps)
 
 -- Run writes the lent records and the other tables
-abbrev pub runOnRecords : ℕ → Holding → State → Left
+abbrev pub runOnRecords : ℕ → CallerTables → State → AfterCall
 runOnRecords count h st =
     let a = runInRecords (runCall count (columned h) st) (h .stamps) in
-    record { reply = a .reply; state = a .state; held = holding (a .clauses) (a .literals) (a .variables) (a .stamps) }
+    record { reply = a .reply; state = a .state; held = callerTables (a .clauses) (a .literals) (a .variables) (a .stamps) }
 
 -- ---- parts that are lent
 
@@ -85,13 +85,13 @@ pub record Lent : Type 0 where
   pub variables : ℕ
   pub stamps : ℕ
 
-abbrev pub lend : Lent → Holding → Holding
-lend k h = holding (take (k .clauses) (h .clauses)) (take (k .literals) (h .literals)) (take (k .variables) (h .variables)) (take (k .stamps) (h .stamps))
+abbrev pub lend : Lent → CallerTables → CallerTables
+lend k h = callerTables (take (k .clauses) (h .clauses)) (take (k .literals) (h .literals)) (take (k .variables) (h .variables)) (take (k .stamps) (h .stamps))
 
 -- the lent fronts come back, and what was not lent is as it was
-abbrev pub giveBack : Lent → Holding → Holding → Holding
+abbrev pub giveBack : Lent → CallerTables → CallerTables → CallerTables
 giveBack k h lent =
-    holding (lent .clauses ++ drop (k .clauses) (h .clauses)) (lent .literals ++ drop (k .literals) (h .literals)) (lent .variables ++ drop (k .variables) (h .variables))
+    callerTables (lent .clauses ++ drop (k .clauses) (h .clauses)) (lent .literals ++ drop (k .literals) (h .literals)) (lent .variables ++ drop (k .variables) (h .variables))
     (lent .stamps ++ drop (k .stamps) (h .stamps))
 
 -- ---- lists of calls
@@ -100,21 +100,21 @@ pub record Step : Type 0 where
   pub call : Call
   pub lent : Lent
 
-abbrev pub withBack : Lent → Holding → Left → Left
+abbrev pub withBack : Lent → CallerTables → AfterCall → AfterCall
 withBack k h made = record { reply = made .reply; state = made .state; held = giveBack k h (made .held) }
 
-unfoldable pub stepOn : Step → Holding → State → Left
+unfoldable pub stepOn : Step → CallerTables → State → AfterCall
 stepOn s h st = withBack (s .lent) h (callOnRecords (s .call) (lend (s .lent) h) st)
 
 -- what stands after a list of calls, and their replies in order
 pub record Trail : Type 0 where
-  pub held : Holding
+  pub held : CallerTables
   pub state : State
   pub replies : List Reply
 
 abbrev pub before : Reply → Trail → Trail
 before r rest = record { held = rest .held; state = rest .state; replies = r ∷ rest .replies }
 
-unfoldable pub stepsOn : List Step → Holding → State → Trail
+unfoldable pub stepsOn : List Step → CallerTables → State → Trail
 stepsOn [] h st = record { held = h; state = st; replies = [] }
 stepsOn (s ∷ ss) h st = before (stepOn s h st .reply) (stepsOn ss (stepOn s h st .held) (stepOn s h st .state))

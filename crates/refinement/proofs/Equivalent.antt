@@ -10,7 +10,7 @@ use lib.IntN.{ℤ, pos, negsuc, negℤ, natAbs}
 use Rattle.base.proofs.Lists.{mem-getD, getD-mem}
 use Rattle.base.specs.Decide.{le-or}
 use Rattle.literal.specs.Literals.{Literal, slotOf, litAt, eqZ}
-use Rattle.literal.specs.Assignments.{Assignment, holds}
+use Rattle.literal.specs.Assignments.{Assignment, trueUnder}
 use Rattle.literal.proofs.Laws.{lit-slot, slot-below, lit-var}
 use Rattle.literal.proofs.Signed.{eqZ-true}
 use Rattle.state.specs.declared.State.{State}
@@ -62,7 +62,7 @@ module _ (st : State) (t : Tables) (k : core.Core) (sl : ℕ) (F : Formed (st .v
   }
 
   -- a fact over slots, of a literal
-  fact-true : core.ModelOf k τ → (l : ℤ) → Literal (st .v) l → ownTruth (t .variables) l ≡ pos 1 → holds τ l ≡ true
+  fact-true : core.ModelOf k τ → (l : ℤ) → Literal (st .v) l → ownTruth (t .variables) l ≡ pos 1 → trueUnder τ l ≡ true
   fact-true S l L e =
       sym (value-slot τ l (L .above))
       ∙ S .met (slotOf l) (R .facts (slotOf l) (slot-below l (st .v) (L .above) (L .within)) ∙ ap (λ (x : ℤ). eqZ (ownTruth (t .variables) x) (pos 1)) (lit-slot l (L .above)) ∙ ap (λ (x : ℤ). eqZ x (pos 1)) e)

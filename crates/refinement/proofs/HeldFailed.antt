@@ -25,8 +25,8 @@ use Rattle.entry.specs.declared.Opening.the-variants.{Denied, Granted}
 use Rattle.entry.proofs.Entering.{Entered, granted-entered}
 use Rattle.visits.specs.Formed.{Variables}
 use Rattle.visits.proofs.Entered.{entered-formed}
-use Rattle.failed.specs.Failed.{Found, found, assert, failedAt, failedFrom, withVariables, failedReply, failedFresh, unlessStale, failedBy, failedCall}
-use Rattle.failed.specs.Steps.{Stamped}
+use Rattle.failed.specs.Failed.{Found, found, assert, failedAt, failedFrom, withVariables, failedReply, failedFresh, failedUnlessStale, failedBy, failedCall}
+use Rattle.failed.specs.Steps.{FullStamps}
 use Rattle.failed.proofs.Climbing.{failed-below, slot-ranged}
 use Rattle.failed.proofs.Valuing.{kept-true}
 use Rattle.failed.proofs.Calling.{shape-stamped}
@@ -47,7 +47,7 @@ pub record Going (f : List Clause) (v n : ℕ) (mark : Bool) (w : Freshness) (t 
   pub tied : Represented v n mark t core
   pub rows : Variables v (t .variables)
 
-module _ (f : List Clause) (v n : ℕ) (t : Tables) (S : Stamped v (t .times) (t .links)) (σ : Stamps) (c : ℕ) (A : Agree (2 * v) (columns (t .times) (t .links)) σ) where
+module _ (f : List Clause) (v n : ℕ) (t : Tables) (S : FullStamps v (t .times) (t .links)) (σ : Stamps) (c : ℕ) (A : Agree (2 * v) (columns (t .times) (t .links)) σ) where
   abbrev ρ : Stamps
   ρ = columns (t .times) (t .links)
 
@@ -80,9 +80,9 @@ module _ (f : List Clause) (v n : ℕ) (t : Tables) (S : Stamped v (t .times) (t
           (elim a as (λ y. Found) [ true ↦ found w m false | false ↦ elim b as (λ y. Found) [ true ↦ found w m true | false ↦ found (values.setTrue w l) (suc m) false ] ] .variables)
       by-values e true b p q = G
       by-values e false true p q = record {
-        core = core.marked (G .core);
+        core = core.markedCore (G .core);
         moves = go (G .moves) (opposite (2 * k) s-in (sym (same-agree (2 * v) ρ σ A (2 * k) s-in (twin-below v (2 * k) s-in)) ∙ e)
-            (ap (core.isFalse (G .core)) (sym back) ∙ false-is (G .tied) (G .rows) l L ∙ q));
+            (ap (core.coreFalse (G .core)) (sym back) ∙ false-is (G .tied) (G .rows) l L ∙ q));
         tied = mark-represented (G .tied);
         rows = G .rows;
       }
@@ -171,7 +171,7 @@ pub failed-held : {f : List Clause} (t : Tables) (st : State) → Held f t st �
 unfolding failedCall
 failed-held {f} t st H = by (openingOf t st) refl (failed-shape t st (H .shape))
   where
-    unless : Entered Idle t st → (b : Bool) → st .fresh ≡ b → Shape (unlessStale b t st .tables) (unlessStale b t st .state) → Held f (unlessStale b t st .tables) (unlessStale b t st .state)
+    unless : Entered Idle t st → (b : Bool) → st .fresh ≡ b → Shape (failedUnlessStale b t st .tables) (failedUnlessStale b t st .state) → Held f (failedUnlessStale b t st .tables) (failedUnlessStale b t st .state)
     unless E true e Q = fresh-held H E e Q
     unless E false e Q = H
 

@@ -29,7 +29,7 @@ use Rattle.visits.proofs.Entered.{NoMerge, entered-formed, entered-cursor}
 use Rattle.visits.proofs.Visiting.{SameStamps, visits-beside}
 use Rattle.visits.proofs.StoreKeeps.{formed-shape-as}
 use Rattle.visits.proofs.Advancing.{advance-cases}
-use Rattle.sweep.specs.Sweep.{sweepFrom, unlessStale, sweepBy, sweepCall}
+use Rattle.sweep.specs.Sweep.{sweepFrom, sweepUnlessStale, sweepBy, sweepCall}
 use Rattle.sweep_visits.specs.Clause.{sweepClause}
 use Rattle.sweep_visits.proofs.Visiting.{sweep-shrinks}
 use Rattle.sweep_visits.proofs.VisitKeeps.{formed-visits}
@@ -56,7 +56,7 @@ module _ {f : List Clause} {t : Tables} {st : State} (H : Held f t st) (F : Form
     t′ = visits (sweepClause ρ) m c t
 
     abbrev k′ : Core
-    k′ = withClauses (sound.visitFrom (sound.visit σ) c m (H .core .clauses)) (H .core)
+    k′ = withClauses (sound.visitFrom (sound.sweepVisit σ) c m (H .core .clauses)) (H .core)
 
     ends : c + m ≤ st .n
     ends = omega (arith, min-le-right steps (st .n - c), le)
@@ -131,7 +131,7 @@ sweep-held {f} steps t st H = by (entryOf own.Sweep t st) refl
             from-held H (entered-formed E (begins-unmerged p k b)) (subst (λ (b : Bool). Represented (st .v) (st .n) b t (H .core)) (E .unmarked) (H .tied)) (H .shape .stamps e) k le σ A
             (subst (λ (x : ℕ). Moves (st .v) (load f) spent (H .core) (fresh σ x)) (at-cursor p c k (subst (λ (q : Pass). At q c) (E .pass) at) b) ms) steps
 
-    unless : {p : Pass} → Entered p t st → (k : ℕ) → Begins p k → k ≤ st .n → (b : Bool) → st .fresh ≡ b → Held f (unlessStale b steps k t st .tables) (unlessStale b steps k t st .state)
+    unless : {p : Pass} → Entered p t st → (k : ℕ) → Begins p k → k ≤ st .n → (b : Bool) → st .fresh ≡ b → Held f (sweepUnlessStale b steps k t st .tables) (sweepUnlessStale b steps k t st .state)
     unless E k b le true e = stamped E k b le e
     unless E k b le false e = H
 

@@ -56,10 +56,10 @@ module _ {v n : ℕ} {mark : Bool} {t : Tables} {k : core.Core} (R : Represented
   fact-is : (c : ℤ) → Literal v c → k .facts (slotOf c) ≡ eqZ (ownTruth (t .variables) c) (pos 1)
   fact-is c C = R .facts (slotOf c) (slot-below c v (C .above) (C .within)) ∙ ap (λ (x : ℤ). eqZ (ownTruth (t .variables) x) (pos 1)) (lit-slot c (C .above))
 
-  pub true-is : core.isTrue k (slotOf l) ≡ isTrue (t .variables) l
+  pub true-is : core.coreTrue k (slotOf l) ≡ isTrue (t .variables) l
   true-is = ap (k .facts) class-is ∙ fact-is (classLiteral (t .variables) l) class-lit
 
-  pub false-is : core.isFalse k (slotOf l) ≡ isFalse (t .variables) l
+  pub false-is : core.coreFalse k (slotOf l) ≡ isFalse (t .variables) l
   false-is =
       let c = classLiteral (t .variables) l in
       ap (λ (x : ℕ). k .facts (twin x)) class-is

@@ -12,7 +12,7 @@ use lib.Signed.{nonNeg}
 use borrow.Author.Tests.{eqb-true}
 use Rattle.literal.specs.Literals.{Literal, slotOf, litAt, eqZ, signBy}
 use Rattle.literal.specs.Clauses.{distinct, tautology}
-use Rattle.literal.specs.Assignments.{Assignment, someHolds, Satisfies}
+use Rattle.literal.specs.Assignments.{Assignment, someTrue, Satisfies}
 use Rattle.literal.proofs.Laws.{slot-lit, slot-below}
 use Rattle.state.specs.States.{loadedState}
 use Rattle.state.specs.declared.State.{State}
@@ -33,7 +33,7 @@ use Rattle.load.specs.Load.{keptOf, literalPlaces, anyEmpty, laid, loadCall}
 use Rattle.merge.proofs.Truth.{some-distinct, tautology-true}
 use Rattle.merge.proofs.Repeats.{All, distinct-all}
 use Rattle.sound.specs.Formula.{Clause, dropped, standing, Sat, Models}
-use Rattle.moves.specs.Core.{load, marked}
+use Rattle.moves.specs.Core.{load, markedCore}
 use Rattle.moves.specs.Moves.{spent, conflict, change, stay, go}
 use Rattle.refinement.specs.Represented.{clauseOf, Represented}
 use Rattle.refinement.proofs.Propagated.{mark-represented, mem-map}
@@ -141,15 +141,15 @@ module _ (v : ℕ) (τ : Assignment) where
   kept-real c I = real-in (distinct c) (distinct-all (λ x. 0 < natAbs x) c (above v c I))
 
   -- a clause that was dropped is true, one that stands is as true as its kept literals
-  models-one : (c : List ℤ) → InClause v c → ((C : List ℕ) → clauseFor c ≡ standing C → Sat τ C) → someHolds τ c ≡ true
+  models-one : (c : List ℤ) → InClause v c → ((C : List ℕ) → clauseFor c ≡ standing C → Sat τ C) → someTrue τ c ≡ true
   unfolding clauseFor
   models-one c I m = by (tautology c) refl m
     where
-      by : (b : Bool) → tautology c ≡ b → ((C : List ℕ) → elim b as (λ y. Clause) [ true ↦ dropped | false ↦ standing (map slotOf (distinct c)) ] ≡ standing C → Sat τ C) → someHolds τ c ≡ true
+      by : (b : Bool) → tautology c ≡ b → ((C : List ℕ) → elim b as (λ y. Clause) [ true ↦ dropped | false ↦ standing (map slotOf (distinct c)) ] ≡ standing C → Sat τ C) → someTrue τ c ≡ true
       by true e m = tautology-true τ c (above v c I) e
       by false e m = sym (some-distinct τ c) ∙ slots-sat τ (distinct c) (kept-real c I) (m (map slotOf (distinct c)) refl)
 
-  one-models : (c : List ℤ) → InClause v c → someHolds τ c ≡ true → (C : List ℕ) → clauseFor c ≡ standing C → Sat τ C
+  one-models : (c : List ℤ) → InClause v c → someTrue τ c ≡ true → (C : List ℕ) → clauseFor c ≡ standing C → Sat τ C
   unfolding clauseFor
   one-models c I h C e = by (tautology c) e
     where
@@ -242,7 +242,7 @@ module _ (text : List ℕ) (v n body : ℕ) (accepted : judgeText text ≡ Fits 
   laid-held true e =
       let z = empty-at cs e in
       record {
-        core = marked (load (loadedClauses cs));
+        core = markedCore (load (loadedClauses cs));
         stamped = spent;
         moves = go stay (change (conflict (z .0) (z .2)));
         within = loaded-within v cs each;

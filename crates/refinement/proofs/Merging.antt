@@ -67,7 +67,7 @@ module _ {v n : ℕ} {t : Tables} {k : core.Core} (F : FormedTo v n n t) (R : Re
 
   pub clash-simulated : clashes (edgesOf t n) v ≡ true → Simulated v n true t k
   clash-simulated h = record {
-    to = core.marked k;
+    to = core.markedCore k;
     moves = moves.go moves.stay (moves.change (clash-found v k (shaped-of F R) (same-clashes ∙ h)));
     tied = mark-represented R;
   }

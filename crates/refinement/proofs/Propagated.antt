@@ -64,11 +64,11 @@ filter-test {A} p (y ∷ xs) {x} m = by (λ r. filter-test p xs r) (p y) refl m
 
 module _ {v n sl : ℕ} {t : Tables} {k : core.Core} (F : Formed v n sl false (t .clauses) (t .literals) (t .variables)) (R : Represented v n false t k) (i : ℕ) (lt : i < n) where
   -- what stands of clause i
-  pub stands-as : T.standing (t .clauses) i ≡ 1 → core.clauseAt k i ≡ standing (map slotOf (literalsOf (t .clauses) (t .literals) i))
+  pub stands-as : T.standing (t .clauses) i ≡ 1 → core.coreClause k i ≡ standing (map slotOf (literalsOf (t .clauses) (t .literals) i))
   unfolding clauseOf
   stands-as e = R .clauses i lt ∙ ap (λ (x : ℕ). elim x as (λ y. Clause) [ zero ↦ dropped | suc _ ↦ standing (map slotOf (literalsOf (t .clauses) (t .literals) i)) ]) e
 
-  pub drops-as : T.standing (t .clauses) i ≡ 0 → core.clauseAt k i ≡ dropped
+  pub drops-as : T.standing (t .clauses) i ≡ 0 → core.coreClause k i ≡ dropped
   unfolding clauseOf
   drops-as e = R .clauses i lt ∙ ap (λ (x : ℕ). elim x as (λ y. Clause) [ zero ↦ dropped | suc _ ↦ standing (map slotOf (literalsOf (t .clauses) (t .literals) i)) ]) e
 
@@ -104,7 +104,7 @@ abbrev pub literalsAt : Tables → ℕ → List ℤ
 literalsAt t i = literalsOf (t .clauses) (t .literals) i
 
 -- the mark set
-pub mark-represented : {v n : ℕ} {t : Tables} {k : core.Core} → Represented v n false t k → Represented v n true t (core.marked k)
+pub mark-represented : {v n : ℕ} {t : Tables} {k : core.Core} → Represented v n false t k → Represented v n true t (core.markedCore k)
 mark-represented R = record { number = R .number; clauses = R .clauses; classes = R .classes; facts = R .facts; beyond = R .beyond; marks = refl }
 
 -- the value of a literal that is not false is set, at its class literal
@@ -149,13 +149,13 @@ module _ {v n : ℕ} {t : Tables} {k : core.Core} (F : Formed v n n false (t .cl
   remain : Sublistᴰ (map slotOf (notFalse (t .variables) (literalsAt t i))) (map slotOf (literalsAt t i))
   remain = map-sub (filter-sub (λ l. not (values.isFalse (t .variables) l)) (literalsAt t i))
 
-  gone-false : (s : ℕ) → List·Memᴰ s (map slotOf (literalsAt t i)) → List·Memᴰ s (map slotOf (notFalse (t .variables) (literalsAt t i))) ⊎ (core.isFalse k s ≡ true)
+  gone-false : (s : ℕ) → List·Memᴰ s (map slotOf (literalsAt t i)) → List·Memᴰ s (map slotOf (notFalse (t .variables) (literalsAt t i))) ⊎ (core.coreFalse k s ≡ true)
   gone-false s m =
       let r = mem-map (literalsAt t i) m in
       by-test (r .0) (r .1) (r .2) (values.isFalse (t .variables) (r .0)) refl
     where
-      by-test : (l : ℤ) → List·Memᴰ l (literalsAt t i) → s ≡ slotOf l → (b : Bool) → values.isFalse (t .variables) l ≡ b → List·Memᴰ s (map slotOf (notFalse (t .variables) (literalsAt t i))) ⊎ (core.isFalse k s ≡ true)
-      by-test l m q true e = inr (ap (core.isFalse k) q ∙ false-is R (F .vars) l (fit-member (clause-fits F i lt) m) ∙ e)
+      by-test : (l : ℤ) → List·Memᴰ l (literalsAt t i) → s ≡ slotOf l → (b : Bool) → values.isFalse (t .variables) l ≡ b → List·Memᴰ s (map slotOf (notFalse (t .variables) (literalsAt t i))) ⊎ (core.coreFalse k s ≡ true)
+      by-test l m q true e = inr (ap (core.coreFalse k) q ∙ false-is R (F .vars) l (fit-member (clause-fits F i lt) m) ∙ e)
       by-test l m q false e = inl (subst (λ (x : ℕ). List·Memᴰ x (map slotOf (notFalse (t .variables) (literalsAt t i)))) (sym q) (Memᴰ·map slotOf (in-filter (λ y. not (values.isFalse (t .variables) y)) (literalsAt t i) m (ap not e))))
 
   shorter : Change k (core.put i (standing (map slotOf (notFalse (t .variables) (literalsAt t i)))) k)
@@ -206,7 +206,7 @@ module _ {v n : ℕ} {t : Tables} {k : core.Core} (F : Formed v n n false (t .cl
   pub simulate-conflict : notFalse (t .variables) (literalsAt t i) ≡ [] → Simulated v n true (shortened i [] t) k
   unfolding shortened
   simulate-conflict e = record {
-    to = core.marked (core.put i (standing []) k);
+    to = core.markedCore (core.put i (standing []) k);
     moves = go (go stay (change (subst (λ (D : List ℤ). Change k (core.put i (standing (map slotOf D)) k)) e shorter))) (change (conflict i (getD-set-same (k .clauses) i (standing []) dropped (omega (arith, R .number, lt)))));
     tied = mark-represented (subst (λ (x : List ℕ). Represented v n false (tables x (storedAt (t .clauses) (t .literals) i []) (t .variables) (t .times) (t .links)) (core.put i (standing []) k))
         (ap (recorded (t .clauses) i 0) (sym stands) ∙ recorded-same (t .clauses) i 0)

@@ -11,7 +11,7 @@ use lib.IntN.{ℤ, pos, negsuc, negℤ, natAbs, negℤ-negℤ}
 use native.Mathlib.Numerals.{add-one}
 use borrow.Author.Tests.{lt-ltb, le-ltb}
 use Rattle.literal.specs.Literals.{Literal, slotOf, litAt, eqZ}
-use Rattle.literal.specs.Assignments.{Assignment, holds, someHolds}
+use Rattle.literal.specs.Assignments.{Assignment, trueUnder, someTrue}
 use Rattle.literal.proofs.Truth.{holds-neg}
 use Rattle.state.specs.declared.State.{State}
 use Rattle.tables.specs.Tables.{Tables, classOf, valueOf}
@@ -24,18 +24,18 @@ use Rattle.visits.proofs.Known.{known-row}
 use Rattle.sound.specs.Formula.{Clause, dropped, standing, value, Sat}
 use Rattle.sound.proofs.Truth.{value-slot}
 use Rattle.moves.specs.Core as core
-use Rattle.refinement.specs.Represented.{clauseOf, Represented, clausesOf, coreOf}
+use Rattle.refinement.specs.Represented.{clauseOf, Represented, coreClauses, coreOf}
 use Rattle.refinement.proofs.Propagated.{mem-map}
 
 -- ---- every table is represented
 
-clauses-length : (c : List ℕ) (l : List ℤ) (m i : ℕ) → length (clausesOf c l m i) ≡ m
-unfolding clausesOf
+clauses-length : (c : List ℕ) (l : List ℤ) (m i : ℕ) → length (coreClauses c l m i) ≡ m
+unfolding coreClauses
 clauses-length c l zero i = refl
 clauses-length c l (suc m) i = ap suc (clauses-length c l m (suc i))
 
-clauses-at : (c : List ℕ) (l : List ℤ) (m i j : ℕ) → j < m → getD (clausesOf c l m i) j dropped ≡ clauseOf c l (i + j)
-unfolding clausesOf
+clauses-at : (c : List ℕ) (l : List ℤ) (m i j : ℕ) → j < m → getD (coreClauses c l m i) j dropped ≡ clauseOf c l (i + j)
+unfolding coreClauses
 clauses-at c l zero i j h = absurd (omega arith)
 clauses-at c l (suc m) i zero h = ap (clauseOf c l) (sym (add-zero i))
 clauses-at c l (suc m) i (suc j) h = clauses-at c l m (suc i) j (omega arith) ∙ ap (clauseOf c l) (let e : suc i + j ≡ i + suc j = omega arith in e)
@@ -56,19 +56,19 @@ core-represented v n mark t = record {
 
 -- ---- a clause of literals and the clause of their slots
 
-holds-some : (τ : Assignment) (C : List ℤ) → someHolds τ C ≡ true → (l : ℤ) × List·Memᴰ l C × (holds τ l ≡ true)
+holds-some : (τ : Assignment) (C : List ℤ) → someTrue τ C ≡ true → (l : ℤ) × List·Memᴰ l C × (trueUnder τ l ≡ true)
 holds-some τ [] h = absurd (let z : _≡_ {A = ℕ} 0 1 = cc in omega arith)
-holds-some τ (x ∷ C) h = by (holds-some τ C) (holds τ x) refl h
+holds-some τ (x ∷ C) h = by (holds-some τ C) (trueUnder τ x) refl h
   where
-    by : (someHolds τ C ≡ true → (l : ℤ) × List·Memᴰ l C × (holds τ l ≡ true)) → (b : Bool) → holds τ x ≡ b → (b || someHolds τ C) ≡ true → (l : ℤ) × List·Memᴰ l (x ∷ C) × (holds τ l ≡ true)
+    by : (someTrue τ C ≡ true → (l : ℤ) × List·Memᴰ l C × (trueUnder τ l ≡ true)) → (b : Bool) → trueUnder τ x ≡ b → (b || someTrue τ C) ≡ true → (l : ℤ) × List·Memᴰ l (x ∷ C) × (trueUnder τ l ≡ true)
     by rest true e h = (x, List·Memᴰ·head refl, e)
     by rest false e h = let r = rest h in (r .0, List·Memᴰ·tail (r .1), r .2)
 
-some-holds : (τ : Assignment) (C : List ℤ) {l : ℤ} → List·Memᴰ l C → holds τ l ≡ true → someHolds τ C ≡ true
+some-holds : (τ : Assignment) (C : List ℤ) {l : ℤ} → List·Memᴰ l C → trueUnder τ l ≡ true → someTrue τ C ≡ true
 some-holds τ [] m h = absurd (List·Memᴰ·not-nil m)
-some-holds τ (x ∷ C) {l} m h = ⊎-elim (λ (e : l ≡ x). ap (λ (b : Bool). b || someHolds τ C) (ap (holds τ) (sym e) ∙ h)) (λ r. by (holds τ x) (some-holds τ C r h)) (List·Memᴰ·cases-cons m)
+some-holds τ (x ∷ C) {l} m h = ⊎-elim (λ (e : l ≡ x). ap (λ (b : Bool). b || someTrue τ C) (ap (trueUnder τ) (sym e) ∙ h)) (λ r. by (trueUnder τ x) (some-holds τ C r h)) (List·Memᴰ·cases-cons m)
   where
-    by : (b : Bool) → someHolds τ C ≡ true → (b || someHolds τ C) ≡ true
+    by : (b : Bool) → someTrue τ C ≡ true → (b || someTrue τ C) ≡ true
     by true e = refl
     by false e = e
 
@@ -76,10 +76,10 @@ some-holds τ (x ∷ C) {l} m h = ⊎-elim (λ (e : l ≡ x). ap (λ (b : Bool).
 pub record Real (C : List ℤ) : Type 0 where
   pub each : (l : ℤ) → List·Memᴰ l C → 0 < natAbs l
 
-pub sat-slots : (τ : Assignment) (C : List ℤ) → Real C → someHolds τ C ≡ true → Sat τ (map slotOf C)
+pub sat-slots : (τ : Assignment) (C : List ℤ) → Real C → someTrue τ C ≡ true → Sat τ (map slotOf C)
 sat-slots τ C real h = let r = holds-some τ C h in (slotOf (r .0), Memᴰ·map slotOf (r .1), value-slot τ (r .0) (real .each (r .0) (r .1)) ∙ r .2)
 
-pub slots-sat : (τ : Assignment) (C : List ℤ) → Real C → Sat τ (map slotOf C) → someHolds τ C ≡ true
+pub slots-sat : (τ : Assignment) (C : List ℤ) → Real C → Sat τ (map slotOf C) → someTrue τ C ≡ true
 slots-sat τ C real s = let r = mem-map C (s .1) in some-holds τ C (r .1) (sym (value-slot τ (r .0) (real .each (r .0) (r .1))) ∙ ap (value τ) (sym (r .2)) ∙ s .2)
 
 -- ---- a clause by its number
@@ -100,14 +100,14 @@ stands-clause c l i e = ap (λ (x : ℕ). elim x as (λ y. Clause) [ zero ↦ dr
 -- ---- classes and values of a literal
 
 module _ (st : State) (t : Tables) (τ : Assignment) (S : Stands t st τ) (rows : Variables (st .v) (t .variables)) where
-  pub class-holds : (l : ℤ) → Literal (st .v) l → holds τ l ≡ holds τ (classLiteral (t .variables) l)
+  pub class-holds : (l : ℤ) → Literal (st .v) l → trueUnder τ l ≡ trueUnder τ (classLiteral (t .variables) l)
   class-holds (pos zero) L = absurd (omega (arith, L .above))
-  class-holds (pos (suc n)) L = ap τ (sym (add-one n)) ∙ S .classes n (L .within) ∙ ap (λ (w : ℕ). holds τ (classOf (t .variables) w)) (add-one n)
+  class-holds (pos (suc n)) L = ap τ (sym (add-one n)) ∙ S .classes n (L .within) ∙ ap (λ (w : ℕ). trueUnder τ (classOf (t .variables) w)) (add-one n)
   class-holds (negsuc n) L =
-      ap not (ap τ (sym (add-one n)) ∙ S .classes n (L .within) ∙ ap (λ (w : ℕ). holds τ (classOf (t .variables) w)) (add-one n))
+      ap not (ap τ (sym (add-one n)) ∙ S .classes n (L .within) ∙ ap (λ (w : ℕ). trueUnder τ (classOf (t .variables) w)) (add-one n))
       ∙ sym (holds-neg τ (classOf (t .variables) (suc n)) (known-row (record { count = st .v; rows = rows; ranged = L }) .class .above))
 
-  pub fact-holds : (l : ℤ) → Literal (st .v) l → ownTruth (t .variables) l ≡ pos 1 → holds τ l ≡ true
+  pub fact-holds : (l : ℤ) → Literal (st .v) l → ownTruth (t .variables) l ≡ pos 1 → trueUnder τ l ≡ true
   fact-holds (pos zero) L e = absurd (omega (arith, L .above))
   fact-holds (pos (suc n)) L e = ap τ (sym (add-one n)) ∙ S .truths n (L .within) (ap (valueOf (t .variables)) (add-one n) ∙ e)
   fact-holds (negsuc n) L e = ap not (ap τ (sym (add-one n)) ∙ S .falsehoods n (L .within) (ap (valueOf (t .variables)) (add-one n) ∙ sym (negℤ-negℤ (valueOf (t .variables) (suc n))) ∙ ap negℤ e))

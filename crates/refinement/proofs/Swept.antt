@@ -21,7 +21,7 @@ use Rattle.visits.proofs.Forming.{clause-fits, part-length, recorded-same}
 use Rattle.visits.proofs.Fitting.{fit-slots}
 use Rattle.visits.proofs.StoreKeeps.{FormedIn, formed-cases}
 use Rattle.sound.specs.Formula.{Clause, dropped, standing}
-use Rattle.sound.specs.Sweep.{sweepSlots, onStanding, visit, visitFirst, visitFrom}
+use Rattle.sound.specs.Sweep.{sweepSlots, onStanding, sweepVisit, visitFirst, visitFrom}
 use Rattle.moves.specs.Core as core
 use Rattle.moves.proofs.Records.{shown, sweep-agree, sweep-fate}
 use Rattle.sweep_visits.specs.Clause.{sweepClause}
@@ -55,7 +55,7 @@ module _ {v n : ℕ} {t : Tables} {k : core.Core} (F : FormedIn v n t) (R : Repr
   abbrev Visited : Fate → Type 0
   Visited f = Represented v n false (store i f t) (core.put i (shown (literalsAt t i) f) k)
 
-  same-put : (x : Clause) → core.clauseAt k i ≡ x → core.put i x k ≡ k
+  same-put : (x : Clause) → core.coreClause k i ≡ x → core.put i x k ≡ k
   same-put x e = ap (λ (f : List Clause). core.withClauses f k) (ap (set (k .clauses) i) (sym e) ∙ set-getD (k .clauses) i dropped)
 
   visited-kept : T.standing (t .clauses) i ≡ 1 → Visited fates.kept
@@ -86,26 +86,26 @@ module _ {v n : ℕ} {t : Tables} {k : core.Core} (F : FormedIn v n t) (R : Repr
       by true = visited-dropped
       by false = subst (λ (C : List ℤ). Visited (fates.left (shorten slotOf ρ C))) q (visited-left e)
 
-  sweep-visited : Represented v n false (fates.visit (sweepClause ρ) i t) (core.put i (visit σ (core.clauseAt k i)) k)
+  sweep-visited : Represented v n false (fates.visit (sweepClause ρ) i t) (core.put i (sweepVisit σ (core.coreClause k i)) k)
   unfolding onStanding
-  sweep-visited = formed-cases t F i lt (sweepClause ρ) (λ (f : Fate). Represented v n false (store i f t) (core.put i (visit σ (core.clauseAt k i)) k)) gone stood
+  sweep-visited = formed-cases t F i lt (sweepClause ρ) (λ (f : Fate). Represented v n false (store i f t) (core.put i (sweepVisit σ (core.coreClause k i)) k)) gone stood
     where
-      gone : T.standing (t .clauses) i ≡ 0 → Represented v n false t (core.put i (visit σ (core.clauseAt k i)) k)
+      gone : T.standing (t .clauses) i ≡ 0 → Represented v n false t (core.put i (sweepVisit σ (core.coreClause k i)) k)
       gone e =
           let d = drops-as F R i lt e in
-          subst (Represented v n false t) (sym (same-put (visit σ (core.clauseAt k i)) (d ∙ sym (ap (visit σ) d)))) R
+          subst (Represented v n false t) (sym (same-put (sweepVisit σ (core.coreClause k i)) (d ∙ sym (ap (sweepVisit σ) d)))) R
 
-      stood : T.standing (t .clauses) i ≡ 1 → Represented v n false (store i (sweepClause ρ (literalsAt t i)) t) (core.put i (visit σ (core.clauseAt k i)) k)
+      stood : T.standing (t .clauses) i ≡ 1 → Represented v n false (store i (sweepClause ρ (literalsAt t i)) t) (core.put i (sweepVisit σ (core.coreClause k i)) k)
       stood e =
-          subst (λ (c : Clause). Represented v n false (store i (sweepClause ρ (literalsAt t i)) t) (core.put i c k)) (sym (ap (visit σ) (stands-as F R i lt e) ∙ shown-is)) (visited-by e (literalsAt t i) refl)
+          subst (λ (c : Clause). Represented v n false (store i (sweepClause ρ (literalsAt t i)) t) (core.put i c k)) (sym (ap (sweepVisit σ) (stands-as F R i lt e) ∙ shown-is)) (visited-by e (literalsAt t i) refl)
 
 -- ---- visits
 
 pub sweeps-tied : (v n : ℕ) (ρ σ : Stamps) → Nested (2 * v) ρ → Agree (2 * v) ρ σ → (m c : ℕ) → c + m ≤ n → (t : Tables) (k : core.Core) → FormedIn v n t → Represented v n false t k
-    → Represented v n false (visits (sweepClause ρ) m c t) (core.withClauses (visitFrom (visit σ) c m (k .clauses)) k)
+    → Represented v n false (visits (sweepClause ρ) m c t) (core.withClauses (visitFrom (sweepVisit σ) c m (k .clauses)) k)
 unfolding visits
-sweeps-tied v n ρ σ N A zero c h t k F R = subst (Represented v n false t) (ap (λ (f : List Clause). core.withClauses f k) (sym (from-none (visit σ) c (k .clauses)))) R
+sweeps-tied v n ρ σ N A zero c h t k F R = subst (Represented v n false t) (ap (λ (f : List Clause). core.withClauses f k) (sym (from-none (sweepVisit σ) c (k .clauses)))) R
 sweeps-tied v n ρ σ N A (suc m) c h t k F R =
     let F′ = formed-visit t F ρ N c (omega arith) in
-    let rest = sweeps-tied v n ρ σ N A m (suc c) (omega arith) (fates.visit (sweepClause ρ) c t) (core.put c (visit σ (core.clauseAt k c)) k) F′ (sweep-visited F R c (omega arith) ρ σ A) in
-    subst (λ (f : List Clause). Represented v n false (visits (sweepClause ρ) m (suc c) (fates.visit (sweepClause ρ) c t)) (core.withClauses f k)) (sym (from-first (visit σ) c m (k .clauses) (omega (arith, R .number)))) rest
+    let rest = sweeps-tied v n ρ σ N A m (suc c) (omega arith) (fates.visit (sweepClause ρ) c t) (core.put c (sweepVisit σ (core.coreClause k c)) k) F′ (sweep-visited F R c (omega arith) ρ σ A) in
+    subst (λ (f : List Clause). Represented v n false (visits (sweepClause ρ) m (suc c) (fates.visit (sweepClause ρ) c t)) (core.withClauses f k)) (sym (from-first (sweepVisit σ) c m (k .clauses) (omega (arith, R .number)))) rest

@@ -29,14 +29,14 @@ pub record Represented (v n : ℕ) (mark : Bool) (t : Tables) (k : Core) : Type 
 -- ---- what the tables hold, as a whole
 
 -- m clauses from record i on
-unfoldable pub clausesOf : List ℕ → List ℤ → ℕ → ℕ → List Clause
-clausesOf c l zero i = []
-clausesOf c l (suc m) i = clauseOf c l i ∷ clausesOf c l m (suc i)
+unfoldable pub coreClauses : List ℕ → List ℤ → ℕ → ℕ → List Clause
+coreClauses c l zero i = []
+coreClauses c l (suc m) i = clauseOf c l i ∷ coreClauses c l m (suc i)
 
 unfoldable pub coreOf : ℕ → ℕ → Bool → Tables → Core
 coreOf v n mark t =
     record {
-      clauses = clausesOf (t .clauses) (t .literals) n 0;
+      clauses = coreClauses (t .clauses) (t .literals) n 0;
       class = λ s. elim (ltb s (2 * v)) [ true ↦ slotOf (classLiteral (t .variables) (litAt s)) | false ↦ s ];
       facts = λ s. elim (ltb s (2 * v)) [ true ↦ eqZ (ownTruth (t .variables) (litAt s)) (pos 1) | false ↦ false ];
       mark = mark;

@@ -17,7 +17,7 @@ use Rattle.dimacs.specs.Text.{judge, judgeText, clausesOf}
 use Rattle.load.specs.Load.{clauseRecords, literalPlaces, variableRecords, laid, loadCall}
 use Rattle.printing.specs.Printing.{digits, clauseText, clausesText, textOf}
 use Rattle.write.specs.Write.{writtenClauses, writeText, writeCall}
-use Rattle.roundtrip.specs.Case.{padded, full, Case, case, after, All}
+use Rattle.roundtrip.specs.Case.{padded, full, WriteCase, case, loadedCase, AllWritten}
 
 -- variable 1 is true, 2 is -1, 3 is false, 4 is 3; the first clause is 1 or -3, the second is dropped
 abbrev valued : Tables
@@ -27,21 +27,21 @@ valued = full (0 ∷ 2 ∷ 1 ∷ 2 ∷ 0 ∷ 0 ∷ []) (pos 1 ∷ negsuc 2 ∷ [
 abbrev short : Tables
 short = tables (padded 0 12288 []) (padded (pos 0) 16383 []) (padded (pos 0) 2048 []) (padded 0 4096 []) (padded (pos 0) 4096 [])
 
-abbrev cases : List Case
+abbrev cases : List WriteCase
 cases =
     -- P1, and the input of document 01: written back alike, and later bytes stay
-    after "p cnf 0 0\n" 12 0 10 "p cnf 0 0\n" 2
-    ∷ after "p cnf 4 3\n-1 2 0\n-2 3 0\n1 3 4 0\n" 40 0 32 "p cnf 4 3\n-1 2 0\n-2 3 0\n1 3 4 0\n" 8
+    loadedCase "p cnf 0 0\n" 12 0 10 "p cnf 0 0\n" 2
+    ∷ loadedCase "p cnf 4 3\n-1 2 0\n-2 3 0\n1 3 4 0\n" 40 0 32 "p cnf 4 3\n-1 2 0\n-2 3 0\n1 3 4 0\n" 8
     -- comments, a repeat and a clause with v and -v are gone
-    ∷ after "c a\np cnf 3 3\n2 1 2 0 3 1 -3 0\n -2 0" 30 0 21 "p cnf 3 2\n2 1 0\n-2 0\n" 9
+    ∷ loadedCase "c a\np cnf 3 3\n2 1 2 0 3 1 -3 0\n -2 0" 30 0 21 "p cnf 3 2\n2 1 0\n-2 0\n" 9
     -- units, class clauses, the standing clause
     ∷ case valued (loadedState 4 2 false) 55 0 54 "p cnf 4 7\n1 0\n-3 0\n2 1 0\n-2 -1 0\n4 -3 0\n-4 3 0\n1 -3 0\n" 1
     -- an output that fits exactly, and one that is a byte short
     ∷ case valued (loadedState 4 2 false) 54 0 54 "p cnf 4 7\n1 0\n-3 0\n2 1 0\n-2 -1 0\n4 -3 0\n-4 3 0\n1 -3 0\n" 0
     ∷ case valued (loadedState 4 2 false) 53 10 54 "" 53
     -- under the mark
-    ∷ after "p cnf 2 2\n1 0\n0\n" 12 0 12 "p cnf 2 1\n0\n" 0
-    ∷ after "p cnf 2 2\n1 0\n0\n" 11 10 12 "" 11
+    ∷ loadedCase "p cnf 2 2\n1 0\n0\n" 12 0 12 "p cnf 2 1\n0\n" 0
+    ∷ loadedCase "p cnf 2 2\n1 0\n0\n" 11 10 12 "" 11
     -- an open pass is no obstacle
     ∷ case (full (0 ∷ 2 ∷ 1 ∷ []) (pos 1 ∷ negsuc 1 ∷ []) (pos 1 ∷ pos 0 ∷ pos 1 ∷ pos 0 ∷ [])) (state 2 1 (Merge 0) false false) 40 0 31 "p cnf 2 3\n2 -1 0\n-2 1 0\n1 -2 0\n" 9
     -- refusal 1: a short table; a literal out of range; a variable that is not its own class and has a value
@@ -50,6 +50,6 @@ cases =
     ∷ case (full [] [] (pos 1 ∷ pos 0 ∷ pos 1 ∷ pos 1 ∷ [])) (loadedState 2 0 false) 40 1 0 "" 40
     ∷ []
 
-pub hold : All cases
+pub hold : AllWritten cases
 unfolding writeCall writeText writtenClauses textOf clausesText clauseText digits loadCall laid clauseRecords literalPlaces variableRecords longOk judgeText judge clausesOf wordsAt header headerRest shapeOk shape? long? clauses? parts? literals? variable? cursor? fresh? literal? and? or? if? not? so? every? eqᵇ? eqℤ? ℕ-discrete decLe decLt
 hold = (refl, (refl, (refl, (refl, (refl, (refl, (refl, (refl, (refl, (refl, (refl, (refl, tt))))))))))))

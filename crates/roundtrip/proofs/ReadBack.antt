@@ -13,7 +13,7 @@ use borrow.Author.Tests.{leb-true, not-true, ne-eqb, le-leb, lt-ltb, ltb-true, l
 use Rattle.base.proofs.Booleans.{and-left}
 use Rattle.dimacs.specs.Words.{isSep, isWordByte, isDigit, span, Word, word, wordsAt}
 use Rattle.dimacs.specs.Tokens.{literal, decimal, decimalFrom, numeral, meaning}
-use Rattle.dimacs.specs.Header.{number, withinLimit, after, header, headerRest}
+use Rattle.dimacs.specs.Header.{number, withinLimit, andThen, header, headerRest}
 use Rattle.dimacs.specs.Text.{budget, judge, judgeText, literalOf, clausesOf, textClauses}
 use Rattle.dimacs.specs.declared.Piece.the-variants.{Got}
 use Rattle.dimacs.specs.declared.Header.the-variants.{Fields}
@@ -269,8 +269,8 @@ header-read v cs hv hn =
     let s : List ℕ = 32 ∷ (digits (length cs) ++ (10 ∷ clausesText cs)) in
     let text : List ℕ = textOf v cs in
     let e : drop (6 + length (digits v)) text ≡ s = behind text (digits v) s 6 refl in
-    let first : header text ≡ after (number 1024 (digits v ++ s) 6) (λ w at. headerRest w text at) = refl in
-    first ∙ ap (λ p. after p (λ w at. headerRest w text at)) (number-read 1024 v 32 6 _ hv refl) ∙ rest-read v (length cs) (6 + length (digits v)) text (clausesText cs) hn e
+    let first : header text ≡ andThen (number 1024 (digits v ++ s) 6) (λ w at. headerRest w text at) = refl in
+    first ∙ ap (λ p. andThen p (λ w at. headerRest w text at)) (number-read 1024 v 32 6 _ hv refl) ∙ rest-read v (length cs) (6 + length (digits v)) text (clausesText cs) hn e
 
 body-behind : (v : ℕ) (cs : List (List ℤ)) → drop (bodyAt v (length cs)) (textOf v cs) ≡ clausesText cs
 unfolding textOf bodyAt

@@ -29,7 +29,7 @@ use Rattle.load.specs.Load.{anyEmpty, laid, loadCall}
 use Rattle.printing.specs.Printing.{textOf}
 use Rattle.write.specs.Writable.{InClauses, InClause, total, Writable}
 use Rattle.write.specs.Write.{standingClauses, writtenClauses, writeText}
-use Rattle.write.specs.Gathered.{unitFor, classFor, clauseFor, unitAt, classAt, clauseAt, formula}
+use Rattle.write.specs.Gathered.{unitFor, classFor, clauseFor, unitAt, classAt, writtenAt, formula}
 use Rattle.write.proofs.Gathering.{gathered-every}
 use Rattle.write.proofs.Records.{class-none, class-some}
 use Rattle.write.proofs.Bounds.{in-append, ready, units-in, classes-in, standing-in}
@@ -101,7 +101,7 @@ module _ (t : Tables) (st : State) (S : Shape t st) where
   part-inside : (i : ℕ) → i < st .n → startOf (t .clauses) i + lengthOf (t .clauses) i ≤ length (t .literals)
   part-inside i l = omega (arith, S .clauses .parts .inside i l, S .long .literals)
 
-  good-at : st .mark ≡ false → (i : ℕ) → i < st .n → Good (clauseAt (t .clauses) (t .literals) i)
+  good-at : st .mark ≡ false → (i : ℕ) → i < st .n → Good (writtenAt (t .clauses) (t .literals) i)
   good-at off i l =
       good-clause (standing (t .clauses) i) (literalsOf (t .clauses) (t .literals) i)
       (varied-plain _ (varied-part (t .literals) (lengthOf (t .clauses) i) (startOf (t .clauses) i) (part-inside i l) (S .clauses .each i l .once)))
@@ -116,7 +116,7 @@ module _ (t : Tables) (st : State) (S : Shape t st) where
   good-formula off =
       good-append _ _ (gathered-every Good good-none good-append (unitAt (t .variables)) (st .v) (st .v) 0 (omega arith) (λ k l. good-unit (k + 1) (valueOf (t .variables) (k + 1))))
       (good-append _ _ (gathered-every Good good-none good-append (classAt (t .variables)) (st .v) (st .v) 0 (omega arith) (λ k l. good-class (t .variables) (k + 1) (S .variables k l)))
-      (gathered-every Good good-none good-append (clauseAt (t .clauses) (t .literals)) (st .n) (st .n) 0 (omega arith) (good-at off)))
+      (gathered-every Good good-none good-append (writtenAt (t .clauses) (t .literals)) (st .n) (st .n) 0 (omega arith) (good-at off)))
 
   good-written : st .mark ≡ false → Good (writtenClauses t st)
   good-written off = subst Good (sym (written-unmarked t st off (ready t st S))) (good-formula off)

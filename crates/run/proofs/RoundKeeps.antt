@@ -69,7 +69,7 @@ module _ {w : Standing} (R : Runs w) where
 
   -- ---- Failed
 
-  failed-idle : (b : Bool) → failing.unlessStale b t st .state .pass ≡ Idle
+  failed-idle : (b : Bool) → failing.failedUnlessStale b t st .state .pass ≡ Idle
   unfolding failedFresh
   failed-idle true = go (failedFrom (columns (t .times) (t .links)) (2 * st .v) (st .v) 0 (found (t .variables) 0 false) .opposite)
     where
@@ -78,7 +78,7 @@ module _ {w : Standing} (R : Runs w) where
       go false = refl
   failed-idle false = R .idle
 
-  pub failed-rests : Rests (between (failing.unlessStale (st .fresh) t st))
+  pub failed-rests : Rests (between (failing.failedUnlessStale (st .fresh) t st))
   failed-rests = record {
     shape = subst (λ (a : After). Shape (a .tables) (a .state)) (sym (call-granted t st (runs-granted R))) (failed-shape t st (R .shape));
     idle = failed-idle (st .fresh);
@@ -86,13 +86,13 @@ module _ {w : Standing} (R : Runs w) where
 
   -- ---- Sweep
 
-  pub sweep-rests : Rests (between (sweeping.unlessStale (st .fresh) (st .n) 0 t st))
+  pub sweep-rests : Rests (between (sweeping.sweepUnlessStale (st .fresh) (st .n) 0 t st))
   sweep-rests = go (st .fresh) refl
     where
       stamped : st .fresh ≡ true → Stamped (st .v) (t .times) (t .links)
       stamped f = let S = R .shape in record { few = S .v-limit; timed = omega (arith, S .v-limit, S .long .times); linked = omega (arith, S .v-limit, S .long .links); fresh = S .stamps f }
 
-      go : (b : Bool) → st .fresh ≡ b → Rests (between (sweeping.unlessStale b (st .n) 0 t st))
+      go : (b : Bool) → st .fresh ≡ b → Rests (between (sweeping.sweepUnlessStale b (st .n) 0 t st))
       go true e =
           let r = sweep-whole t st (runs-formed R) (stamped e) (R .shape .long .times) (R .shape .long .links) in
           record { shape = r .0; idle = r .1 }
@@ -109,8 +109,8 @@ follow-rests k code {w} R = go (eqb code 1) (eqb code 2) (eqb code 3) (eqb code 
       | false ↦ elim b as (λ x. Standing) [
         | true ↦ between (stampOrdered (orderOf (w .state .v) k) (w .tables) (w .state))
         | false ↦ elim c as (λ x. Standing) [
-          | true ↦ between (failing.unlessStale (w .state .fresh) (w .tables) (w .state))
-          | false ↦ elim d as (λ x. Standing) [ true ↦ between (sweeping.unlessStale (w .state .fresh) (w .state .n) 0 (w .tables) (w .state)) | false ↦ w ]
+          | true ↦ between (failing.failedUnlessStale (w .state .fresh) (w .tables) (w .state))
+          | false ↦ elim d as (λ x. Standing) [ true ↦ between (sweeping.sweepUnlessStale (w .state .fresh) (w .state .n) 0 (w .tables) (w .state)) | false ↦ w ]
         ]
       ]
     ])

@@ -93,12 +93,12 @@ module _ (k code : ℕ) (w : Standing) where
     code-stamp e = rw (ne-eqb code 1 a, eq-eqb code 2 e, follow)
 
     module _ (b : code ≡ 2 → ⊥) where
-      pub code-failed : code ≡ 3 → between (failing.unlessStale (w .state .fresh) (w .tables) (w .state)) ≡ follow k code w
+      pub code-failed : code ≡ 3 → between (failing.failedUnlessStale (w .state .fresh) (w .tables) (w .state)) ≡ follow k code w
       unfolding follow
       code-failed e = rw (ne-eqb code 1 a, ne-eqb code 2 b, eq-eqb code 3 e, follow)
 
       module _ (d : code ≡ 3 → ⊥) where
-        pub code-sweep : code ≡ 4 → between (sweeping.unlessStale (w .state .fresh) (w .state .n) 0 (w .tables) (w .state)) ≡ follow k code w
+        pub code-sweep : code ≡ 4 → between (sweeping.sweepUnlessStale (w .state .fresh) (w .state .n) 0 (w .tables) (w .state)) ≡ follow k code w
         unfolding follow
         code-sweep e = rw (ne-eqb code 1 a, ne-eqb code 2 b, ne-eqb code 3 d, eq-eqb code 4 e, follow)
 

@@ -17,7 +17,7 @@ pub record Runs (w : Standing) : Type 0 where
   pub unmarked : w .state .mark ≡ false
 
 -- n clauses whose parts lie in two literal tables
-pub record Inside (n : ℕ) (clauses : List ℕ) (old new : List ℤ) : Type 0 where
+pub record PartsInside (n : ℕ) (clauses : List ℕ) (old new : List ℤ) : Type 0 where
   pub number : n ≤ 4096
   pub records : 12288 ≤ length clauses
   pub parts : (i : ℕ) → i < n → startOf clauses i + lengthOf clauses i ≤ 16384
@@ -47,6 +47,6 @@ pub record Saved (clauses : List ℕ) (literals variables : List ℤ) (kept : Li
 pub record Comparable (v n : ℕ) (old : List ℕ) (literals variables : List ℤ) (clauses : List ℕ) (literals′ variables′ : List ℤ) : Type 0 where
   pub few : v ≤ 1024
   pub places : Places old literals variables
-  pub inside : Inside n old literals literals′
+  pub inside : PartsInside n old literals literals′
   pub records : 12288 ≤ length clauses
   pub rows : 2048 ≤ length variables′

@@ -26,7 +26,7 @@ ghost use Rattle.settle.specs.Settle.{between};
 ghost use Rattle.round_order.specs.Order.{orderOf};
 ghost use Rattle.run.specs.Run.{programme, follow, round, unchanged, rounds, runFrom, runReply, runCall};
 ghost use Rattle.settle.specs.Steps.{standingIn};
-ghost use Rattle.run.specs.Steps.{Runs, Inside, Places, Saves, Saved, Comparable};
+ghost use Rattle.run.specs.Steps.{Runs, PartsInside, Places, Saves, Saved, Comparable};
 
 // The pass codes.
 const SETTLE: u8 = 1;
@@ -73,7 +73,7 @@ fn save(
 
 // Whether each of n clauses has the same literals in two literal tables.
 fn same_parts(clauses: &[u32], old: &[i32], new: &[i32], n: usize) -> bool
-    requires { ⌜ Inside n (now clauses) (now old) (now new) ⌝ }
+    requires { ⌜ PartsInside n (now clauses) (now old) (now new) ⌝ }
     ensures { λ r. ⌜ r ≡ allBelow n (λ i. sameList eqZ (literalsOf (now (clauses .entry)) (now (old .entry)) i) (literalsOf (now (clauses .entry)) (now (new .entry)) i)) ⌝ }
 {
     let mut i = n;
@@ -201,7 +201,7 @@ fn follow_stamp(
 fn follow_failed(variables: &mut [i32], times: &[u32], links: &[i32], st: State) -> State
     requires { ⌜ Callable st (now variables) (now times) (now links) ⌝ }
     ensures { λ r. ⌜ ((clauses : List ℕ) (literals : List ℤ) → standingIn (returned (unlent clauses) (unlent literals) variables times links) r
-        ≡ between (failing.unlessStale (st .fresh) (lent (unlent clauses) (unlent literals) variables times links) st)) ⌝ }
+        ≡ between (failing.failedUnlessStale (st .fresh) (lent (unlent clauses) (unlent literals) variables times links) st)) ⌝ }
 {
     let outcome = failed::unless_stale(variables, times, links, st);
     outcome.state
@@ -217,7 +217,7 @@ fn follow_sweep(
 ) -> State
     requires { ⌜ (st .fresh ≡ true → Sweepable (st .n) (now clauses) (now literals) (now times) (now links)) ⌝ }
     ensures { λ r. ⌜ ((variables : List ℤ) → standingIn (returned clauses literals (unlent variables) times links) r
-        ≡ between (sweeping.unlessStale (st .fresh) (st .n) 0 (lent clauses literals (unlent variables) times links) st)) ⌝ }
+        ≡ between (sweeping.sweepUnlessStale (st .fresh) (st .n) 0 (lent clauses literals (unlent variables) times links) st)) ⌝ }
 {
     let n = st.n;
     let outcome = sweep::sweep_entered(clauses, literals, times, links, st, 0, n);

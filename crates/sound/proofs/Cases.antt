@@ -15,7 +15,7 @@ use Rattle.hidden.specs.Hidden.{holds, insert, byDiscovery, passes, scanAt, sca
 use Rattle.hidden.proofs.Cases.{columns2, columns4, columns6}
 use Rattle.stamp.specs.Stamp.{stampsOf}
 use Rattle.sound.specs.Formula.{Clause, dropped, standing, literalsIn, value, formulaStamps}
-use Rattle.sound.specs.Sweep.{judge, onStanding, visitFirst, sweepFirst, jumps, tautology2, sweepFirst2}
+use Rattle.sound.specs.Sweep.{judgeClause, onStanding, visitFirst, sweepFirst, jumps, tautology2, sweepFirst2}
 use Rattle.scc.specs.Forward.{forward}
 
 -- 1, -1, 2, -2, .. are 0, 1, 2, 3, ..
@@ -41,19 +41,19 @@ unfolding o4 f2 columns2 stampsOf stampAll startWalk enters edges edge arrive le
 p2-stamps = refl
 
 p2 : sweepFirst 3 columns2 f2 ≡ standing (1 ∷ 2 ∷ []) ∷ standing (3 ∷ 4 ∷ []) ∷ standing (4 ∷ 6 ∷ []) ∷ []
-unfolding f2 columns2 filter twin holds insert byDiscovery passes scanAt scan hiddenTautology any unhidden shorten judge onStanding visitFirst
+unfolding f2 columns2 filter twin holds insert byDiscovery passes scanAt scan hiddenTautology any unhidden shorten judgeClause onStanding visitFirst
 p2 = refl
 
 p3 : swept 3 o3 (standing (1 ∷ 2 ∷ []) ∷ standing (3 ∷ 4 ∷ []) ∷ standing (1 ∷ 4 ∷ []) ∷ []) ≡ standing (1 ∷ 2 ∷ []) ∷ standing (3 ∷ 4 ∷ []) ∷ dropped ∷ []
-unfolding o3 swept stampsOf stampAll startWalk enters edges edge arrive leave filter absent twin froms tos outs literalsIn holds insert byDiscovery passes scanAt scan hiddenTautology any unhidden shorten judge onStanding visitFirst
+unfolding o3 swept stampsOf stampAll startWalk enters edges edge arrive leave filter absent twin froms tos outs literalsIn holds insert byDiscovery passes scanAt scan hiddenTautology any unhidden shorten judgeClause onStanding visitFirst
 p3 = refl
 
 p4 : swept 3 o3 (standing (1 ∷ 4 ∷ []) ∷ standing (1 ∷ 2 ∷ []) ∷ standing (3 ∷ 4 ∷ []) ∷ []) ≡ standing (1 ∷ 4 ∷ []) ∷ standing (1 ∷ 2 ∷ []) ∷ standing (3 ∷ 4 ∷ []) ∷ []
-unfolding o3 swept stampsOf stampAll startWalk enters edges edge arrive leave filter absent twin froms tos outs literalsIn holds insert byDiscovery passes scanAt scan hiddenTautology any unhidden shorten judge onStanding visitFirst
+unfolding o3 swept stampsOf stampAll startWalk enters edges edge arrive leave filter absent twin froms tos outs literalsIn holds insert byDiscovery passes scanAt scan hiddenTautology any unhidden shorten judgeClause onStanding visitFirst
 p4 = refl
 
 p5 : swept 4 o4 (standing (1 ∷ 2 ∷ []) ∷ standing (3 ∷ 4 ∷ []) ∷ standing (1 ∷ 4 ∷ 6 ∷ []) ∷ []) ≡ standing (1 ∷ 2 ∷ []) ∷ standing (3 ∷ 4 ∷ []) ∷ dropped ∷ []
-unfolding o4 swept stampsOf stampAll startWalk enters edges edge arrive leave filter absent twin froms tos outs literalsIn holds insert byDiscovery passes scanAt scan hiddenTautology any unhidden shorten judge onStanding visitFirst
+unfolding o4 swept stampsOf stampAll startWalk enters edges edge arrive leave filter absent twin froms tos outs literalsIn holds insert byDiscovery passes scanAt scan hiddenTautology any unhidden shorten judgeClause onStanding visitFirst
 p5 = refl
 
 p6-stamps : formulaStamps 2 o2 (standing (1 ∷ 2 ∷ []) ∷ standing (1 ∷ 3 ∷ []) ∷ []) ≡ columns6
@@ -67,7 +67,7 @@ contrapositive = refl
 
 -- a clause of one literal is left, though its complement holds it
 unit : sweepFirst 1 columns6 (standing (1 ∷ []) ∷ []) ≡ standing (1 ∷ []) ∷ []
-unfolding columns6 twin holds insert byDiscovery passes scanAt scan hiddenTautology judge onStanding visitFirst
+unfolding columns6 twin holds insert byDiscovery passes scanAt scan hiddenTautology judgeClause onStanding visitFirst
 unit = refl
 
 -- ---- P9, whose graph has cycles: why Stamp refuses it with 7. Take a rule that drops a pair for any edge p → q of it where p holds q without being its parent (change request 2's).
@@ -80,7 +80,7 @@ o9 : List ℕ
 o9 = 3 ∷ 0 ∷ 1 ∷ 2 ∷ 4 ∷ 5 ∷ 6 ∷ 7 ∷ []
 
 p9 : (forward (formulaStamps 4 o9 f9) (froms (map literalsIn f9)) (tos (map literalsIn f9)) ≡ false) × (getD (sweepFirst2 5 (formulaStamps 4 o9 f9) f9) 2 (standing []) ≡ dropped)
-unfolding f9 o9 stampsOf stampAll startWalk enters edges edge arrive leave filter absent twin froms tos outs literalsIn forward holds insert byDiscovery passes scanAt scan hiddenTautology any unhidden shorten judge onStanding visitFirst jumps tautology2
+unfolding f9 o9 stampsOf stampAll startWalk enters edges edge arrive leave filter absent twin froms tos outs literalsIn forward holds insert byDiscovery passes scanAt scan hiddenTautology any unhidden shorten judgeClause onStanding visitFirst jumps tautology2
 p9 = (refl, refl)
 
 -- 3 true and all else false

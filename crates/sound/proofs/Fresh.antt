@@ -19,7 +19,7 @@ use Rattle.scc.specs.Groups.{cyclic}
 use Rattle.hidden.specs.Failed.{sameStart, failedSlot}
 use Rattle.hidden.proofs.Failed.{Failed, failed-slot}
 use Rattle.sound.specs.Formula.{Clause, True, Models, graph, formulaStamps}
-use Rattle.sound.specs.Sweep.{visit, visitFirst, visitFrom, sweepFirst}
+use Rattle.sound.specs.Sweep.{sweepVisit, visitFirst, visitFrom, sweepFirst}
 use Rattle.sound.specs.Kept.{Shaped, Since}
 use Rattle.sound.proofs.Truth.{true-or, not-both}
 use Rattle.sound.proofs.Stamped.{stamped-linked}
@@ -51,12 +51,12 @@ unfolding visitFirst
 fresh-stamp vars f order shaped o h = record { then = f; ready = stamp-ready vars f shaped order o h; swept = refl }
 
 module _ (vars : ℕ) (σ : Stamps) (cursor : ℕ) (g : List Clause) (F : Fresh vars σ cursor g) where
-  pub fresh-sweep : (n : ℕ) → Fresh vars σ (cursor + n) (visitFrom (visit σ) cursor n g)
+  pub fresh-sweep : (n : ℕ) → Fresh vars σ (cursor + n) (visitFrom (sweepVisit σ) cursor n g)
   fresh-sweep n =
       record {
         then = F .then;
         ready = F .ready;
-        swept = ap (visitFrom (visit σ) cursor n) (F .swept) ∙ resumed (visit σ) cursor n (F .then);
+        swept = ap (visitFrom (sweepVisit σ) cursor n) (F .swept) ∙ resumed (sweepVisit σ) cursor n (F .then);
       }
 
   -- the assignments of the clauses now are those of the stamped formula
@@ -74,9 +74,9 @@ module _ (vars : ℕ) (σ : Stamps) (cursor : ℕ) (g : List Clause) (F : Fresh 
       failed-false vars (F .then) σ R g fresh-since τ M s (failedSlot σ (2 * vars) s) lt (failed-slot (2 * vars) σ L s lt (twin-below vars s lt) e)
 
 -- a Sweep call keeps the satisfying assignments
-pub sweep-models : (vars : ℕ) (σ : Stamps) (cursor : ℕ) (g : List Clause) → Fresh vars σ cursor g → (n : ℕ) (τ : Assignment) → Models τ (visitFrom (visit σ) cursor n g) ↔ Models τ g
+pub sweep-models : (vars : ℕ) (σ : Stamps) (cursor : ℕ) (g : List Clause) → Fresh vars σ cursor g → (n : ℕ) (τ : Assignment) → Models τ (visitFrom (sweepVisit σ) cursor n g) ↔ Models τ g
 unfolding fresh-sweep
 sweep-models vars σ cursor g F n τ =
     Iff·trans
-    (fresh-models vars σ (cursor + n) (visitFrom (visit σ) cursor n g) (fresh-sweep vars σ cursor g F n) τ)
+    (fresh-models vars σ (cursor + n) (visitFrom (sweepVisit σ) cursor n g) (fresh-sweep vars σ cursor g F n) τ)
     (Iff·symm (fresh-models vars σ cursor g F τ))

@@ -30,7 +30,7 @@ use Rattle.hidden.proofs.Intervals.{Within}
 use Rattle.hidden.proofs.Scan.{Reads, by-reads}
 use Rattle.hidden.proofs.Shorten.{shorten-sub}
 use Rattle.sound.specs.Formula.{Clause, dropped, standing, literalsIn, True, Sat, Models, graph}
-use Rattle.sound.specs.Sweep.{judge, sweepSlots, onStanding, visit, visitFirst, visitFrom, sweepFirst, tautology2, sweepFirst2}
+use Rattle.sound.specs.Sweep.{judgeClause, sweepSlots, onStanding, sweepVisit, visitFirst, visitFrom, sweepFirst, tautology2, sweepFirst2}
 use Rattle.scc.specs.Forward.{Acyclic}
 use Rattle.sound.specs.Kept.{Detour, Kept, same, shorter, round, implied, Since, none, each, Shaped}
 use Rattle.sound.proofs.Truth.{true-or, not-both}
@@ -191,7 +191,7 @@ module _ (vars : ℕ) (f : List Clause) (σ : Stamps) (R : StampedFormula vars f
 
   -- the invariant holds of any sweep that stopped after k visits
   pub sweep-since : (k : ℕ) → Since (graph f) f (sweepFirst k σ f)
-  sweep-since k = first-since (graph f) (visit σ) k f (keeps (sweepSlots σ) (sweep-kept f (2 * vars) σ (R .stamped)))
+  sweep-since k = first-since (graph f) (sweepVisit σ) k f (keeps (sweepSlots σ) (sweep-kept f (2 * vars) σ (R .stamped)))
 
   -- a sweep that stopped after any number of visits has the same satisfying assignments
   pub sweep-keeps : (k : ℕ) (τ : Assignment) → Models τ (sweepFirst k σ f) ↔ Models τ f
@@ -199,7 +199,7 @@ module _ (vars : ℕ) (f : List Clause) (σ : Stamps) (R : StampedFormula vars f
 
   -- and by the rule for pairs of change request 2
   pub sweep2-since : (k : ℕ) → Since (graph f) f (sweepFirst2 k σ f)
-  sweep2-since k = first-since (graph f) (onStanding (judge (tautology2 σ) σ)) k f (keeps (judge (tautology2 σ) σ) (sweep2-kept f (2 * vars) σ (R .stamped)))
+  sweep2-since k = first-since (graph f) (onStanding (judgeClause (tautology2 σ) σ)) k f (keeps (judgeClause (tautology2 σ) σ) (sweep2-kept f (2 * vars) σ (R .stamped)))
 
   pub sweep2-keeps : (k : ℕ) (τ : Assignment) → Models τ (sweepFirst2 k σ f) ↔ Models τ f
   sweep2-keeps k τ = models-same (sweepFirst2 k σ f) (sweep2-since k) τ
@@ -211,8 +211,8 @@ module _ (vars : ℕ) (f : List Clause) (σ : Stamps) (R : StampedFormula vars f
 
 -- ---- subsequences, under any stamps and any test
 
-judge-sub : (test : List ℕ → Bool) (σ : Stamps) (C D : List ℕ) → judge test σ C ≡ standing D → Sublistᴰ D C
-unfolding judge
+judge-sub : (test : List ℕ → Bool) (σ : Stamps) (C D : List ℕ) → judgeClause test σ C ≡ standing D → Sublistᴰ D C
+unfolding judgeClause
 judge-sub test σ [] D e = subst (λ (x : List ℕ). Sublistᴰ x []) (standing-eq e) (Sublistᴰ·refl [])
 judge-sub test σ (a ∷ []) D e = subst (λ (x : List ℕ). Sublistᴰ x (a ∷ [])) (standing-eq e) (Sublistᴰ·refl (a ∷ []))
 judge-sub test σ (a ∷ b ∷ ls) D e = go (test (a ∷ b ∷ ls)) e
@@ -222,7 +222,7 @@ judge-sub test σ (a ∷ b ∷ ls) D e = go (test (a ∷ b ∷ ls)) e
     go false k = subst (λ (x : List ℕ). Sublistᴰ x (a ∷ b ∷ ls)) (standing-eq k) (shorten-sub (λ s. s) σ (a ∷ b ∷ ls))
 
 -- every standing clause is a subsequence of what it was
-pub first-sub : (test : List ℕ → Bool) (σ : Stamps) (k : ℕ) (f : List Clause) (i : ℕ) (D : List ℕ) → getD (visitFirst (onStanding (judge test σ)) k f) i dropped ≡ standing D
+pub first-sub : (test : List ℕ → Bool) (σ : Stamps) (k : ℕ) (f : List Clause) (i : ℕ) (D : List ℕ) → getD (visitFirst (onStanding (judgeClause test σ)) k f) i dropped ≡ standing D
     → (C : List ℕ) × (getD f i dropped ≡ standing C) × Sublistᴰ D C
 unfolding visitFirst onStanding
 first-sub test σ zero f i D e = (D, e, Sublistᴰ·refl D)
@@ -232,7 +232,7 @@ first-sub test σ (suc k) (standing C ∷ f) zero D e = (C, refl, judge-sub test
 first-sub test σ (suc k) (dropped ∷ f) (suc i) D e = first-sub test σ k f i D e
 first-sub test σ (suc k) (standing C ∷ f) (suc i) D e = first-sub test σ k f i D e
 
-pub from-sub : (test : List ℕ → Bool) (σ : Stamps) (c n : ℕ) (f : List Clause) (i : ℕ) (D : List ℕ) → getD (visitFrom (onStanding (judge test σ)) c n f) i dropped ≡ standing D
+pub from-sub : (test : List ℕ → Bool) (σ : Stamps) (c n : ℕ) (f : List Clause) (i : ℕ) (D : List ℕ) → getD (visitFrom (onStanding (judgeClause test σ)) c n f) i dropped ≡ standing D
     → (C : List ℕ) × (getD f i dropped ≡ standing C) × Sublistᴰ D C
 unfolding visitFrom
 from-sub test σ zero n f i D e = first-sub test σ n f i D e

@@ -6,15 +6,15 @@ use mathlib.Core.Logic.{_⊎_, inl, inr, ⊎-elim}
 use lib.IntN.{ℤ, natAbs}
 use Rattle.base.proofs.Booleans.{bool-or}
 use Rattle.literal.specs.Literals.{slotOf, twin}
-use Rattle.literal.specs.Assignments.{Assignment, holds}
+use Rattle.literal.specs.Assignments.{Assignment, trueUnder}
 use Rattle.literal.proofs.Laws.{lit-slot}
 use Rattle.literal.proofs.Truth.{holds-twin}
 use Rattle.sound.specs.Formula.{value, True}
 
 -- the truth of a literal's slot is the truth of the literal
-pub value-slot : (τ : Assignment) (l : ℤ) → 0 < natAbs l → value τ (slotOf l) ≡ holds τ l
+pub value-slot : (τ : Assignment) (l : ℤ) → 0 < natAbs l → value τ (slotOf l) ≡ trueUnder τ l
 unfolding value
-value-slot τ l h = ap (holds τ) (lit-slot l h)
+value-slot τ l h = ap (trueUnder τ) (lit-slot l h)
 
 pub value-twin : (τ : Assignment) (s : ℕ) → value τ (twin s) ≡ not (value τ s)
 unfolding value

@@ -19,7 +19,7 @@ use Rattle.hidden.proofs.Intervals.{Within, holds-true}
 use Rattle.hidden.proofs.Scan.{Reads, by-reads, Hidden, hidden-of, tautology-pair}
 use Rattle.hidden.proofs.Shorten.{shorten-sub, shorten-leads}
 use Rattle.sound.specs.Formula.{Clause, dropped, standing, graph}
-use Rattle.sound.specs.Sweep.{judge, sweepSlots, jumps, tautology2}
+use Rattle.sound.specs.Sweep.{judgeClause, sweepSlots, jumps, tautology2}
 use Rattle.sound.specs.Kept.{Detour, Kept, same, shorter, round, implied}
 use Rattle.sound.proofs.Graph.{skew, reads-other}
 use Rattle.sound.proofs.Stamped.{stamped-nested}
@@ -77,8 +77,8 @@ module _ (f : List Clause) (size : ℕ) (σ : Stamps) (S : Stamped (graph f) siz
   -- a visit keeps the clause, whatever test for tautologies it uses, if the test's yes is a jump of a pair or a hidden tautology of a longer clause
   judge-kept : (test : List ℕ → Bool) (C : List ℕ) → Within size C
       → ((a b : ℕ) → C ≡ a ∷ b ∷ [] → test C ≡ true → Kept (graph f) (standing (a ∷ b ∷ [])) dropped)
-      → ((a b c : ℕ) (ls : List ℕ) → C ≡ a ∷ b ∷ c ∷ ls → test C ≡ true → Hidden σ C) → Kept (graph f) (standing C) (judge test σ C)
-  unfolding judge
+      → ((a b c : ℕ) (ls : List ℕ) → C ≡ a ∷ b ∷ c ∷ ls → test C ≡ true → Hidden σ C) → Kept (graph f) (standing C) (judgeClause test σ C)
+  unfolding judgeClause
   judge-kept test [] w pair long = same
   judge-kept test (a ∷ []) w pair long = same
   judge-kept test (a ∷ b ∷ ls) w pair long = go (test (a ∷ b ∷ ls)) refl
@@ -104,7 +104,7 @@ module _ (f : List Clause) (size : ℕ) (σ : Stamps) (S : Stamped (graph f) siz
       (λ a b c ls e h. hidden-of σ C h)
 
   -- and so does one by the rule of change request 2
-  pub sweep2-kept : (C : List ℕ) → Within size C → Once C → Kept (graph f) (standing C) (judge (tautology2 σ) σ C)
+  pub sweep2-kept : (C : List ℕ) → Within size C → Once C → Kept (graph f) (standing C) (judgeClause (tautology2 σ) σ C)
   unfolding tautology2 jumps
   sweep2-kept C w once =
       judge-kept (tautology2 σ) C w

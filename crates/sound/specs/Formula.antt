@@ -5,7 +5,7 @@ use mathlib.Core.Path.{_≡_}
 use mathlib.Core.Bool.{Bool, true}
 use mathlib.Core.List.{List, [], map, List·Memᴰ}
 use Rattle.literal.specs.Literals.{litAt}
-use Rattle.literal.specs.Assignments.{Assignment, holds}
+use Rattle.literal.specs.Assignments.{Assignment, trueUnder}
 use Rattle.walk.specs.Walk.{Stamps}
 use Rattle.implications.specs.Clauses.{implications}
 use Rattle.stamp.specs.Stamp.{stampsOf}
@@ -21,7 +21,7 @@ literalsIn (standing C) = C
 
 -- the truth of the literal with slot s under an assignment of the variables
 unfoldable pub value : Assignment → ℕ → Bool
-value τ s = holds τ (litAt s)
+value τ s = trueUnder τ (litAt s)
 
 abbrev pub True : Assignment → ℕ → Type 0
 True τ s = value τ s ≡ true

@@ -11,22 +11,22 @@ use Rattle.hidden.specs.Hidden.{holds, hiddenTautology, shorten}
 use Rattle.sound.specs.Formula.{Clause, dropped, standing}
 
 -- a clause of two or more literals goes if the test says so, else it is shortened
-unfoldable pub judge : (List ℕ → Bool) → Stamps → List ℕ → Clause
-judge test σ [] = standing []
-judge test σ (a ∷ []) = standing (a ∷ [])
-judge test σ (a ∷ b ∷ ls) = elim (test (a ∷ b ∷ ls)) [ true ↦ dropped | false ↦ standing (shorten (λ s. s) σ (a ∷ b ∷ ls)) ]
+unfoldable pub judgeClause : (List ℕ → Bool) → Stamps → List ℕ → Clause
+judgeClause test σ [] = standing []
+judgeClause test σ (a ∷ []) = standing (a ∷ [])
+judgeClause test σ (a ∷ b ∷ ls) = elim (test (a ∷ b ∷ ls)) [ true ↦ dropped | false ↦ standing (shorten (λ s. s) σ (a ∷ b ∷ ls)) ]
 
 -- Sweep's test is the figure 6 scan
 abbrev pub sweepSlots : Stamps → List ℕ → Clause
-sweepSlots σ C = judge (hiddenTautology σ) σ C
+sweepSlots σ C = judgeClause (hiddenTautology σ) σ C
 
 -- a dropped clause stays dropped
 unfoldable pub onStanding : (List ℕ → Clause) → Clause → Clause
 onStanding v dropped = dropped
 onStanding v (standing C) = v C
 
-abbrev pub visit : Stamps → Clause → Clause
-visit σ c = onStanding (sweepSlots σ) c
+abbrev pub sweepVisit : Stamps → Clause → Clause
+sweepVisit σ c = onStanding (sweepSlots σ) c
 
 -- the first k clauses visited, in rising number
 unfoldable pub visitFirst : (Clause → Clause) → ℕ → List Clause → List Clause
@@ -41,7 +41,7 @@ visitFrom v (suc c) n [] = []
 visitFrom v (suc c) n (x ∷ f) = x ∷ visitFrom v c n f
 
 abbrev pub sweepFirst : ℕ → Stamps → List Clause → List Clause
-sweepFirst k σ f = visitFirst (visit σ) k f
+sweepFirst k σ f = visitFirst (sweepVisit σ) k f
 
 -- ---- change request 2: the rule for pairs that is no longer the figure's
 
@@ -56,4 +56,4 @@ tautology2 σ (a ∷ b ∷ []) = jumps σ (twin a) b || jumps σ (twin b) a
 tautology2 σ (a ∷ b ∷ c ∷ ls) = hiddenTautology σ (a ∷ b ∷ c ∷ ls)
 
 abbrev pub sweepFirst2 : ℕ → Stamps → List Clause → List Clause
-sweepFirst2 k σ f = visitFirst (onStanding (judge (tautology2 σ) σ)) k f
+sweepFirst2 k σ f = visitFirst (onStanding (judgeClause (tautology2 σ) σ)) k f

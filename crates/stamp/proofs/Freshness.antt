@@ -28,7 +28,7 @@ use Rattle.scc.proofs.Forward.{edge-below}
 use Rattle.tables.specs.Tables.{Tables}
 use Rattle.tables.specs.Clauses.{slotsFrom}
 use Rattle.table_graph.proofs.Listing.{slots-in}
-use Rattle.stamp_walk.specs.Stamping.{Holding, Proper}
+use Rattle.stamp_walk.specs.Stamping.{ColumnsHold, Proper}
 use Rattle.stamp_walk.proofs.Copying.{many-records}
 use Rattle.stamp.specs.Stamp.{stampsOf, stampedTables}
 use Rattle.stamp.specs.Asking.{Full}
@@ -235,7 +235,7 @@ module _ {v n : ℕ} {cs : List ℕ} {ls : List ℤ} {order : List ℤ} (P : Pro
   stamped = stamps-stamped clauses v (slots-in (P .listed)) slots (full-lists F)
 
   -- every link that the walk leaves is a slot
-  pub entries-below : {d′ f′ p′ s′ : List ℕ} → Holding σ d′ f′ p′ s′ → (q : ℕ) → q < 2 * v → (getD p′ q 0 < 2048) × (getD s′ q 0 < 2048)
+  pub entries-below : {d′ f′ p′ s′ : List ℕ} → ColumnsHold σ d′ f′ p′ s′ → (q : ℕ) → q < 2 * v → (getD p′ q 0 < 2048) × (getD s′ q 0 < 2048)
   entries-below H q lt =
       let k = links-below (implications clauses) (2 * v) σ stamped discoveries-size q lt in (
         omega (arith, k .0, P .listed .few, ap (λ (l : List ℕ). getD l q 0) (H .pars)),

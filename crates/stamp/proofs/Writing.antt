@@ -15,7 +15,7 @@ use Rattle.scc.specs.Groups.{blank}
 use Rattle.tables.specs.Tables.{tables}
 use Rattle.tables.specs.Clauses.{slotsFrom}
 use Rattle.table_graph.proofs.Listing.{mem-map}
-use Rattle.stamp_walk.specs.Stamping.{Holding, Columned, Proper, Ordered, Literals}
+use Rattle.stamp_walk.specs.Stamping.{ColumnsHold, Columned, Proper, Ordered, LiteralOrder}
 use Rattle.stamp.specs.Stamp.{stampsOf, stampedTables}
 use Rattle.stamp.specs.Asking.{Full, Blank}
 
@@ -31,7 +31,7 @@ full-ordered {v} {order} F = record {
 pub full-lists : {v : ℕ} {order : List ℤ} → Full v order → Lists (2 * v) (map slotOf order)
 full-lists F = record { below = full-ordered F .below; all = F .all }
 
-pub full-literals : {v : ℕ} {order : List ℤ} → Full v order → v ≤ 1024 → Literals order
+pub full-literals : {v : ℕ} {order : List ℤ} → Full v order → v ≤ 1024 → LiteralOrder order
 full-literals F few = record { each = λ i lt. let L = F .each i lt in record { above = L .above; within = omega (arith, L .within, few) } }
 
 -- ---- the columns
@@ -52,17 +52,17 @@ module _ {v n : ℕ} {cs : List ℕ} {ls : List ℤ} {order : List ℤ} (P : Pro
   σ = stampsOf clauses (2 * v) (map slotOf order)
 
   -- the walk from the blank columns is the definition's
-  pub blank-walk : (l d′ f′ p′ s′ : List ℕ) → l ≡ map slotOf order → Holding (stampAll (implications clauses) (λ q. absent q (tos clauses)) l (blank (2 * v) f p s)) d′ f′ p′ s′ → Holding σ d′ f′ p′ s′
+  pub blank-walk : (l d′ f′ p′ s′ : List ℕ) → l ≡ map slotOf order → ColumnsHold (stampAll (implications clauses) (λ q. absent q (tos clauses)) l (blank (2 * v) f p s)) d′ f′ p′ s′ → ColumnsHold σ d′ f′ p′ s′
   unfolding stampsOf
   blank-walk l d′ f′ p′ s′ e H =
       let z : List ℕ = replicate (2 * v) 0 in
       let walk : List ℕ → List ℕ → List ℕ → List ℕ → Stamps = λ o x y w. stampAll (implications clauses) (λ q. absent q (tos clauses)) o (blank (2 * v) x y w) in
-      subst (λ (x : List ℕ). Holding (walk (map slotOf order) z z x) d′ f′ p′ s′) (B .tops)
-      (subst (λ (x : List ℕ). Holding (walk (map slotOf order) z x s) d′ f′ p′ s′) (B .pars)
-      (subst (λ (x : List ℕ). Holding (walk (map slotOf order) x p s) d′ f′ p′ s′) (B .fins)
-      (subst (λ (x : List ℕ). Holding (walk x f p s) d′ f′ p′ s′) e H)))
+      subst (λ (x : List ℕ). ColumnsHold (walk (map slotOf order) z z x) d′ f′ p′ s′) (B .tops)
+      (subst (λ (x : List ℕ). ColumnsHold (walk (map slotOf order) z x s) d′ f′ p′ s′) (B .pars)
+      (subst (λ (x : List ℕ). ColumnsHold (walk (map slotOf order) x p s) d′ f′ p′ s′) (B .fins)
+      (subst (λ (x : List ℕ). ColumnsHold (walk x f p s) d′ f′ p′ s′) e H)))
 
-  module _ {d′ f′ p′ s′ : List ℕ} (H : Holding σ d′ f′ p′ s′) (len : length d′ ≡ 2 * v) where
+  module _ {d′ f′ p′ s′ : List ℕ} (H : ColumnsHold σ d′ f′ p′ s′) (len : length d′ ≡ 2 * v) where
     -- the records of the columns are the definition's
     pub records-are : length p′ ≡ 2 * v → (variables : List ℤ) (times times′ : List ℕ) (links links′ : List ℤ) → times′ ≡ interleave d′ f′ ++ drop (2 * length d′) times
         → links′ ≡ interleave (map litAt p′) (map litAt s′) ++ drop (2 * length p′) links

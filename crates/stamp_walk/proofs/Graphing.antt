@@ -22,9 +22,9 @@ use Rattle.scc.proofs.Forward.{edge-below, cyclic-forward}
 use Rattle.tables.specs.Clauses.{literalsOf, slotsAt, slotsFrom}
 use Rattle.visits.specs.Formed.{Formed}
 use Rattle.visits.proofs.Forming.{clause-fits}
-use Rattle.table_graph.specs.Pairs.{Room}
+use Rattle.table_graph.specs.Pairs.{EdgeRoom}
 use Rattle.table_graph.proofs.Listing.{formed-listed, mem-map, from-clauses, slots-in, froms-mem, fit-edges}
-use Rattle.stamp_walk.specs.Stamping.{Holding, Columned, Walkable, Finished, Proper, Ordered, Scratch}
+use Rattle.stamp_walk.specs.Stamping.{ColumnsHold, Columned, WalkableEdges, Finished, Proper, Ordered, WalkRoom}
 
 -- ---- tables that keep the shape rule
 
@@ -60,7 +60,7 @@ module _ {v n : ℕ} {cs : List ℕ} {ls : List ℤ} (P : Proper v n cs ls) {ord
   abbrev within : (c : List ℕ) → List·Memᴰ c clauses → (q : ℕ) → List·Memᴰ q c → q < 2 * v
   within = slots-in (P .listed)
 
-  pub room : {F T O G : List ℕ} {R : List Bool} {X : List ℕ} → Scratch v n F T O G R X → Room v n cs ls F T O G
+  pub room : {F T O G : List ℕ} {R : List Bool} {X : List ℕ} → WalkRoom v n F T O G R X → EdgeRoom v n cs ls F T O G
   room S = record { listed = P .listed; froms = S .froms; tos = S .tos; heads = S .heads; marks = S .marks }
 
   head-below : (i : ℕ) → i < length (tos clauses) → getD (tos clauses) i 0 < 2 * v
@@ -69,7 +69,7 @@ module _ {v n : ℕ} {cs : List ℕ} {ls : List ℤ} (P : Proper v n cs ls) {ord
   tail-below : (i : ℕ) → i < length (froms clauses) → getD (froms clauses) i 0 < 2 * v
   tail-below i lt = let k = froms-mem clauses (getD-mem (froms clauses) i 0 lt) in omega (arith, k .4, twin-below v (k .2) (within (k .0) (k .1) (k .2) (k .3)))
 
-  pub walkable : {F T O G : List ℕ} {R : List Bool} {X : List ℕ} → Scratch v n F T O G R X → Walkable (2 * v) (froms clauses) (tos clauses) order O G R X
+  pub walkable : {F T O G : List ℕ} {R : List Bool} {X : List ℕ} → WalkRoom v n F T O G R X → WalkableEdges (2 * v) (froms clauses) (tos clauses) order O G R X
   walkable S = record {
     small = omega (arith, P .listed .few);
     edges = fit-edges (room S);
@@ -80,7 +80,7 @@ module _ {v n : ℕ} {cs : List ℕ} {ls : List ℤ} (P : Proper v n cs ls) {ord
     picks = omega (arith, A .many, S .picks);
   }
 
-  pub finished : {F T O G : List ℕ} {R : List Bool} {X : List ℕ} → Scratch v n F T O G R X → (finishes : List ℕ) → length finishes ≡ 2 * v → Finished (froms clauses) (tos clauses) finishes
+  pub finished : {F T O G : List ℕ} {R : List Bool} {X : List ℕ} → WalkRoom v n F T O G R X → (finishes : List ℕ) → length finishes ≡ 2 * v → Finished (froms clauses) (tos clauses) finishes
   finished S finishes e =
       let pairs = fit-edges (room S) .pairs in
       record { pairs = pairs; tails = λ i lt. omega (arith, e, tail-below i lt); heads = λ i lt. omega (arith, e, head-below i (omega arith)) }
@@ -93,7 +93,7 @@ module _ {v n : ℕ} {cs : List ℕ} {ls : List ℤ} (P : Proper v n cs ls) {ord
   walk-stamped f p s hf hp hs hd =
       stamp-theorem (implications clauses) (2 * v) (λ a b lt m. edge-below clauses v within a b m .1) (λ q. absent q (tos clauses)) order f p s (walked f p s) (A .below) (A .all) hf hp hs hd refl
 
-  pub cyclic-is : {d₀ f p s d′ f′ p′ s′ : List ℕ} → Columned (2 * v) d₀ f p s → Holding (walked f p s) d′ f′ p′ s′ → length d′ ≡ 2 * v → (r : Bool)
+  pub cyclic-is : {d₀ f p s d′ f′ p′ s′ : List ℕ} → Columned (2 * v) d₀ f p s → ColumnsHold (walked f p s) d′ f′ p′ s′ → length d′ ≡ 2 * v → (r : Bool)
       → ((t : ℕ) (d p s : List ℕ) → r ≡ not (forward (stamps t d f′ p s) (froms clauses) (tos clauses))) → r ≡ cyclic (implications clauses) (2 * v)
   cyclic-is {d₀} {f} {p} {s} {d′} {f′} C H len r test =
       let σ : Stamps = walked f p s in
@@ -105,7 +105,7 @@ module _ {v n : ℕ} {cs : List ℕ} {ls : List ℤ} (P : Proper v n cs ls) {ord
 -- ---- the scratch that `stamp_columns` owns
 
 pub own-scratch : {v n : ℕ} {cs : List ℕ} {ls : List ℤ} (R : List Bool) → Proper v n cs ls → length R ≡ 2 * v
-    → Scratch v n (replicate 8192 0) (replicate 8192 0) (take (2 * v + 1) (replicate 2049 0)) (replicate 8192 0) R (replicate 2048 0)
+    → WalkRoom v n (replicate 8192 0) (replicate 8192 0) (take (2 * v + 1) (replicate 2049 0)) (replicate 8192 0) R (replicate 2048 0)
 own-scratch {v} R P flags = record {
   froms = omega (arith, P .listed .number, length-replicate {A = ℕ} 8192 0);
   tos = omega (arith, P .listed .number, length-replicate {A = ℕ} 8192 0);

@@ -14,7 +14,7 @@ use Rattle.walk.proofs.Run.{mem-below, graph-inside}
 use Rattle.implications.specs.Edges.{outs, Built}
 use Rattle.implications.proofs.Csr.{built-adj, built-graph}
 use Rattle.scc.specs.Groups.{blank}
-use Rattle.stamp_walk.specs.Stamping.{Holding, Walkable}
+use Rattle.stamp_walk.specs.Stamping.{ColumnsHold, WalkableEdges}
 
 pub stamped : (adj : ℕ → List ℕ) (root : ℕ → Bool) (order front D d f p s : List ℕ) (σ₁ σ₂ : Stamps) → D ≡ replicate (length d) 0 → length D ≡ length d → length (σ₁ .discoveries) ≡ length d → front ≡ filter root order
     → ((n : ℕ) → fresh D ≤ n → σ₁ ≡ edges (startWalk n adj) front (stamps 0 D f p s))
@@ -67,7 +67,7 @@ module _ (adj adj′ : ℕ → List ℕ) (size : ℕ) (inside : (s q : ℕ) → 
 
 -- ---- the compressed graph, and its marked roots, give the stamps of the edges
 
-module _ {fs ts order O T : List ℕ} {root : List Bool} {roots : List ℕ} {size : ℕ} (W : Walkable size fs ts order O T root roots) (offsets targets : List ℕ) (long : length offsets ≡ size + 1) (B : Built fs ts offsets targets size (length fs)) where
+module _ {fs ts order O T : List ℕ} {root : List Bool} {roots : List ℕ} {size : ℕ} (W : WalkableEdges size fs ts order O T root roots) (offsets targets : List ℕ) (long : length offsets ≡ size + 1) (B : Built fs ts offsets targets size (length fs)) where
   abbrev front : List ℕ
   front = take (length fs) targets
 
@@ -82,5 +82,5 @@ module _ {fs ts order O T : List ℕ} {root : List Bool} {roots : List ℕ} {siz
       (λ q. absent q ts) order (blank size f p s) (λ q m. mem-below order size (W .below) m)
 
 -- the four columns of equal stamps
-pub columns-of : (σ τ : Stamps) → σ ≡ τ → Holding τ (σ .discoveries) (σ .finishes) (σ .parents) (σ .starts)
+pub columns-of : (σ τ : Stamps) → σ ≡ τ → ColumnsHold τ (σ .discoveries) (σ .finishes) (σ .parents) (σ .starts)
 columns-of σ τ e = record { discs = ap (λ (x : Stamps). x .discoveries) e; fins = ap (λ (x : Stamps). x .finishes) e; pars = ap (λ (x : Stamps). x .parents) e; tops = ap (λ (x : Stamps). x .starts) e }

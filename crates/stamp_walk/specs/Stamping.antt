@@ -12,10 +12,10 @@ use Rattle.implications.specs.Edges.{Edges}
 use Rattle.implications.specs.Clauses.{Once, tos, implications}
 use Rattle.scc.specs.Groups.{blank, cyclic}
 use Rattle.tables.specs.Clauses.{slotsFrom}
-use Rattle.table_graph.specs.Pairs.{Listed}
+use Rattle.table_graph.specs.Pairs.{ClausesInside}
 
 -- four columns hold these stamps
-pub record Holding (σ : Stamps) (d f p s : List ℕ) : Type 0 where
+pub record ColumnsHold (σ : Stamps) (d f p s : List ℕ) : Type 0 where
   pub discs : d ≡ σ .discoveries
   pub fins : f ≡ σ .finishes
   pub pars : p ≡ σ .parents
@@ -29,7 +29,7 @@ pub record Columned (size : ℕ) (d f p s : List ℕ) : Type 0 where
   pub tops : length s ≡ size
 
 -- edges, and columns with room for the walk over them
-pub record Walkable (size : ℕ) (froms tos order offsets targets : List ℕ) (root : List Bool) (roots : List ℕ) : Type 0 where
+pub record WalkableEdges (size : ℕ) (froms tos order offsets targets : List ℕ) (root : List Bool) (roots : List ℕ) : Type 0 where
   pub small : size ≤ 2048
   pub edges : Edges froms tos offsets targets
   pub marks : length offsets ≡ size + 1
@@ -46,7 +46,7 @@ pub record Finished (froms tos finishes : List ℕ) : Type 0 where
 
 -- n clauses over v variables, in none of which a variable stands twice
 pub record Proper (v n : ℕ) (clauses : List ℕ) (literals : List ℤ) : Type 0 where
-  pub listed : Listed v n clauses literals
+  pub listed : ClausesInside v n clauses literals
   pub once : (c : List ℕ) → List·Memᴰ c (slotsFrom clauses literals n 0) → Once c
 
 -- each slot below size once in the order
@@ -56,7 +56,7 @@ pub record Ordered (size : ℕ) (order : List ℕ) : Type 0 where
   pub all : (q : ℕ) → q < size → List·Memᴰ q order
 
 -- columns with room for the edges of n clauses over v variables, for the compressed graph and for the roots
-pub record Scratch (v n : ℕ) (from to offsets targets : List ℕ) (root : List Bool) (roots : List ℕ) : Type 0 where
+pub record WalkRoom (v n : ℕ) (from to offsets targets : List ℕ) (root : List Bool) (roots : List ℕ) : Type 0 where
   pub froms : 2 * n ≤ length from
   pub tos : 2 * n ≤ length to
   pub heads : 2 * n ≤ length targets
@@ -65,10 +65,10 @@ pub record Scratch (v n : ℕ) (from to offsets targets : List ℕ) (root : List
   pub picks : 2 * v ≤ length roots
 
 -- each entry is a literal of at most 1,024 variables
-pub record Literals (order : List ℤ) : Type 0 where
+pub record LiteralOrder (order : List ℤ) : Type 0 where
   pub each : (i : ℕ) → i < length order → Literal 1024 (getD order i (pos 0))
 
 -- what the walk of an order over the graph of n clauses leaves, and whether that graph is cyclic
-pub record Walked (v n : ℕ) (clauses : List ℕ) (literals : List ℤ) (order f p s : List ℕ) (cycle : Bool) (d′ f′ p′ s′ : List ℕ) : Type 0 where
+pub record WalkLeaves (v n : ℕ) (clauses : List ℕ) (literals : List ℤ) (order f p s : List ℕ) (cycle : Bool) (d′ f′ p′ s′ : List ℕ) : Type 0 where
   pub cyclic-is : cycle ≡ cyclic (implications (slotsFrom clauses literals n 0)) (2 * v)
-  pub stamps-are : Holding (stampAll (implications (slotsFrom clauses literals n 0)) (λ q. absent q (tos (slotsFrom clauses literals n 0))) order (blank (2 * v) f p s)) d′ f′ p′ s′
+  pub stamps-are : ColumnsHold (stampAll (implications (slotsFrom clauses literals n 0)) (λ q. absent q (tos (slotsFrom clauses literals n 0))) order (blank (2 * v) f p s)) d′ f′ p′ s′

@@ -11,11 +11,11 @@ ghost use Rattle.walk.specs.Compressed.{adjOf, stamps, Graph};
 ghost use Rattle.scc.specs.Forward.{forward};
 ghost use Rattle.implications.specs.Edges.{outs};
 ghost use Rattle.scc.specs.Groups.{blank};
-ghost use Rattle.stamp_walk.specs.Stamping.{Literals, Finished, Walkable, Columned, Holding, Proper, Ordered, Scratch, Walked};
+ghost use Rattle.stamp_walk.specs.Stamping.{LiteralOrder, Finished, WalkableEdges, Columned, ColumnsHold, Proper, Ordered, WalkRoom, WalkLeaves};
 
 // The slots of a list of literals.
 pub fn list_slots(order: &[i32], slots: &mut [u32])
-    requires { ⌜ Literals (now order) × (length (now slots) ≡ length (now order)) ⌝ }
+    requires { ⌜ LiteralOrder (now order) × (length (now slots) ≡ length (now order)) ⌝ }
     ensures { λ _. ⌜ now (slots .exit) ≡ map slotOf (now (order .entry)) ⌝ }
 {
     let mut i = 0;
@@ -130,9 +130,9 @@ fn stamp_edges(
     parents: &mut [u32],
     starts: &mut [u32],
 )
-    requires { ⌜ Walkable (length (now discoveries)) (now from) (now to) (now order) (now offsets) (now targets) (now root) (now roots) ⌝ }
+    requires { ⌜ WalkableEdges (length (now discoveries)) (now from) (now to) (now order) (now offsets) (now targets) (now root) (now roots) ⌝ }
     requires { ⌜ Columned (length (now discoveries)) (now discoveries) (now finishes) (now parents) (now starts) ⌝ }
-    ensures { λ _. ⌜ Holding
+    ensures { λ _. ⌜ ColumnsHold
         (stampAll (outs (now (from .entry)) (now (to .entry))) (λ q. absent q (now (to .entry))) (now (order .entry))
         (blank (length (now (discoveries .entry))) (now (finishes .entry)) (now (parents .entry)) (now (starts .entry))))
         (now (discoveries .exit)) (now (finishes .exit)) (now (parents .exit)) (now (starts .exit)) ⌝ }
@@ -172,9 +172,9 @@ fn stamp_graph(
     starts: &mut [u32],
 ) -> bool
     requires { ⌜ Proper v n (now clauses) (now literals) × Ordered (2 * v) (now order) ⌝ }
-    requires { ⌜ Scratch v n (now from) (now to) (now offsets) (now targets) (now root) (now roots) ⌝ }
+    requires { ⌜ WalkRoom v n (now from) (now to) (now offsets) (now targets) (now root) (now roots) ⌝ }
     requires { ⌜ Columned (2 * v) (now discoveries) (now finishes) (now parents) (now starts) ⌝ }
-    ensures { λ r. ⌜ Walked v n (now (clauses .entry)) (now (literals .entry)) (now (order .entry)) (now (finishes .entry)) (now (parents .entry)) (now (starts .entry)) r
+    ensures { λ r. ⌜ WalkLeaves v n (now (clauses .entry)) (now (literals .entry)) (now (order .entry)) (now (finishes .entry)) (now (parents .entry)) (now (starts .entry)) r
         (now (discoveries .exit)) (now (finishes .exit)) (now (parents .exit)) (now (starts .exit)) ⌝ }
 {
     let k = table_graph::list_pairs(n, clauses, literals, from, to);
@@ -208,7 +208,7 @@ pub fn stamp_columns(
 ) -> bool
     requires { ⌜ Proper v n (now clauses) (now literals) × Ordered (2 * v) (now order) ⌝ }
     requires { ⌜ Columned (2 * v) (now discoveries) (now finishes) (now parents) (now starts) ⌝ }
-    ensures { λ r. ⌜ Walked v n (now (clauses .entry)) (now (literals .entry)) (now (order .entry)) (now (finishes .entry)) (now (parents .entry)) (now (starts .entry)) r
+    ensures { λ r. ⌜ WalkLeaves v n (now (clauses .entry)) (now (literals .entry)) (now (order .entry)) (now (finishes .entry)) (now (parents .entry)) (now (starts .entry)) r
         (now (discoveries .exit)) (now (finishes .exit)) (now (parents .exit)) (now (starts .exit)) ⌝ }
 {
     let slots = 2 * v;

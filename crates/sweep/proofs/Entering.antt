@@ -16,7 +16,7 @@ use Rattle.entry.specs.declared.Entry.{Entry}
 use Rattle.entry.specs.declared.Entry.the-variants.{No, Opens, Resumes}
 use Rattle.entry.proofs.Entering.{Entered}
 use Rattle.visits.proofs.Entered.{NoMerge, entered-formed}
-use Rattle.sweep.specs.Sweep.{sweepFrom, unlessStale, sweepBy, sweepCall}
+use Rattle.sweep.specs.Sweep.{sweepFrom, sweepUnlessStale, sweepBy, sweepCall}
 use Rattle.sweep_visits.specs.Visits.{Sweepable}
 
 pub entered-sweepable : {p : Pass} {t : Tables} {st : State} → Entered p t st → NoMerge p → st .fresh ≡ true → Sweepable (st .n) (t .clauses) (t .literals) (t .times) (t .links)
@@ -34,11 +34,11 @@ entered-sweepable {p} {t} {st} E other fresh = record {
 -- ---- the call, by its entry
 
 module _ (n : ℕ) (t : Tables) (st : State) where
-  pub stale-is : (k : ℕ) → st .fresh ≡ false → refuse Stale st t ≡ unlessStale (st .fresh) n k t st
-  stale-is k e = ap (λ (b : Bool). unlessStale b n k t st) (sym e)
+  pub stale-is : (k : ℕ) → st .fresh ≡ false → refuse Stale st t ≡ sweepUnlessStale (st .fresh) n k t st
+  stale-is k e = ap (λ (b : Bool). sweepUnlessStale b n k t st) (sym e)
 
-  pub fresh-is : (k : ℕ) → st .fresh ≡ true → sweepFrom n k t st ≡ unlessStale (st .fresh) n k t st
-  fresh-is k e = ap (λ (b : Bool). unlessStale b n k t st) (sym e)
+  pub fresh-is : (k : ℕ) → st .fresh ≡ true → sweepFrom n k t st ≡ sweepUnlessStale (st .fresh) n k t st
+  fresh-is k e = ap (λ (b : Bool). sweepUnlessStale b n k t st) (sym e)
 
   call-by : (e : Entry) → e ≡ entryOf own.Sweep t st → sweepBy e n t st ≡ sweepCall n t st
   unfolding sweepCall
@@ -48,8 +48,8 @@ module _ (n : ℕ) (t : Tables) (st : State) where
     pub call-refused : (r : Refusal) → e ≡ No r → refuse r st t ≡ sweepCall n t st
     call-refused r told = call-by (No r) (sym told ∙ h)
 
-    pub call-opens : e ≡ Opens → unlessStale (st .fresh) n 0 t st ≡ sweepCall n t st
+    pub call-opens : e ≡ Opens → sweepUnlessStale (st .fresh) n 0 t st ≡ sweepCall n t st
     call-opens told = call-by Opens (sym told ∙ h)
 
-    pub call-resumes : (k : ℕ) (changed : Bool) → e ≡ Resumes k changed → unlessStale (st .fresh) n k t st ≡ sweepCall n t st
+    pub call-resumes : (k : ℕ) (changed : Bool) → e ≡ Resumes k changed → sweepUnlessStale (st .fresh) n k t st ≡ sweepCall n t st
     call-resumes k changed told = call-by (Resumes k changed) (sym told ∙ h)

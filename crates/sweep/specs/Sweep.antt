@@ -20,14 +20,14 @@ abbrev pub sweepFrom : ℕ → ℕ → Tables → State → After
 sweepFrom steps k t st = advance (sweepClause (columns (t .times) (t .links))) Sweep true false steps k t st
 
 -- from clause k on
-abbrev pub unlessStale : Bool → ℕ → ℕ → Tables → State → After
-unlessStale true steps k t st = sweepFrom steps k t st
-unlessStale false steps k t st = refuse Stale st t
+abbrev pub sweepUnlessStale : Bool → ℕ → ℕ → Tables → State → After
+sweepUnlessStale true steps k t st = sweepFrom steps k t st
+sweepUnlessStale false steps k t st = refuse Stale st t
 
 abbrev pub sweepBy : Entry → ℕ → Tables → State → After
 sweepBy (No r) steps t st = refuse r st t
-sweepBy Opens steps t st = unlessStale (st .fresh) steps 0 t st
-sweepBy (Resumes k changed) steps t st = unlessStale (st .fresh) steps k t st
+sweepBy Opens steps t st = sweepUnlessStale (st .fresh) steps 0 t st
+sweepBy (Resumes k changed) steps t st = sweepUnlessStale (st .fresh) steps k t st
 
 unfoldable pub sweepCall : ℕ → Tables → State → After
 sweepCall steps t st = sweepBy (entryOf own.Sweep t st) steps t st

@@ -14,7 +14,7 @@ ghost use lib.IntN.{ℤ};
 ghost use Rattle.tables.specs.Lent.{lent, returned, unlent};
 ghost use Rattle.tables.specs.Calls.{after};
 ghost use Rattle.sweep_visits.specs.Visits.{Sweepable};
-ghost use Rattle.sweep.specs.Sweep.{sweepFrom, unlessStale, sweepCall};
+ghost use Rattle.sweep.specs.Sweep.{sweepFrom, sweepUnlessStale, sweepCall};
 
 // Sweep from clause `cursor` on: as many visits as `steps` says, or as are left. The two tables of slots serve every visit.
 fn sweep_from(
@@ -63,7 +63,7 @@ pub fn sweep_entered(
 ) -> Outcome
     requires { ⌜ (st .fresh ≡ true → Sweepable (st .n) (now clauses) (now literals) (now times) (now links)) × (cursor ≤ st .n) ⌝ }
     ensures { λ r. ⌜ ((variables : List ℤ) → after r (returned clauses literals (unlent variables) times links)
-        ≡ unlessStale (st .fresh) n cursor (lent clauses literals (unlent variables) times links) st) ⌝ }
+        ≡ sweepUnlessStale (st .fresh) n cursor (lent clauses literals (unlent variables) times links) st) ⌝ }
 {
     if !st.fresh {
         return Outcome {

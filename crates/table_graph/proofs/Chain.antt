@@ -19,9 +19,9 @@ use Rattle.scc.specs.Groups.{leastMutual}
 use Rattle.scc.specs.Steps.{Mirrored}
 use Rattle.scc.proofs.Least.{least-mutual, representative-is}
 use Rattle.tables.specs.Clauses.{slotsFrom}
-use Rattle.table_graph.specs.Pairs.{Listed, Room}
+use Rattle.table_graph.specs.Pairs.{ClausesInside, EdgeRoom}
 use Rattle.table_graph.proofs.Listing.{slots-in}
-use Rattle.table_graph.specs.Components.{Scratch}
+use Rattle.table_graph.specs.Components.{SlotColumns}
 
 -- the representative depends only on the edges of the slots
 reach-as : (adj adj′ : ℕ → List ℕ) (size : ℕ) → ((s q : ℕ) → s < size → List·Memᴰ q (adj s) → q < size) → ((s : ℕ) → s < size → adj s ≡ adj′ s) → {a b : ℕ} → a < size → Reach adj a b → (b < size) × (Reach adj′ a b)
@@ -44,10 +44,10 @@ least-as adj adj′ size inside inside′ same s lt =
     })
 
 -- the graph of listed clauses: taking twins reverses it
-pub listed-skew : {v n : ℕ} {cs : List ℕ} {ls : List ℤ} → Listed v n cs ls → Skew (implications (slotsFrom cs ls n 0)) twin (2 * v)
+pub listed-skew : {v n : ℕ} {cs : List ℕ} {ls : List ℤ} → ClausesInside v n cs ls → Skew (implications (slotsFrom cs ls n 0)) twin (2 * v)
 listed-skew {v} {n} {cs} {ls} L = implications-skew (slotsFrom cs ls n 0) v (slots-in L)
 
-module _ {v n : ℕ} {cs : List ℕ} {ls : List ℤ} (L : Listed v n cs ls) {d f p s order rep : List ℕ} (S : Scratch v d f p s order rep) (offsets targets : List ℕ) (r : ℕ) (long : length offsets ≡ 2 * v + 1)
+module _ {v n : ℕ} {cs : List ℕ} {ls : List ℤ} (L : ClausesInside v n cs ls) {d f p s order rep : List ℕ} (S : SlotColumns v d f p s order rep) (offsets targets : List ℕ) (r : ℕ) (long : length offsets ≡ 2 * v + 1)
     (B : Built (froms (slotsFrom cs ls n 0)) (tos (slotsFrom cs ls n 0)) offsets targets (2 * v) r) where
   abbrev clauses : List (List ℕ)
   clauses = slotsFrom cs ls n 0
@@ -80,7 +80,7 @@ module _ {v n : ℕ} {cs : List ℕ} {ls : List ℤ} (L : Listed v n cs ls) {d f
 
 -- ---- the scratch that `representatives` owns
 
-pub own-room : {v n : ℕ} {cs : List ℕ} {ls : List ℤ} → Listed v n cs ls → Room v n cs ls (replicate 8192 0) (replicate 8192 0) (take (2 * v + 1) (replicate 2049 0)) (replicate 8192 0)
+pub own-room : {v n : ℕ} {cs : List ℕ} {ls : List ℤ} → ClausesInside v n cs ls → EdgeRoom v n cs ls (replicate 8192 0) (replicate 8192 0) (take (2 * v + 1) (replicate 2049 0)) (replicate 8192 0)
 own-room {v} L = record {
   listed = L;
   froms = omega (arith, L .number, length-replicate {A = ℕ} 8192 0);
@@ -90,5 +90,5 @@ own-room {v} L = record {
 }
 
 pub own-scratch : (v : ℕ) (rep : List ℕ) → v ≤ 1024 → length rep ≡ 2 * v
-    → Scratch v (take (2 * v) (replicate 2048 0)) (take (2 * v) (replicate 2048 0)) (take (2 * v) (replicate 2048 0)) (take (2 * v) (replicate 2048 0)) (take (2 * v) (replicate 2048 0)) rep
+    → SlotColumns v (take (2 * v) (replicate 2048 0)) (take (2 * v) (replicate 2048 0)) (take (2 * v) (replicate 2048 0)) (take (2 * v) (replicate 2048 0)) (take (2 * v) (replicate 2048 0)) rep
 own-scratch v rep few len = let e = front-zeros (2 * v) 2048 (omega arith) in record { discs = e; fins = e; pars = e; starts = e; orders = e; reps = len }

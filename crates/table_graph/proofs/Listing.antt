@@ -18,12 +18,12 @@ use Rattle.implications.specs.Clauses.{clauseFroms, froms, tos}
 use Rattle.tables.specs.Tables.{startOf, lengthOf}
 use Rattle.tables.specs.Clauses.{slotsAt, slotsFrom}
 use Rattle.visits.specs.Formed.{Formed}
-use Rattle.table_graph.specs.Pairs.{Listed, Room}
+use Rattle.table_graph.specs.Pairs.{ClausesInside, EdgeRoom}
 
 -- ---- the tables
 
 -- tables that keep the shape rule
-pub formed-listed : {v n s : ℕ} {mark : Bool} {c : List ℕ} {l w : List ℤ} → Formed v n s mark c l w → Listed v n c l
+pub formed-listed : {v n s : ℕ} {mark : Bool} {c : List ℕ} {l w : List ℤ} → Formed v n s mark c l w → ClausesInside v n c l
 formed-listed F = record {
   few = F .vars .few;
   number = F .number;
@@ -33,7 +33,7 @@ formed-listed F = record {
 }
 
 -- with 1,024 variables in place of v
-pub listed-wider : {v n : ℕ} {c : List ℕ} {l : List ℤ} → Listed v n c l → Listed 1024 n c l
+pub listed-wider : {v n : ℕ} {c : List ℕ} {l : List ℤ} → ClausesInside v n c l → ClausesInside 1024 n c l
 listed-wider L = record {
   few = omega arith;
   number = L .number;
@@ -74,7 +74,7 @@ from-clauses cs ls (suc m) i k =
     (List·Memᴰ·cases-cons k)
 
 -- where the literals are of variables up to v, the slots are below 2v
-pub slots-in : {v n : ℕ} {cs : List ℕ} {ls : List ℤ} → Listed v n cs ls → (c : List ℕ) → List·Memᴰ c (slotsFrom cs ls n 0) → (q : ℕ) → List·Memᴰ q c → q < 2 * v
+pub slots-in : {v n : ℕ} {cs : List ℕ} {ls : List ℤ} → ClausesInside v n cs ls → (c : List ℕ) → List·Memᴰ c (slotsFrom cs ls n 0) → (q : ℕ) → List·Memᴰ q c → q < 2 * v
 slots-in {v} {n} {cs} {ls} L c k q m =
     let r = from-clauses cs ls n 0 k in
     let i : ℕ = r .0 in
@@ -129,7 +129,7 @@ few-edges cs ls (suc m) i = omega (arith, length-append (clauseFroms (slotsAt cs
 stored : (l vs : List ℕ) (k : ℕ) → length vs ≤ length l → k ≡ length vs → take k (sets l 0 vs) ≡ vs
 stored l vs k fits e = ap (take k) (sets-eq vs l 0 (omega arith)) ∙ take-at vs (drop (0 + length vs) l) k (sym e)
 
-module _ {v n : ℕ} {cs : List ℕ} {ls : List ℤ} {F T offsets targets : List ℕ} (R : Room v n cs ls F T offsets targets) where
+module _ {v n : ℕ} {cs : List ℕ} {ls : List ℤ} {F T offsets targets : List ℕ} (R : EdgeRoom v n cs ls F T offsets targets) where
   abbrev clauses : List (List ℕ)
   clauses = slotsFrom cs ls n 0
 

@@ -12,7 +12,7 @@ use Rattle.literal.specs.Literals.{slotOf, twin}
 use Rattle.implications.specs.Clauses.{clauseFroms, clauseTos, froms, tos}
 use Rattle.tables.specs.Tables.{startOf, lengthOf}
 use Rattle.tables.specs.Clauses.{slotsAt, slotsFrom}
-use Rattle.table_graph.specs.Pairs.{Listed}
+use Rattle.table_graph.specs.Pairs.{ClausesInside}
 
 -- ---- a clause of two literals, and one of another length
 
@@ -59,7 +59,7 @@ module _ (n : ℕ) (cs : List ℕ) (ls : List ℤ) where
     pub from-same : sets F k (froms (rest i)) ≡ sets F₀ 0 (froms (rest 0))
     pub to-same : sets T k (tos (rest i)) ≡ sets T₀ 0 (tos (rest 0))
 
-  module _ (F₀ T₀ F T : List ℕ) (k i : ℕ) (lt : i < n) (C : Listed 1024 n cs ls) (P : Pairing F₀ T₀ F T k i) where
+  module _ (F₀ T₀ F T : List ℕ) (k i : ℕ) (lt : i < n) (C : ClausesInside 1024 n cs ls) (P : Pairing F₀ T₀ F T k i) where
     pub pairing-in : (a b : ℕ) (F′ T′ : List ℕ) → lengthOf cs i ≡ 2 → a ≡ slotOf (getD ls (startOf cs i) (pos 0)) → b ≡ slotOf (getD ls (startOf cs i + 1) (pos 0))
         → F′ ≡ sets F k (twin a ∷ twin b ∷ []) → T′ ≡ sets T k (b ∷ a ∷ []) → Pairing F₀ T₀ F′ T′ (k + 2) (i + 1)
     unfolding froms tos

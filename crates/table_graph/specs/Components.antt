@@ -6,7 +6,7 @@ use mathlib.Core.List.{List}
 use lib.ListN.{length}
 
 -- a place for each slot of v variables in every column of the walks
-pub record Scratch (v : ℕ) (d f p s order rep : List ℕ) : Type 0 where
+pub record SlotColumns (v : ℕ) (d f p s order rep : List ℕ) : Type 0 where
   pub discs : length d ≡ 2 * v
   pub fins : length f ≡ 2 * v
   pub pars : length p ≡ 2 * v

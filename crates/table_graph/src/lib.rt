@@ -8,9 +8,9 @@ ghost use Rattle.literal.specs.Literals.{twin};
 ghost use Rattle.implications.specs.Edges.{Built};
 ghost use Rattle.implications.specs.Clauses.{froms, tos, implications};
 ghost use Rattle.tables.specs.Clauses.{slotsFrom};
-ghost use Rattle.table_graph.specs.Pairs.{Listed, Room};
+ghost use Rattle.table_graph.specs.Pairs.{ClausesInside, EdgeRoom};
 ghost use Rattle.scc.specs.Groups.{leastMutual};
-ghost use Rattle.table_graph.specs.Components.{Scratch};
+ghost use Rattle.table_graph.specs.Components.{SlotColumns};
 
 // Stores the edges of the clause (a ∨ b), twin a → b and twin b → a, at k and k + 1.
 fn put_pair(a: u32, b: u32, k: usize, from: &mut [u32], to: &mut [u32])
@@ -32,7 +32,7 @@ pub fn list_pairs(
     from: &mut [u32],
     to: &mut [u32],
 ) -> usize
-    requires { ⌜ Listed 1024 n (now clauses) (now literals) ⌝ }
+    requires { ⌜ ClausesInside 1024 n (now clauses) (now literals) ⌝ }
     requires { ⌜ (2 * n ≤ length (now from)) × (2 * n ≤ length (now to)) ⌝ }
     ensures { λ r. ⌜ (r ≡ length (froms (slotsFrom (now (clauses .entry)) (now (literals .entry)) n 0)))
         × ((now (from .exit) ≡ sets (now (from .entry)) 0 (froms (slotsFrom (now (clauses .entry)) (now (literals .entry)) n 0)))
@@ -66,7 +66,7 @@ fn build_graph(
     offsets: &mut [u32],
     targets: &mut [u32],
 ) -> usize
-    requires { ⌜ Room v n (now clauses) (now literals) (now from) (now to) (now offsets) (now targets) ⌝ }
+    requires { ⌜ EdgeRoom v n (now clauses) (now literals) (now from) (now to) (now offsets) (now targets) ⌝ }
     ensures { λ r. ⌜ Built (froms (slotsFrom (now (clauses .entry)) (now (literals .entry)) n 0)) (tos (slotsFrom (now (clauses .entry)) (now (literals .entry)) n 0))
         (now (offsets .exit)) (now (targets .exit)) (2 * v) r ⌝ }
 {
@@ -94,8 +94,8 @@ fn find_components(
     order: &mut [u32],
     rep: &mut [u32],
 )
-    requires { ⌜ Room v n (now clauses) (now literals) (now from) (now to) (now offsets) (now targets) ⌝ }
-    requires { ⌜ Scratch v (now discoveries) (now finishes) (now parents) (now starts) (now order) (now rep) ⌝ }
+    requires { ⌜ EdgeRoom v n (now clauses) (now literals) (now from) (now to) (now offsets) (now targets) ⌝ }
+    requires { ⌜ SlotColumns v (now discoveries) (now finishes) (now parents) (now starts) (now order) (now rep) ⌝ }
     ensures { λ _. ⌜ ((s : ℕ) → s < 2 * v →
         getD (now (rep .exit)) s 0 ≡ leastMutual (implications (slotsFrom (now (clauses .entry)) (now (literals .entry)) n 0)) (2 * v) s) ⌝ }
 {
@@ -114,7 +114,7 @@ fn find_components(
 
 // The same with scratch of its own: `rep` has a place for each slot of the v variables.
 pub fn representatives(v: usize, n: usize, clauses: &[u32], literals: &[i32], rep: &mut [u32])
-    requires { ⌜ Listed v n (now clauses) (now literals) ⌝ }
+    requires { ⌜ ClausesInside v n (now clauses) (now literals) ⌝ }
     requires { ⌜ length (now rep) ≡ 2 * v ⌝ }
     ensures { λ _. ⌜ ((s : ℕ) → s < 2 * v →
         getD (now (rep .exit)) s 0 ≡ leastMutual (implications (slotsFrom (now (clauses .entry)) (now (literals .entry)) n 0)) (2 * v) s) ⌝ }

@@ -9,7 +9,7 @@ use Rattle.dimacs.specs.Words.{wordsAt}
 use Rattle.dimacs.specs.Header.{header, headerRest}
 use Rattle.dimacs.specs.Text.{judge, judgeText}
 use Rattle.state.specs.declared.Refusal.the-variants.{Grammar, Limit}
-use Rattle.roundtrip.specs.Case.{bytes}
+use Rattle.base.specs.Bytes.{bytes}
 use Rattle.violations.specs.Body.{noughts, broken, beyond, afterLast, unfinished, tooFew}
 use Rattle.violations.specs.Grammar.{EachLine, commented, Digits, Numeral, NoDigit, largeV}
 use Rattle.violations.proofs.Pieces.{noSpace, ofV}

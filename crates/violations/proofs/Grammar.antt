@@ -15,7 +15,7 @@ use Rattle.dimacs.specs.Header.{comments, expect, lineEnd, pCnf}
 use Rattle.dimacs.specs.declared.Piece.the-variants.{Wrong, Got}
 use Rattle.state.specs.declared.Refusal.the-variants.{Grammar}
 use Rattle.violations.proofs.Pieces.{numeralOf, digitsAt, behind, NViolation, noN, largeN, noEnd, VViolation, noV, largeV, noSpace, ofN, PieceViolation, inComment, noStart, ofV}
-use Rattle.violations.specs.Grammar.{Line, EachLine, commented, Digits, Numeral, Ending, RightHeader, FirstWrong}
+use Rattle.violations.specs.Grammar.{Line, EachLine, commented, Digits, Numeral, EndsLine, RightHeader, FirstWrong}
 use Rattle.violations.proofs.Headers.{Read, wrong, got, comments-read, expect-read, line-end-read}
 use Rattle.violations.proofs.Wrong.{right-or-wrong, wrong-once, wrong-next, wrong-here, wrong-end, wrong-same, wrong-first, wrong-nothing}
 
@@ -30,7 +30,7 @@ abbrev BytesThen : List ℕ → (List ℕ → Type 0) → List ℕ → Type 0
 BytesThen ps M s = (r : List ℕ) × (s ≡ ps ++ r) × M r
 
 abbrev FromN : List ℕ → Type 0
-FromN = NumberThen Ending
+FromN = NumberThen EndsLine
 
 abbrev FromSpace : List ℕ → Type 0
 FromSpace = BytesThen (32 ∷ []) FromN
@@ -227,8 +227,8 @@ module _ (M : List ℕ → Type 0) (t : List ℕ) (some : M t) (apart : (d : ℕ
       go false u false d = absurd (let y : 0 < 0 = rw (u, numeralOf, d, span) at h in omega arith)
 
 -- ---- what may follow begins with no digit, and some text may follow
-end-apart : (d : ℕ) (u : List ℕ) → isDigit d ≡ true → Ending (d ∷ u) → ⊥
-unfolding Ending
+end-apart : (d : ℕ) (u : List ℕ) → isDigit d ≡ true → EndsLine (d ∷ u) → ⊥
+unfolding EndsLine
 end-apart d u e x = clash e (subst (λ (c : ℕ). isDigit c ≡ false) (sym x) refl)
 
 space-apart : (d : ℕ) (u : List ℕ) → isDigit d ≡ true → FromSpace (d ∷ u) → ⊥
@@ -237,12 +237,12 @@ space-apart d u e x =
     let q : d ≡ 32 = cc in
     clash e (subst (λ (c : ℕ). isDigit c ≡ false) (sym q) refl)
 
-some-end : Ending []
-unfolding Ending
+some-end : EndsLine []
+unfolding EndsLine
 some-end = tt
 
 some-n : FromN (48 ∷ [])
-some-n = number-some Ending [] some-end end-apart
+some-n = number-some EndsLine [] some-end end-apart
 
 some-space : FromSpace (32 ∷ 48 ∷ [])
 some-space = (48 ∷ [], refl, some-n)
@@ -363,24 +363,24 @@ comments-reach false (b ∷ s) at next e = go (eqb b 99) refl (comments-reach tr
         (λ c u v d x. let w : b ≡ c = cc in line-back c v (λ z. eqb-false b 99 t (w ∙ z)) (x .0) (x .1) (x .3) (x .4)) at next (cc)
 
 -- ---- the line's end
-line-end-wrong : (s : List ℕ) (at o : ℕ) → lineEnd s at ≡ Wrong (Grammar o) → WrongAt Ending s at o
-unfolding Ending
+line-end-wrong : (s : List ℕ) (at o : ℕ) → lineEnd s at ≡ Wrong (Grammar o) → WrongAt EndsLine s at o
+unfolding EndsLine
 line-end-wrong [] at o e = absurd (let z : _≡_ {A = ℕ} 0 1 = cc in omega arith)
 line-end-wrong (b ∷ s) at o e = go (eqb b 10) refl
   where
-    go : (t : Bool) → eqb b 10 ≡ t → WrongAt Ending (b ∷ s) at o
+    go : (t : Bool) → eqb b 10 ≡ t → WrongAt EndsLine (b ∷ s) at o
     go true t = absurd (let y : Got 0 (at + 1) ≡ Wrong (Grammar o) = rw (t, lineEnd) at e in let z : _≡_ {A = ℕ} 0 1 = cc in omega arith)
     go false t =
         let y : Wrong (Grammar at) ≡ Wrong (Grammar o) = rw (t, lineEnd) at e in
         let q : at ≡ o = cc in
-        (0, omega arith, wrong-first Ending b s [] some-end (λ u x. eqb-false b 10 t x))
+        (0, omega arith, wrong-first EndsLine b s [] some-end (λ u x. eqb-false b 10 t x))
 
-line-end-right : (s : List ℕ) (at next : ℕ) → lineEnd s at ≡ Got 0 next → Ending s
-unfolding Ending
+line-end-right : (s : List ℕ) (at next : ℕ) → lineEnd s at ≡ Got 0 next → EndsLine s
+unfolding EndsLine
 line-end-right [] at next e = tt
 line-end-right (b ∷ s) at next e = go (eqb b 10) refl
   where
-    go : (t : Bool) → eqb b 10 ≡ t → Ending (b ∷ s)
+    go : (t : Bool) → eqb b 10 ≡ t → EndsLine (b ∷ s)
     go true t = eqb-true b 10 t
     go false t = absurd (let y : Wrong (Grammar at) ≡ Got 0 next = rw (t, lineEnd) at e in let z : _≡_ {A = ℕ} 0 1 = cc in omega arith)
 
@@ -403,10 +403,10 @@ module _ (text : List ℕ) where
 
   n-wrong : (at number offset : ℕ) → NViolation text at number offset → number ≡ 2 → WrongFrom FromN at offset
   unfolding WrongFrom
-  n-wrong at number offset (noN e) two = (0, omega arith, number-wrong Ending [] some-end end-apart (drop at text) e)
+  n-wrong at number offset (noN e) two = (0, omega arith, number-wrong EndsLine [] some-end end-apart (drop at text) e)
   n-wrong at number offset (largeN h) two = absurd (omega arith)
   n-wrong at number offset (noEnd o h e) two =
-      chained FromN Ending at (behind text at) o (number-reaches Ending [] some-end end-apart (drop at text) at (behind text at) h refl) (line-end-wrong (drop (behind text at) text) (behind text at) o e)
+      chained FromN EndsLine at (behind text at) o (number-reaches EndsLine [] some-end end-apart (drop at text) at (behind text at) h refl) (line-end-wrong (drop (behind text at) text) (behind text at) o e)
 
   v-wrong : (at number offset : ℕ) → VViolation text at number offset → number ≡ 2 → WrongFrom FromV at offset
   unfolding WrongFrom
@@ -439,7 +439,7 @@ module _ (text : List ℕ) where
       go : 0 < length (digitsAt text at) → Read (behind text at) (lineEnd (drop (behind text at) text) (behind text at)) → ((o : ℕ) × NViolation text at 2 o) ⊎ FromN (drop at text)
       go h (wrong o l e) = inl (o, noEnd o h e)
       go h (got next l e) =
-          inr (chained-right FromN Ending at (behind text at) (number-reaches Ending [] some-end end-apart (drop at text) at (behind text at) h refl) (line-end-right (drop (behind text at) text) (behind text at) next e))
+          inr (chained-right FromN EndsLine at (behind text at) (number-reaches EndsLine [] some-end end-apart (drop at text) at (behind text at) h refl) (line-end-right (drop (behind text at) text) (behind text at) next e))
 
   v-grammar : (at : ℕ) → ((o : ℕ) × VViolation text at 2 o) ⊎ FromV (drop at text)
   v-grammar at = ⊎-elim (λ e. inl (at, noV e)) (λ h. go h (expect-read (32 ∷ []) (drop (behind text at) text) (behind text at))) (some-or-none (digitsAt text at))

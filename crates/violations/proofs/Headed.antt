@@ -9,33 +9,33 @@ use lib.Dec.{eqb}
 use borrow.Author.Tests.{eqb-true, eq-eqb}
 use Rattle.dimacs.specs.Words.{isDigit}
 use Rattle.dimacs.specs.Tokens.{decimal}
-use Rattle.dimacs.specs.Header.{comments, expect, number, lineEnd, after, pCnf, header, headerRest}
+use Rattle.dimacs.specs.Header.{comments, expect, number, lineEnd, andThen, pCnf, header, headerRest}
 use Rattle.dimacs.specs.declared.Piece.{Piece}
 use Rattle.dimacs.specs.declared.Piece.the-variants.{Wrong, Got}
 use Rattle.dimacs.specs.declared.Header.the-variants.{NoHeader, Fields}
 use Rattle.state.specs.declared.Refusal.the-variants.{Grammar, Limit}
-use Rattle.violations.specs.Grammar.{commented, Ending, NoDigit, Headed}
+use Rattle.violations.specs.Grammar.{commented, EndsLine, NoDigit, Headed}
 use Rattle.violations.proofs.Pieces.{numeralOf, digitsAt, behind}
 use Rattle.violations.proofs.Headers.{Read, wrong, got, comments-read, expect-read, line-end-read, Number, none, large, value, number-read}
 use Rattle.violations.proofs.Limits.{linesLength, lines-length, bytes-read, bytes-were, number-read as numeral-read, number-was, behind-bytes, numeral-some, v-found, vAt, v-line, v-start, v-behind, v-place}
 
 -- ---- the line's end
-end-no-digit : (s : List ℕ) → Ending s → NoDigit s
-unfolding Ending NoDigit
+end-no-digit : (s : List ℕ) → EndsLine s → NoDigit s
+unfolding EndsLine NoDigit
 end-no-digit [] e = tt
 end-no-digit (b ∷ s) e = subst (λ (c : ℕ). isDigit c ≡ false) (sym e) refl
 
-end-read : (s : List ℕ) (at body : ℕ) → Ending s → body + length (drop 1 s) ≡ at + length s → lineEnd s at ≡ Got 0 body
-unfolding Ending
+end-read : (s : List ℕ) (at body : ℕ) → EndsLine s → body + length (drop 1 s) ≡ at + length s → lineEnd s at ≡ Got 0 body
+unfolding EndsLine
 end-read [] at body e q = let p : at ≡ body = omega arith in ap (Got 0) p
 end-read (b ∷ s) at body e q = let p : at + 1 ≡ body = omega arith in rw (eq-eqb b 10 e, lineEnd) (ap (Got 0) p)
 
-end-was : (s : List ℕ) (at body : ℕ) → lineEnd s at ≡ Got 0 body → Ending s × (body + length (drop 1 s) ≡ at + length s)
-unfolding Ending
+end-was : (s : List ℕ) (at body : ℕ) → lineEnd s at ≡ Got 0 body → EndsLine s × (body + length (drop 1 s) ≡ at + length s)
+unfolding EndsLine
 end-was [] at body e = let q : at ≡ body = cc in (tt, omega arith)
 end-was (b ∷ s) at body e = go (eqb b 10) refl
   where
-    go : (t : Bool) → eqb b 10 ≡ t → Ending (b ∷ s) × (body + length (drop 1 (b ∷ s)) ≡ at + length (b ∷ s))
+    go : (t : Bool) → eqb b 10 ≡ t → EndsLine (b ∷ s) × (body + length (drop 1 (b ∷ s)) ≡ at + length (b ∷ s))
     go true t =
         let y : Got 0 (at + 1) ≡ Got 0 body = rw (t, lineEnd) at e in
         let q : at + 1 ≡ body = cc in
@@ -77,11 +77,11 @@ pieces-fields text v n body P =
     rw (P .lines, P .start, a, P .space, b, P .end)
 
 module _ (text : List ℕ) (v n body : ℕ) where
-  n-fields : (w at : ℕ) → after (number 4096 (drop at text) at) (λ m at. after (lineEnd (drop at text) at) (λ _ at. Fields w m at)) ≡ Fields v n body
+  n-fields : (w at : ℕ) → andThen (number 4096 (drop at text) at) (λ m at. andThen (lineEnd (drop at text) at) (λ _ at. Fields w m at)) ≡ Fields v n body
       → (w ≡ v) × (0 < length (digitsAt text at)) × (decimal (digitsAt text at) ≡ n) × (n ≤ 4096) × (lineEnd (drop (behind text at) text) (behind text at) ≡ Got 0 body)
   n-fields w at e = go (number 4096 (drop at text) at) (number-read 4096 (drop at text) at) e
     where
-      line : (m : ℕ) (p : Piece) → lineEnd (drop (behind text at) text) (behind text at) ≡ p → Read (behind text at) p → after p (λ _ at. Fields w m at) ≡ Fields v n body
+      line : (m : ℕ) (p : Piece) → lineEnd (drop (behind text at) text) (behind text at) ≡ p → Read (behind text at) p → andThen p (λ _ at. Fields w m at) ≡ Fields v n body
           → (w ≡ v) × (m ≡ n) × (lineEnd (drop (behind text at) text) (behind text at) ≡ Got 0 body)
       line m p q (wrong o l r) e = absurd (let y : NoHeader (Grammar o) ≡ Fields v n body = rw r at e in let z : _≡_ {A = ℕ} 0 1 = cc in omega arith)
       line m p q (got o l r) e =
@@ -89,7 +89,7 @@ module _ (text : List ℕ) (v n body : ℕ) where
           let z : o ≡ body = cc in
           (cc, cc, q ∙ r ∙ ap (Got 0) z)
 
-      go : (p : Piece) → Number 4096 (drop at text) at p → after p (λ m at. after (lineEnd (drop at text) at) (λ _ at. Fields w m at)) ≡ Fields v n body
+      go : (p : Piece) → Number 4096 (drop at text) at p → andThen p (λ m at. andThen (lineEnd (drop at text) at) (λ _ at. Fields w m at)) ≡ Fields v n body
           → (w ≡ v) × (0 < length (digitsAt text at)) × (decimal (digitsAt text at) ≡ n) × (n ≤ 4096) × (lineEnd (drop (behind text at) text) (behind text at) ≡ Got 0 body)
       go p (none q z) e = absurd (let y : NoHeader (Grammar at) ≡ Fields v n body = rw q at e in let z : _≡_ {A = ℕ} 0 1 = cc in omega arith)
       go p (large q some over) e = absurd (let y : NoHeader (Limit at) ≡ Fields v n body = rw q at e in let z : _≡_ {A = ℕ} 0 1 = cc in omega arith)
@@ -103,7 +103,7 @@ module _ (text : List ℕ) (v n body : ℕ) where
     where
       space : (line at : ℕ) → comments false text 0 ≡ Got 0 line → expect pCnf (drop line text) line ≡ Got 0 at → 0 < length (digitsAt text at) → (w : ℕ) → decimal (digitsAt text at) ≡ w → w ≤ 1024
           → (p : Piece) → expect (32 ∷ []) (drop (behind text at) text) (behind text at) ≡ p → Read (behind text at) p
-          → after p (λ _ at. after (number 4096 (drop at text) at) (λ m at. after (lineEnd (drop at text) at) (λ _ at. Fields w m at))) ≡ Fields v n body → Pieces text v n body
+          → andThen p (λ _ at. andThen (number 4096 (drop at text) at) (λ m at. andThen (lineEnd (drop at text) at) (λ _ at. Fields w m at))) ≡ Fields v n body → Pieces text v n body
       space line at c s some w d small p q (wrong o l r) e = absurd (let y : NoHeader (Grammar o) ≡ Fields v n body = rw r at e in let z : _≡_ {A = ℕ} 0 1 = cc in omega arith)
       space line at c s some w d small p q (got next l r) e =
           let x = n-fields w next (rw r at e) in
@@ -124,7 +124,7 @@ module _ (text : List ℕ) (v n body : ℕ) where
           }
 
       value-v : (line at : ℕ) → comments false text 0 ≡ Got 0 line → expect pCnf (drop line text) line ≡ Got 0 at → (p : Piece) → Number 1024 (drop at text) at p
-          → after p (λ v at. headerRest v text at) ≡ Fields v n body → Pieces text v n body
+          → andThen p (λ v at. headerRest v text at) ≡ Fields v n body → Pieces text v n body
       value-v line at c s p (none q z) e = absurd (let y : NoHeader (Grammar at) ≡ Fields v n body = rw q at e in let z : _≡_ {A = ℕ} 0 1 = cc in omega arith)
       value-v line at c s p (large q some over) e = absurd (let y : NoHeader (Limit at) ≡ Fields v n body = rw q at e in let z : _≡_ {A = ℕ} 0 1 = cc in omega arith)
       value-v line at c s p (value q some small) e =
@@ -132,12 +132,12 @@ module _ (text : List ℕ) (v n body : ℕ) where
           (expect-read (32 ∷ []) (drop (behind text at) text) (behind text at)) (rw q at e)
 
       start : (line : ℕ) → comments false text 0 ≡ Got 0 line → (p : Piece) → expect pCnf (drop line text) line ≡ p → Read line p
-          → after p (λ _ at. after (number 1024 (drop at text) at) (λ v at. headerRest v text at)) ≡ Fields v n body → Pieces text v n body
+          → andThen p (λ _ at. andThen (number 1024 (drop at text) at) (λ v at. headerRest v text at)) ≡ Fields v n body → Pieces text v n body
       start line c p q (wrong o l r) e = absurd (let y : NoHeader (Grammar o) ≡ Fields v n body = rw r at e in let z : _≡_ {A = ℕ} 0 1 = cc in omega arith)
       start line c p q (got at l r) e = value-v line at c (q ∙ r) (number 1024 (drop at text) at) (number-read 1024 (drop at text) at) (rw r at e)
 
       first : (p : Piece) → comments false text 0 ≡ p → Read 0 p
-          → after p (λ _ at. after (expect pCnf (drop at text) at) (λ _ at. after (number 1024 (drop at text) at) (λ v at. headerRest v text at))) ≡ Fields v n body → Pieces text v n body
+          → andThen p (λ _ at. andThen (expect pCnf (drop at text) at) (λ _ at. andThen (number 1024 (drop at text) at) (λ v at. headerRest v text at))) ≡ Fields v n body → Pieces text v n body
       first p q (wrong o l r) e = absurd (let y : NoHeader (Grammar o) ≡ Fields v n body = rw r at e in let z : _≡_ {A = ℕ} 0 1 = cc in omega arith)
       first p q (got line l r) e = start line (q ∙ r) (expect pCnf (drop line text) line) refl (expect-read pCnf (drop line text) line) (rw r at e)
 

@@ -10,7 +10,7 @@ use lib.Dec.{leb, eqb}
 use borrow.Author.Tests.{eqb-true, leb-true, leb-false}
 use Rattle.dimacs.specs.Words.{isDigit, span}
 use Rattle.dimacs.specs.Tokens.{decimal}
-use Rattle.dimacs.specs.Header.{comments, expect, withinLimit, number, lineEnd, after, pCnf, headerRest, header}
+use Rattle.dimacs.specs.Header.{comments, expect, withinLimit, number, lineEnd, andThen, pCnf, headerRest, header}
 use Rattle.dimacs.specs.declared.Piece.{Piece}
 use Rattle.dimacs.specs.declared.Piece.the-variants.{Wrong, Got}
 use Rattle.dimacs.specs.declared.Header.{Header}
@@ -131,12 +131,12 @@ module _ (text : List ℕ) (at : ℕ) where
   n-ends number offset (largeN h) some small = absurd (omega arith)
   n-ends number offset (noEnd o h e) some small = (refl, e)
 
-  n-read : (v : ℕ) → Header-read (NViolation text at) (after (number 4096 (drop at text) at) (λ n at. after (lineEnd (drop at text) at) (λ _ at. Fields v n at)))
+  n-read : (v : ℕ) → Header-read (NViolation text at) (andThen (number 4096 (drop at text) at) (λ n at. andThen (lineEnd (drop at text) at) (λ _ at. Fields v n at)))
   unfolding ending
   n-read v = go (number 4096 (drop at text) at) (number-read 4096 (drop at text) at)
     where
       line : (p : Piece) → ending ≡ p → Read (behind text at) p → 0 < length (digitsAt text at) → decimal (digitsAt text at) ≤ 4096
-          → Header-read (NViolation text at) (after p (λ _ end. Fields v (decimal (digitsAt text at)) end))
+          → Header-read (NViolation text at) (andThen p (λ _ end. Fields v (decimal (digitsAt text at)) end))
       line p q (wrong o h e) some small = refused (Grammar o) (rw e) (record {
         violated = noEnd o some (q ∙ e);
         smallest = λ k place x. let z : Wrong (Grammar o) ≡ Wrong (Grammar place) = sym (q ∙ e) ∙ n-ends k place x some small .1 in let y : o ≡ place = cc in omega arith;
@@ -145,7 +145,7 @@ module _ (text : List ℕ) (at : ℕ) where
       line p q (got o h e) some small = right v (decimal (digitsAt text at)) o (rw e)
           (λ k place x. let z : Got 0 o ≡ Wrong (Grammar place) = sym (q ∙ e) ∙ n-ends k place x some small .1 in let y : _≡_ {A = ℕ} 0 1 = cc in omega arith)
 
-      go : (p : Piece) → Number 4096 (drop at text) at p → Header-read (NViolation text at) (after p (λ n at. after (lineEnd (drop at text) at) (λ _ at. Fields v n at)))
+      go : (p : Piece) → Number 4096 (drop at text) at p → Header-read (NViolation text at) (andThen p (λ n at. andThen (lineEnd (drop at text) at) (λ _ at. Fields v n at)))
       go p (none e z) = refused (Grammar at) (rw e) (record { violated = noN z; smallest = n-from; two = λ x. refl })
       go p (large e some h) = refused (Limit at) (rw e) (record {
         violated = largeN h;
@@ -202,7 +202,7 @@ module _ (text : List ℕ) (at : ℕ) where
       (λ w. absurd (let y : Wrong (Grammar o) ≡ Got 0 (w .0) = sym e ∙ w .1 .0 in let z : _≡_ {A = ℕ} 0 1 = cc in omega arith))
       (v-rest number offset x some small)
 
-  v-read : Header-read (VViolation text at) (after (number 1024 (drop at text) at) (λ v at. headerRest v text at))
+  v-read : Header-read (VViolation text at) (andThen (number 1024 (drop at text) at) (λ v at. headerRest v text at))
   unfolding space headerRest
   v-read = go (number 1024 (drop at text) at) (number-read 1024 (drop at text) at)
     where
@@ -215,7 +215,7 @@ module _ (text : List ℕ) (at : ℕ) where
       more next h e some small (right v n end q f) = right v n end q (λ k place x. f k place (v-next next e k place x some small))
 
       rest : (v : ℕ) (p : Piece) → space ≡ p → Read (behind text at) p → 0 < length (digitsAt text at) → decimal (digitsAt text at) ≤ 1024
-          → Header-read (VViolation text at) (after p (λ _ at. after (number 4096 (drop at text) at) (λ n at. after (lineEnd (drop at text) at) (λ _ at. Fields v n at))))
+          → Header-read (VViolation text at) (andThen p (λ _ at. andThen (number 4096 (drop at text) at) (λ n at. andThen (lineEnd (drop at text) at) (λ _ at. Fields v n at))))
       rest v p q (wrong o h e) some small = refused (Grammar o) (rw e) (record {
         violated = noSpace o some (q ∙ e);
         smallest = λ k place x. omega (arith, v-space o (q ∙ e) k place x some small);
@@ -223,7 +223,7 @@ module _ (text : List ℕ) (at : ℕ) where
       })
       rest v p q (got o h e) some small = rw e (more o _ (q ∙ e) some small (n-read text o v))
 
-      go : (p : Piece) → Number 1024 (drop at text) at p → Header-read (VViolation text at) (after p (λ v at. headerRest v text at))
+      go : (p : Piece) → Number 1024 (drop at text) at p → Header-read (VViolation text at) (andThen p (λ v at. headerRest v text at))
       go p (none e z) = refused (Grammar at) (rw e) (record { violated = noV z; smallest = v-from; two = λ x. refl })
       go p (large e some h) = refused (Limit at) (rw e) (record {
         violated = largeV h;
@@ -284,11 +284,11 @@ module _ (text : List ℕ) where
       more line at h c e (right v n end q f) = right v n end q (λ k place x. f k place (only-v line at c e k place x))
 
       start : (line : ℕ) → comments false text 0 ≡ Got 0 line → (p : Piece) → expect pCnf (drop line text) line ≡ p → Read line p
-          → Header-read (PieceViolation text) (after p (λ _ at. after (number 1024 (drop at text) at) (λ v at. headerRest v text at)))
+          → Header-read (PieceViolation text) (andThen p (λ _ at. andThen (number 1024 (drop at text) at) (λ v at. headerRest v text at)))
       start line c p q (wrong o h e) = refused (Grammar o) (rw e) (wins-alone o (noStart line o c (q ∙ e)) (only-start line o c (q ∙ e)))
       start line c p q (got o h e) = rw e (more line o _ c (q ∙ e) (v-read text o))
 
       first : (p : Piece) → comments false text 0 ≡ p → Read 0 p
-          → Header-read (PieceViolation text) (after p (λ _ at. after (expect pCnf (drop at text) at) (λ _ at. after (number 1024 (drop at text) at) (λ v at. headerRest v text at))))
+          → Header-read (PieceViolation text) (andThen p (λ _ at. andThen (expect pCnf (drop at text) at) (λ _ at. andThen (number 1024 (drop at text) at) (λ v at. headerRest v text at))))
       first p q (wrong o h e) = refused (Grammar o) (rw e) (wins-alone o (inComment o (q ∙ e)) (only-comment o (q ∙ e)))
       first p q (got o h e) = rw e (start o (q ∙ e) (expect pCnf (drop o text) o) refl (expect-read pCnf (drop o text) o))

@@ -35,9 +35,9 @@ Numeral [] = ⊥
 Numeral (d ∷ ds) = ((d ≡ 48) × (ds ≡ [])) ⊎ ((d ≡ 48 → ⊥) × Digits (d ∷ ds))
 
 -- "ended by LF or the text's end"
-unfoldable pub Ending : List ℕ → Type 0
-Ending [] = Unit
-Ending (b ∷ s) = b ≡ 10
+unfoldable pub EndsLine : List ℕ → Type 0
+EndsLine [] = Unit
+EndsLine (b ∷ s) = b ≡ 10
 
 -- "Lines beginning `c`, of any bytes, only before the header; then `p cnf V N`, single spaces, V and N without sign or leading zero, ended by LF or the text's end."
 pub record RightHeader (text : List ℕ) : Type 0 where
@@ -48,7 +48,7 @@ pub record RightHeader (text : List ℕ) : Type 0 where
   pub n : List ℕ
   pub numeralN : Numeral n
   pub rest : List ℕ
-  pub ended : Ending rest
+  pub ended : EndsLine rest
   pub written : text ≡ commented lines (pCnf ++ (v ++ (32 ∷ (n ++ rest))))
 
 -- the header is right and within the limits, V is v and N is n, and what follows its LF begins at the offset `body`

@@ -20,7 +20,7 @@ use Rattle.shape.specs.Shape.{Parts, Shape}
 use Rattle.printing.specs.Printing.{literalText, clauseText, clausesText, headerText, digits}
 use Rattle.printing.proofs.Storing.{digits-within, header-length}
 use Rattle.write.specs.Writable.{InClause, InClauses, total}
-use Rattle.write.specs.Gathered.{gathered, unitFor, classFor, clauseFor, unitAt, classAt, clauseAt}
+use Rattle.write.specs.Gathered.{gathered, unitFor, classFor, clauseFor, unitAt, classAt, writtenAt}
 use Rattle.write.specs.Printable.{Printable}
 use Rattle.write.proofs.Gathering.{gathered-every}
 
@@ -144,7 +144,7 @@ clause-in v (suc flag) c h = (h, tt)
 
 standing-sum : (clauses : List ℕ) (ls : List ℤ) (n : ℕ) → Parts n clauses → 16384 ≤ length ls
     → (m i floor : ℕ) → i + m ≡ n → floor ≤ 16384 → ((j : ℕ) → i ≤ j → j < n → 0 < lengthOf clauses j → floor ≤ startOf clauses j)
-    → total (gathered (clauseAt clauses ls) m i) + floor ≤ 16384
+    → total (gathered (writtenAt clauses ls) m i) + floor ≤ 16384
 unfolding gathered total
 standing-sum clauses ls n P long zero i floor e f h = omega arith
 standing-sum clauses ls n P long (suc m) i floor e f h = ⊎-elim
@@ -152,10 +152,10 @@ standing-sum clauses ls n P long (suc m) i floor e f h = ⊎-elim
     (λ (z : 0 < lengthOf clauses i). omega (arith, sum, own, h i (omega arith) (omega arith) z, standing-sum clauses ls n P long m (suc i) (startOf clauses i + lengthOf clauses i) (omega arith) (P .inside i (omega arith)) (λ j a b c. P .apart j b i (omega arith) z c)))
     (le-or (lengthOf clauses i) 0)
   where
-    sum : total (clauseAt clauses ls i ++ gathered (clauseAt clauses ls) m (suc i)) ≡ total (clauseAt clauses ls i) + total (gathered (clauseAt clauses ls) m (suc i))
-    sum = total-append (clauseAt clauses ls i) (gathered (clauseAt clauses ls) m (suc i))
+    sum : total (writtenAt clauses ls i ++ gathered (writtenAt clauses ls) m (suc i)) ≡ total (writtenAt clauses ls i) + total (gathered (writtenAt clauses ls) m (suc i))
+    sum = total-append (writtenAt clauses ls i) (gathered (writtenAt clauses ls) m (suc i))
 
-    own : total (clauseAt clauses ls i) ≤ lengthOf clauses i
+    own : total (writtenAt clauses ls i) ≤ lengthOf clauses i
     own = omega (arith, clause-one (standing clauses i) (literalsOf clauses ls i) .1, length-take (lengthOf clauses i) (drop (startOf clauses i) ls))
 
 -- ---- how many clauses and literals there are at most
@@ -174,8 +174,8 @@ classes-count variables v = (
   at-most-four total refl total-append (classAt variables) (λ k. class-four (k + 1) (classOf variables (k + 1)) .1) v 0,
 )
 
-pub standing-count : (clauses : List ℕ) (literals : List ℤ) (n : ℕ) → length (gathered (clauseAt clauses literals) n 0) ≤ n
-standing-count clauses literals n = at-most-one (λ cs. length cs) refl (λ xs ys. length-append xs ys) (clauseAt clauses literals) (λ k. clause-one (standing clauses k) (literalsOf clauses literals k) .0) n 0
+pub standing-count : (clauses : List ℕ) (literals : List ℤ) (n : ℕ) → length (gathered (writtenAt clauses literals) n 0) ≤ n
+standing-count clauses literals n = at-most-one (λ cs. length cs) refl (λ xs ys. length-append xs ys) (writtenAt clauses literals) (λ k. clause-one (standing clauses k) (literalsOf clauses literals k) .0) n 0
 
 -- ---- tables that are ready
 
@@ -198,11 +198,11 @@ module _ (clauses : List ℕ) (literals variables : List ℤ) (v n : ℕ) (R : P
   pub classes-in : InClauses v (gathered (classAt variables) v 0)
   classes-in = in-gathered v (classAt variables) v (λ k l. class-in v (k + 1) (classOf variables (k + 1)) (omega arith) (omega arith) (R .classes k l))
 
-  pub standing-in : InClauses v (gathered (clauseAt clauses literals) n 0)
-  standing-in = in-gathered v (clauseAt clauses literals) n
+  pub standing-in : InClauses v (gathered (writtenAt clauses literals) n 0)
+  standing-in = in-gathered v (writtenAt clauses literals) n
       (λ k l. clause-in v (standing clauses k) (literalsOf clauses literals k) (part-in v literals (lengthOf clauses k) (startOf clauses k) (omega (arith, R .parts .inside k l, R .places)) (R .ranged k l)))
 
-  pub standing-total : total (gathered (clauseAt clauses literals) n 0) ≤ 16384
+  pub standing-total : total (gathered (writtenAt clauses literals) n 0) ≤ 16384
   standing-total = omega (arith, standing-sum clauses literals n (R .parts) (R .places) n 0 0 (omega arith) (omega arith) (λ j a b c. omega arith))
 
   pub header-short : (k : ℕ) → k < 10000 → length (headerText v k) ≤ 16
@@ -210,7 +210,7 @@ module _ (clauses : List ℕ) (literals variables : List ℤ) (v n : ℕ) (R : P
 
   -- a header and all clauses are short
   pub text-short : (k : ℕ) → k < 10000
-      → length (headerText v k) + length (clausesText (gathered (unitAt variables) v 0)) + length (clausesText (gathered (classAt variables) v 0)) + length (clausesText (gathered (clauseAt clauses literals) n 0)) < 2 ^ 63
+      → length (headerText v k) + length (clausesText (gathered (unitAt variables) v 0)) + length (clausesText (gathered (classAt variables) v 0)) + length (clausesText (gathered (writtenAt clauses literals) n 0)) < 2 ^ 63
   text-short k h = omega (
     arith,
     header-short k h,
@@ -218,7 +218,7 @@ module _ (clauses : List ℕ) (literals variables : List ℤ) (v n : ℕ) (R : P
     R .n-limit,
     clauses-short v (gathered (unitAt variables) v 0) (R .v-limit) units-in,
     clauses-short v (gathered (classAt variables) v 0) (R .v-limit) classes-in,
-    clauses-short v (gathered (clauseAt clauses literals) n 0) (R .v-limit) standing-in,
+    clauses-short v (gathered (writtenAt clauses literals) n 0) (R .v-limit) standing-in,
     units-count variables v .0,
     units-count variables v .1,
     classes-count variables v .0,

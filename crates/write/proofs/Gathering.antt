@@ -15,7 +15,7 @@ use Rattle.printing.specs.Printing.{clauseText, clausesText, headerText, textOf
 use Rattle.printing.specs.Stored.{Stored}
 use Rattle.printing.proofs.Storing.{sets-append}
 use Rattle.write.specs.Write.{unitsOf, classClauses, standingClauses}
-use Rattle.write.specs.Gathered.{gathered, unitFor, classFor, clauseFor, unitAt, classAt, clauseAt}
+use Rattle.write.specs.Gathered.{gathered, unitFor, classFor, clauseFor, unitAt, classAt, writtenAt}
 
 -- ---- one record more
 
@@ -95,14 +95,14 @@ three-words xs m i h =
     let d : 3 * suc i ≡ suc (suc (suc (3 * i))) = omega arith in
     rw (e, a, b, d, drop-cons xs (3 * i) 0 (omega arith), drop-cons xs (suc (3 * i)) 0 (omega arith), drop-cons xs (suc (suc (3 * i))) 0 (omega arith))
 
-by-clause : (xs : List ℕ) (ls : List ℤ) (m i : ℕ) → 3 * (i + m) ≤ length xs → standingClauses (take (3 * m) (drop (3 * i) xs)) ls ≡ gathered (clauseAt xs ls) m i
+by-clause : (xs : List ℕ) (ls : List ℤ) (m i : ℕ) → 3 * (i + m) ≤ length xs → standingClauses (take (3 * m) (drop (3 * i) xs)) ls ≡ gathered (writtenAt xs ls) m i
 unfolding gathered
 by-clause xs ls zero i h = refl
 by-clause xs ls (suc m) i h =
     ap (λ (rs : List ℕ). standingClauses rs ls) (three-words xs m i h) ∙ standing-cons (startOf xs i) (lengthOf xs i) (standing xs i) (take (3 * m) (drop (3 * suc i) xs)) ls
-    ∙ ap (λ (cs : List (List ℤ)). clauseAt xs ls i ++ cs) (by-clause xs ls m (suc i) (omega arith))
+    ∙ ap (λ (cs : List (List ℤ)). writtenAt xs ls i ++ cs) (by-clause xs ls m (suc i) (omega arith))
 
-pub standing-gathered : (xs : List ℕ) (ls : List ℤ) (n : ℕ) → 3 * n ≤ length xs → standingClauses (take (3 * n) xs) ls ≡ gathered (clauseAt xs ls) n 0
+pub standing-gathered : (xs : List ℕ) (ls : List ℤ) (n : ℕ) → 3 * n ≤ length xs → standingClauses (take (3 * n) xs) ls ≡ gathered (writtenAt xs ls) n 0
 standing-gathered xs ls n h = by-clause xs ls n 0 (omega arith)
 
 -- ---- a loop that stores

@@ -4,16 +4,14 @@ use native.Mathlib.Nat.{add-zero}
 use native.Mathlib.Omega.{arith}
 use mathlib.Core.Path.{_≡_, refl, sym, ap, _∙_, subst}
 use mathlib.Core.List.{List, [], _∷_, _++_, append-nil}
-use mathlib.Core.Logic.{⊎-elim}
-use lib.ListN.{length, getD, take, drop, length-append, length-take, List·getD-eq-default}
+use lib.ListN.{length, getD, take, drop, length-append, length-take}
 use lib.Seq.{getD-take, getD-drop}
 use lib.IntN.{ℤ, pos, negsuc, negℤ, natAbs}
 use lib.Signed.{nonNeg}
-use Rattle.base.specs.Decide.{le-or}
-use Rattle.literal.specs.Literals.{Small, Literal, litBy}
+use Rattle.literal.specs.Literals.{Small, Literal, litBy, EachSmall}
 use Rattle.literal.proofs.Signed.{eq-eqZ, ne-eqZ}
 use Rattle.printing.specs.Printing.{clauseText, clausesText}
-use Rattle.printing.specs.Stored.{Stored, EachSmall}
+use Rattle.printing.specs.Stored.{Stored}
 use Rattle.printing.proofs.Storing.{stored-then}
 use Rattle.write.specs.Gathered.{unitFor, classFor, clauseFor}
 
@@ -68,22 +66,19 @@ module _ {cs : List (List ℤ)} {c d : List ℤ} (e : cs ≡ c ∷ d ∷ []) whe
 
 -- ---- literals that an i32 holds with their complements
 
-small-zero : Small (pos 0)
-small-zero = record { small = omega arith }
-
 pub small-one : {a : ℤ} → Small a → EachSmall (a ∷ [])
 small-one {a} s = record { each = go }
   where
-    go : (k : ℕ) → Small (getD (a ∷ []) k (pos 0))
-    go zero = s
-    go (suc k) = small-zero
+    go : (k : ℕ) → k < 1 → Small (getD (a ∷ []) k (pos 0))
+    go zero h = s
+    go (suc k) h = absurd (omega arith)
 
 pub small-two : {a b : ℤ} → Small a → Small b → EachSmall (a ∷ b ∷ [])
 small-two {a} {b} s t = record { each = go }
   where
-    go : (k : ℕ) → Small (getD (a ∷ b ∷ []) k (pos 0))
-    go zero = s
-    go (suc k) = small-one t .each k
+    go : (k : ℕ) → k < 2 → Small (getD (a ∷ b ∷ []) k (pos 0))
+    go zero h = s
+    go (suc k) h = small-one t .each k (omega arith)
 
 pub literal-small : {v : ℕ} {l : ℤ} → v ≤ 1024 → Literal v l → Small l
 literal-small h L = record { small = omega (arith, L .within) }
@@ -91,8 +86,7 @@ literal-small h L = record { small = omega (arith, L .within) }
 -- the literals of a part, none of which is the smallest i32
 pub part-small : (ls : List ℤ) (len start : ℕ) → ((k : ℕ) → k < len → Literal 1024 (getD ls (start + k) (pos 0))) → EachSmall (take len (drop start ls))
 part-small ls len start r = record {
-  each = λ k. ⊎-elim
-      (λ (h : len ≤ k). subst Small (sym (List·getD-eq-default (take len (drop start ls)) (pos 0) (omega (arith, length-take len (drop start ls))))) small-zero)
-      (λ (h : k < len). subst Small (sym (getD-take len (drop start ls) k (pos 0) h ∙ getD-drop start ls k (pos 0))) (literal-small (omega arith) (r k h)))
-      (le-or len k);
+  each = λ k lt.
+      let h : k < len = omega (arith, lt, length-take len (drop start ls)) in
+      subst Small (sym (getD-take len (drop start ls) k (pos 0) h ∙ getD-drop start ls k (pos 0))) (literal-small (omega arith) (r k h));
 }

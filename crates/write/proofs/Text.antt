@@ -14,22 +14,23 @@ use Rattle.state.specs.declared.Refusal.the-variants.{Shape, Short}
 use Rattle.tables.specs.Tables.{Tables}
 use Rattle.shape.specs.Decision.{shapeOk}
 use Rattle.printing.specs.Printing.{clauseText, clausesText, headerText, textOf}
-use Rattle.printing.specs.Stored.{Stored, EachSmall}
+use Rattle.printing.specs.Stored.{Stored}
+use Rattle.literal.specs.Literals.{EachSmall}
 use Rattle.printing.proofs.Storing.{stored-then, sets-nil}
 use Rattle.write.specs.Write.{writtenClauses, writeText, afterWrite, writeInto, writeCall}
-use Rattle.write.specs.Gathered.{gathered, unitAt, classAt, clauseAt, formula}
-use Rattle.write.specs.Printable.{Standing, Printable}
+use Rattle.write.specs.Gathered.{gathered, unitAt, classAt, writtenAt, formula}
+use Rattle.write.specs.Printable.{PrintableClauses, Printable}
 use Rattle.write.proofs.Gathering.{units-gathered, classes-gathered, standing-gathered, text-append, header-then}
 use Rattle.write.proofs.Bounds.{units-count, classes-count, standing-count}
 
 pub none-small : EachSmall []
-none-small = record { each = λ k. record { small = omega arith } }
+none-small = record { each = λ k h. absurd (omega arith) }
 
 pub empty-length : length (clauseText []) ≡ 2
 unfolding clauseText
 empty-length = refl
 
-pub standing-ready : (clauses : List ℕ) (literals variables : List ℤ) (v n : ℕ) → Printable clauses literals variables v n → Standing clauses literals n
+pub standing-ready : (clauses : List ℕ) (literals variables : List ℤ) (v n : ℕ) → Printable clauses literals variables v n → PrintableClauses clauses literals n
 standing-ready clauses literals variables v n R = record {
   n-limit = R .n-limit;
   rows = R .rows;
@@ -39,12 +40,12 @@ standing-ready clauses literals variables v n R = record {
 }
 
 pub formula-count : (clauses : List ℕ) (literals variables : List ℤ) (v n : ℕ)
-    → length (formula clauses literals variables v n) ≡ length (gathered (unitAt variables) v 0) + length (gathered (classAt variables) v 0) + length (gathered (clauseAt clauses literals) n 0)
+    → length (formula clauses literals variables v n) ≡ length (gathered (unitAt variables) v 0) + length (gathered (classAt variables) v 0) + length (gathered (writtenAt clauses literals) n 0)
 formula-count clauses literals variables v n =
     omega (
       arith,
-      length-append (gathered (unitAt variables) v 0) (gathered (classAt variables) v 0 ++ gathered (clauseAt clauses literals) n 0),
-      length-append (gathered (classAt variables) v 0) (gathered (clauseAt clauses literals) n 0),
+      length-append (gathered (unitAt variables) v 0) (gathered (classAt variables) v 0 ++ gathered (writtenAt clauses literals) n 0),
+      length-append (gathered (classAt variables) v 0) (gathered (writtenAt clauses literals) n 0),
     )
 
 pub formula-below : (clauses : List ℕ) (literals variables : List ℤ) (v n : ℕ) → Printable clauses literals variables v n → length (formula clauses literals variables v n) < 10000
@@ -88,7 +89,7 @@ module _ (t : Tables) (st : State) (R : Printable (t .clauses) (t .literals) (t 
   classes = gathered (classAt (t .variables)) (st .v) 0
 
   abbrev standing : List (List ℤ)
-  standing = gathered (clauseAt (t .clauses) (t .literals)) (st .n) 0
+  standing = gathered (writtenAt (t .clauses) (t .literals)) (st .n) 0
 
   text-unmarked : (count : ℕ) → st .mark ≡ false → count ≡ length (formula (t .clauses) (t .literals) (t .variables) (st .v) (st .n))
       → writeText t st ≡ headerText (st .v) count ++ (clausesText units ++ (clausesText classes ++ clausesText standing))

@@ -32,9 +32,9 @@ unitAt variables i = unitFor (i + 1) (valueOf variables (i + 1))
 abbrev pub classAt : List ℤ → ℕ → List (List ℤ)
 classAt variables i = classFor (i + 1) (classOf variables (i + 1))
 
-abbrev pub clauseAt : List ℕ → List ℤ → ℕ → List (List ℤ)
-clauseAt clauses literals i = clauseFor (standing clauses i) (literalsOf clauses literals i)
+abbrev pub writtenAt : List ℕ → List ℤ → ℕ → List (List ℤ)
+writtenAt clauses literals i = clauseFor (standing clauses i) (literalsOf clauses literals i)
 
 -- all clauses, where the mark is off
 abbrev pub formula : List ℕ → List ℤ → List ℤ → ℕ → ℕ → List (List ℤ)
-formula clauses literals variables v n = gathered (unitAt variables) v 0 ++ (gathered (classAt variables) v 0 ++ gathered (clauseAt clauses literals) n 0)
+formula clauses literals variables v n = gathered (unitAt variables) v 0 ++ (gathered (classAt variables) v 0 ++ gathered (writtenAt clauses literals) n 0)

@@ -9,7 +9,7 @@ use Rattle.tables.specs.Tables.{startOf, lengthOf, classOf}
 use Rattle.shape.specs.Shape.{Parts}
 
 -- the clauses: their records and parts lie in the tables, and no literal is beyond 1,024
-pub record Standing (clauses : List ℕ) (literals : List ℤ) (n : ℕ) : Type 0 where
+pub record PrintableClauses (clauses : List ℕ) (literals : List ℤ) (n : ℕ) : Type 0 where
   pub n-limit : n ≤ 4096
   pub rows : 3 * n ≤ length clauses
   pub places : 16384 ≤ length literals

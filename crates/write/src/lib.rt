@@ -6,14 +6,14 @@ ghost use mathlib.Core.List.{List};
 ghost use lib.ListN.{length, take, drop};
 ghost use lib.IntN.{ℤ};
 ghost use lib.Signed.{nonNeg};
-ghost use Rattle.literal.specs.Literals.{Literal, litBy};
+ghost use Rattle.literal.specs.Literals.{Literal, litBy, EachSmall};
 ghost use Rattle.tables.specs.Tables.{classOf};
 ghost use Rattle.tables.specs.Lent.{lent, unlent};
 ghost use Rattle.printing.specs.Printing.{clausesText};
-ghost use Rattle.printing.specs.Stored.{Stored, EachSmall};
+ghost use Rattle.printing.specs.Stored.{Stored};
 ghost use Rattle.write.specs.Write.{writeText, afterWrite, writeInto, writeCall};
-ghost use Rattle.write.specs.Gathered.{gathered, unitFor, classFor, clauseFor, unitAt, classAt, clauseAt, formula};
-ghost use Rattle.write.specs.Printable.{Standing, Printable};
+ghost use Rattle.write.specs.Gathered.{gathered, unitFor, classFor, clauseFor, unitAt, classAt, writtenAt, formula};
+ghost use Rattle.write.specs.Printable.{PrintableClauses, Printable};
 use printing::put_clause;
 use printing::put_header;
 use state::Answer;
@@ -109,8 +109,8 @@ fn put_classes(out: &mut [u8], at: usize, variables: &[i32], v: usize) -> usize
 
 // The clauses that stand, by rising number.
 fn put_standing(out: &mut [u8], at: usize, clauses: &[u32], literals: &[i32], n: usize) -> usize
-    requires { ⌜ Standing (now clauses) (now literals) n × (at + length (clausesText (gathered (clauseAt (now clauses) (now literals)) n 0)) < 2 ^ 63) ⌝ }
-    ensures { λ r. ⌜ Stored (clausesText (gathered (clauseAt (now (clauses .entry)) (now (literals .entry))) n 0)) at (now (out .entry)) (now (out .exit)) r ⌝ }
+    requires { ⌜ PrintableClauses (now clauses) (now literals) n × (at + length (clausesText (gathered (writtenAt (now clauses) (now literals)) n 0)) < 2 ^ 63) ⌝ }
+    ensures { λ r. ⌜ Stored (clausesText (gathered (writtenAt (now (clauses .entry)) (now (literals .entry))) n 0)) at (now (out .entry)) (now (out .exit)) r ⌝ }
 {
     let mut next = at;
     let mut i = 0;
@@ -158,7 +158,7 @@ fn count_classes(variables: &[i32], v: usize) -> u32
 
 fn count_standing(clauses: &[u32], n: usize) -> u32
     requires { ⌜ (n ≤ 4096) × (3 * n ≤ length (now clauses)) ⌝ }
-    ensures { λ r. ⌜ ((literals : List ℤ) → r ≡ length (gathered (clauseAt (now (clauses .entry)) literals) n 0)) ⌝ }
+    ensures { λ r. ⌜ ((literals : List ℤ) → r ≡ length (gathered (writtenAt (now (clauses .entry)) literals) n 0)) ⌝ }
 {
     let mut count = 0;
     let mut i = 0;

@@ -3,7 +3,7 @@ use native.Mathlib.Omega.{arith}
 use mathlib.Core.Path.{_∙_}
 use mathlib.Core.List.{[], _∷_}
 use lib.ListN.{length-set}
-use Rattle.c_numbers.specs.StateNumbers.{over, putState}
+use Rattle.c_numbers.specs.StateNumbers.{putFront, putState}
 use Rattle.c_numbers.proofs.Over.{seven-over}
 use borrow.Author.Needs.{needs}
 use Rattle.c_numbers.proofs.put_state.Statement.{statement}
@@ -52,7 +52,7 @@ returns : tie.Need-returns
 unfolding putState
 returns c = let st = c .before .before .before .before .before .before .args .st in
     seven-over _ _ _ _ _ _ _ (c .before .before .before .before .before .before .args .state .now) (c .before .before .before .before .before .before .pre)
-    ∙ (λ i. over (st .v ∷ st .n ∷ c .before .before .before .before .pass-number .ensures i ∷ c .before .before .before .cursor-number .ensures i ∷ c .before .before .changed-number .ensures i ∷ c .before .digit .ensures i ∷ c .digit2 .ensures i ∷ []) (c .before .before .before .before .before .before .args .state .now))
+    ∙ (λ i. putFront (st .v ∷ st .n ∷ c .before .before .before .before .pass-number .ensures i ∷ c .before .before .before .cursor-number .ensures i ∷ c .before .before .changed-number .ensures i ∷ c .before .digit .ensures i ∷ c .digit2 .ensures i ∷ []) (c .before .before .before .before .before .before .args .state .now))
 
 pub put-state-spec : {M : Type 1} → statement M
 put-state-spec =

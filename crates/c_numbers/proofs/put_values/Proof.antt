@@ -7,14 +7,14 @@ use mathlib.Core.Path.{_≡_, refl, sym, ap, _∙_}
 use Rattle.state.specs.Answers.{replyOf, firstValue}
 use Rattle.state.specs.declared.Answer.{Answer}
 use Rattle.state.specs.declared.Answer.the-variants.{Refused, Loaded, Open, Done, Stamped, Failed, Ran, Written}
-use Rattle.c_numbers.specs.StateNumbers.{over}
+use Rattle.c_numbers.specs.StateNumbers.{putFront}
 use Rattle.c_numbers.specs.CCalls.{valuesOf}
 use borrow.Author.Needs.{needs}
 use Rattle.c_numbers.proofs.put_values.Statement.{statement}
 use Rattle.c_numbers.proofs.put_values.Tie as tie
 
 -- an answer that is not of a resumable pass has one value at most
-plain : (c : tie.At-match-keys3) (a : Answer) → c .before .before .args .a ≡ a → (l : List ℕ) → over (firstValue (replyOf a .values) ∷ 0 ∷ 0 ∷ 0 ∷ []) l ≡ over (valuesOf (replyOf a)) l
+plain : (c : tie.At-match-keys3) (a : Answer) → c .before .before .args .a ≡ a → (l : List ℕ) → putFront (firstValue (replyOf a .values) ∷ 0 ∷ 0 ∷ 0 ∷ []) l ≡ putFront (valuesOf (replyOf a)) l
 plain c (Refused r) e l = refl
 plain c Loaded e l = refl
 plain c (Open k) e l = absurd (⊎-elim (λ z. omega arith) (⊎-elim (λ z. omega arith) (⊎-elim (λ z. omega arith) (⊎-elim (λ z. omega arith) (⊎-elim (λ z. omega arith) (λ z. omega arith))))) (rw e at (c .match .keys3)))
@@ -64,13 +64,13 @@ same-length : tie.Need-same-length
 same-length c = search needs
 
 returns : tie.Need-returns
-returns c = c .before .before .put-four .ensures ∙ ap (λ (x : Answer). over (valuesOf (replyOf x)) (c .before .before .before .before .before .before .before .before .before .before .before .args .answer .now)) (sym (c .before .before .before .before .before .before .before .before .a .given .1))
+returns c = c .before .before .put-four .ensures ∙ ap (λ (x : Answer). putFront (valuesOf (replyOf x)) (c .before .before .before .before .before .before .before .before .before .before .before .args .answer .now)) (sym (c .before .before .before .before .before .before .before .before .a .given .1))
 
 same-length-2 : tie.Need-same-length-2
 same-length-2 c = search needs
 
 returns-2 : tie.Need-returns-2
-returns-2 c = c .before .before .put-four2 .ensures ∙ ap (λ (x : Answer). over (valuesOf (replyOf x)) (c .before .before .before .before .before .before .before .before .before .before .before .args .answer .now)) (sym (c .before .before .before .before .before .before .before .before .a2 .given .1))
+returns-2 c = c .before .before .put-four2 .ensures ∙ ap (λ (x : Answer). putFront (valuesOf (replyOf x)) (c .before .before .before .before .before .before .before .before .before .before .before .args .answer .now)) (sym (c .before .before .before .before .before .before .before .before .a2 .given .1))
 
 same-length-3 : tie.Need-same-length-3
 same-length-3 c = search needs
@@ -78,7 +78,7 @@ same-length-3 c = search needs
 returns-3 : tie.Need-returns-3
 returns-3 c =
     let l = c .before .before .before .before .before .before .before .args .answer .now in
-    c .before .before .put-four3 .ensures ∙ ap (λ (v : ℕ). over (v ∷ 0 ∷ 0 ∷ 0 ∷ []) l) (c .before .before .before .value .ensures) ∙ plain (c .before .before .before .before .before) (c .before .before .before .before .before .before .before .args .a) refl l
+    c .before .before .put-four3 .ensures ∙ ap (λ (v : ℕ). putFront (v ∷ 0 ∷ 0 ∷ 0 ∷ []) l) (c .before .before .before .value .ensures) ∙ plain (c .before .before .before .before .before) (c .before .before .before .before .before .before .before .args .a) refl l
 
 pub put-values-spec : {M : Type 1} → statement M
 put-values-spec =

@@ -1,7 +1,7 @@
 -- `hidden_literals::shorten_part` meets its contract. Assumes nothing.
 use Rattle.hidden_literals.proofs.Shortening.{outerTwins}
 use Rattle.hidden_literals.proofs.Shortened.{clause-slots, clause-inside, clause-sorted, inner-given, inner-many, inner-few, outer-given, part-given}
-use Rattle.clause_slots.specs.Stamped.{Inside}
+use Rattle.clause_slots.specs.Stamped.{StampedSlots}
 use Rattle.hidden_literals.specs.Sorted.{Sorted}
 use Rattle.stamp_columns.specs.Columns.{columns}
 use Rattle.discovery_order.proofs.Sorting.{rest-part}
@@ -66,7 +66,7 @@ slice-aggregate-outer-twins : tie.Need-slice-aggregate-outer-twins
 slice-aggregate-outer-twins c = sym (sized (c .before .before .before .before .before))
 
 outer-twins-requires : tie.Need-outer-twins-requires
-outer-twins-requires c κs = let k = c .before .before .before .before .before in rw (rest-part (k .keep-inner .result) (k .keep-inner .last .0)) (subst (Inside (c .before .before .before .before .before .before .before .before .before .before .args .times .now)) (sym (inner-given (c .before .before .before .before .before .before .before .before .before .before .pre .0) (c .before .before .before .before .before .before .before .before .before .before .pre .1) (k .keep-inner .last .0) (k .keep-inner .result) (k .keep-inner .ensures .1))) (clause-inside (c .before .before .before .before .before .before .before .before .before .before .pre .0)), sized k ∙ inner-many (c .before .before .before .before .before .before .before .before .before .before .pre .0) (c .before .before .before .before .before .before .before .before .before .before .pre .1) (k .keep-inner .last .0) (k .keep-inner .result) (k .keep-inner .ensures .1))
+outer-twins-requires c κs = let k = c .before .before .before .before .before in rw (rest-part (k .keep-inner .result) (k .keep-inner .last .0)) (subst (StampedSlots (c .before .before .before .before .before .before .before .before .before .before .args .times .now)) (sym (inner-given (c .before .before .before .before .before .before .before .before .before .before .pre .0) (c .before .before .before .before .before .before .before .before .before .before .pre .1) (k .keep-inner .last .0) (k .keep-inner .result) (k .keep-inner .ensures .1))) (clause-inside (c .before .before .before .before .before .before .before .before .before .before .pre .0)), sized k ∙ inner-many (c .before .before .before .before .before .before .before .before .before .before .pre .0) (c .before .before .before .before .before .before .before .before .before .before .pre .1) (k .keep-inner .last .0) (k .keep-inner .result) (k .keep-inner .ensures .1))
 
 slice-reshare-prefix-keep-part : tie.Need-slice-reshare-prefix-keep-part
 slice-reshare-prefix-keep-part c = room (c .before .before .before) _

@@ -3,7 +3,7 @@ use Prim.Native.Nat.{ℕ, _≤_, _-_}
 use mathlib.Core.Path.{_≡_, refl, ap, subst, _∙_}
 use lib.ListN.{length}
 use native.Mathlib.Omega.{arith}
-use Rattle.occurrences.specs.Chains.{Linkable, Linking, Room}
+use Rattle.occurrences.specs.Chains.{Linkable, Linking, ChainRoom}
 use Rattle.occurrences.proofs.Linking.{linkable-fewer}
 use borrow.Author.Needs.{needs}
 use Rattle.occurrences.proofs.link.Statement.{statement}

@@ -4,7 +4,7 @@ use mathlib.Core.Path.{_≡_, refl, sym, ap, subst, _∙_}
 use lib.ListN.{length, getD}
 use Rattle.tables.specs.Tables.{startOf, lengthOf, variableAt}
 use native.Mathlib.Omega.{arith}
-use Rattle.occurrences.specs.Chains.{Linkable, Linking, Room}
+use Rattle.occurrences.specs.Chains.{Linkable, Linking, ChainRoom}
 use Rattle.occurrences.proofs.Linking.{linking-next, place-small, place-room, linking-step}
 use mir.Facts.{toZ-ofZ}
 use borrow.Author.Needs.{needs, sfits-of}
@@ -26,7 +26,7 @@ bound : (s : tie.Start Inv-loop μ-loop) → startOf (s .args .clauses .now) (s 
 bound s = s .pre .1 .0 .parts .inside (s .args .i) (omega arith)
 
 -- the tables of the chains are as long as they were
-roomy : (a : tie.At-loop Inv-loop μ-loop) → Room (a .loop .heads) (a .loop .places)
+roomy : (a : tie.At-loop Inv-loop μ-loop) → ChainRoom (a .loop .heads) (a .loop .places)
 roomy a = record { variables = omega (arith, a .before .before .before .before .before .before .pre .0 .variables, a .loop .inv .1 .1 .0 .0); records = omega (arith, a .before .before .before .before .before .before .pre .0 .records, a .loop .inv .1 .1 .0 .1) }
 
 -- the variable that is read

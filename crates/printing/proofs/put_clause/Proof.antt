@@ -27,12 +27,13 @@ shared-slice-copy-out-put-literal c = search needs
 put-literal-requires : tie.Need-put-literal-requires Inv-loop μ-loop
 put-literal-requires c κs = let s = c .before .before .before .before .before in
     let l = c .before .before .before .loop in
-    rw (back (s .pre .0 .each (l .i))) (s .pre .0 .each (l .i), omega (arith, storing-room (l .inv) (c .before .before .loop-test .taken) (s .pre .1)))
+    let small = s .pre .0 .each (l .i) (c .before .before .loop-test .taken) in
+    rw (back small) (small, omega (arith, storing-room (l .inv) (c .before .before .loop-test .taken) (s .pre .1)))
 
 put-byte-requires : tie.Need-put-byte-requires Inv-loop μ-loop
 put-byte-requires c κs = let s = c .before .before .before .before .before .before .before .before .before in
     let l = c .before .before .before .before .before .before .before .loop in
-    let e = rw (back (s .pre .0 .each (l .i))) at (c .before .before .before .put-literal .ensures) in
+    let e = rw (back (s .pre .0 .each (l .i) (c .before .before .before .before .before .before .loop-test .taken))) at (c .before .before .before .put-literal .ensures) in
     omega (arith, e .next, storing-room (l .inv) (c .before .before .before .before .before .before .loop-test .taken) (s .pre .1))
 
 add-i : tie.Need-add-i Inv-loop μ-loop
@@ -44,7 +45,7 @@ loop-less c = search needs
 loop-again : tie.Need-loop-again Inv-loop μ-loop
 loop-again c = let s = c .before .before .before .before .before .before .before .before .before .before .before .before in
     let l = c .before .before .before .before .before .before .before .before .before .before .loop in
-    storing-step (l .inv) (c .before .before .before .before .before .before .before .before .before .loop-test .taken) (rw (back (s .pre .0 .each (l .i))) at (c .before .before .before .before .before .before .put-literal .ensures)) (c .before .before .put-byte .ensures)
+    storing-step (l .inv) (c .before .before .before .before .before .before .before .before .before .loop-test .taken) (rw (back (s .pre .0 .each (l .i) (c .before .before .before .before .before .before .before .before .before .loop-test .taken))) at (c .before .before .before .before .before .before .put-literal .ensures)) (c .before .before .put-byte .ensures)
 
 put-byte-requires-2 : tie.Need-put-byte-requires-2 Inv-loop μ-loop
 put-byte-requires-2 c κs = omega (arith, storing-two (c .before .before .loop .inv) (c .before .loop-test .left) (c .before .before .before .before .pre .1))

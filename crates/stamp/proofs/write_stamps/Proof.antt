@@ -7,7 +7,7 @@ use lib.ListN.{length}
 use borrow.Author.Needs.{needs}
 use Rattle.literal.specs.Literals.{slotOf}
 use Rattle.tables.specs.Clauses.{slotsFrom}
-use Rattle.stamp_walk.specs.Stamping.{Holding, Ordered}
+use Rattle.stamp_walk.specs.Stamping.{ColumnsHold, Ordered}
 use Rattle.stamp.specs.Stamp.{stampsOf}
 use Rattle.stamp.proofs.Writing.{full-ordered, full-literals, blank-columned, blank-walk, records-are}
 use Rattle.stamp.proofs.Freshness.{entries-below}
@@ -48,7 +48,7 @@ module _ (w : tie.After-stamp-columns) where
   starts-long : length starts′ ≡ 2 * w .before .before .before .before .before .before .before .before .before .before .before .before .before .before .before .before .before .args .v
   starts-long = w .stamp-columns .kept .1 .1 .1 .1 .1 .1 .1 .1 .0 ∙ blank-columned (w .before .before .before .before .before .before .before .before .before .before .before .before .before .before .before .before .before .pre .1 .0) .tops
 
-  held : Holding (stampsOf (slotsFrom (w .before .before .before .before .before .before .before .before .before .before .before .before .before .before .before .before .before .args .clauses .now) (w .before .before .before .before .before .before .before .before .before .before .before .before .before .before .before .before .before .args .literals .now) (w .before .before .before .before .before .before .before .before .before .before .before .before .before .before .before .before .before .args .n) 0) (2 * w .before .before .before .before .before .before .before .before .before .before .before .before .before .before .before .before .before .args .v) (map slotOf (w .before .before .before .before .before .before .before .before .before .before .before .before .before .before .before .before .before .args .order .now))) discoveries′ finishes′ parents′ starts′
+  held : ColumnsHold (stampsOf (slotsFrom (w .before .before .before .before .before .before .before .before .before .before .before .before .before .before .before .before .before .args .clauses .now) (w .before .before .before .before .before .before .before .before .before .before .before .before .before .before .before .before .before .args .literals .now) (w .before .before .before .before .before .before .before .before .before .before .before .before .before .before .before .before .before .args .n) 0) (2 * w .before .before .before .before .before .before .before .before .before .before .before .before .before .before .before .before .before .args .v) (map slotOf (w .before .before .before .before .before .before .before .before .before .before .before .before .before .before .before .before .before .args .order .now))) discoveries′ finishes′ parents′ starts′
   held = blank-walk (w .before .before .before .before .before .before .before .before .before .before .before .before .before .before .before .before .before .pre .0 .0) (w .before .before .before .before .before .before .before .before .before .before .before .before .before .before .before .before .before .pre .0 .1) (w .before .before .before .before .before .before .before .before .before .before .before .before .before .before .before .before .before .pre .1 .0) (slots′ (w .before .before .before .before .before .before .before .before)) discoveries′ finishes′ parents′ starts′ (w .before .before .before .before .before .before .before .before .list-slots .ensures) (w .stamp-columns .ensures .stamps-are)
 
 list-slots-requires : tie.Need-list-slots-requires

@@ -16,7 +16,7 @@ use Rattle.scc.specs.Groups.{blank}
 use Rattle.scc.specs.Forward.{forward}
 use Rattle.tables.specs.Clauses.{slotsFrom}
 use Rattle.table_graph.proofs.Listing.{listed-wider, few-edges, front-froms, front-tos}
-use Rattle.stamp_walk.specs.Stamping.{Holding, Walkable, Finished}
+use Rattle.stamp_walk.specs.Stamping.{ColumnsHold, WalkableEdges, Finished}
 use Rattle.stamp_walk.proofs.Graphing.{room, walkable, finished, cyclic-is}
 use Rattle.stamp_walk.proofs.stamp_graph.Statement.{statement}
 use Rattle.stamp_walk.proofs.stamp_graph.Tie as tie
@@ -77,11 +77,11 @@ module _ (e : tie.After-stamp-edges) where
   finishes-long : length finishes′ ≡ 2 * e .before .before .before .before .before .before .before .before .before .before .before .before .before .before .before .before .before .before .before .before .before .before .before .before .before .before .before .before .before .before .args .v
   finishes-long = e .stamp-edges .kept .1 .1 .1 .1 .1 .1 .1 .1 .0 ∙ e .before .before .before .before .before .before .before .before .before .before .before .before .before .before .before .before .before .before .before .before .before .before .before .before .before .before .before .before .before .before .pre .1 .1 .fins
 
-  held : Holding (stampAll (implications (clauses (e .before .before .before .before .before .before .before .before .before .before .before .before .before .before .before))) (λ q. absent q (tos (clauses (e .before .before .before .before .before .before .before .before .before .before .before .before .before .before .before)))) (e .before .before .before .before .before .before .before .before .before .before .before .before .before .before .before .before .before .before .before .before .before .before .before .before .before .before .before .before .before .before .args .order .now) (blank (2 * e .before .before .before .before .before .before .before .before .before .before .before .before .before .before .before .before .before .before .before .before .before .before .before .before .before .before .before .before .before .before .args .v) (e .before .before .before .before .before .before .before .before .before .before .before .before .before .before .before .before .before .before .before .before .before .before .before .before .before .before .before .before .before .before .args .finishes .now) (e .before .before .before .before .before .before .before .before .before .before .before .before .before .before .before .before .before .before .before .before .before .before .before .before .before .before .before .before .before .before .args .parents .now) (e .before .before .before .before .before .before .before .before .before .before .before .before .before .before .before .before .before .before .before .before .before .before .before .before .before .before .before .before .before .before .args .starts .now))) discoveries′ finishes′ parents′ starts′
+  held : ColumnsHold (stampAll (implications (clauses (e .before .before .before .before .before .before .before .before .before .before .before .before .before .before .before))) (λ q. absent q (tos (clauses (e .before .before .before .before .before .before .before .before .before .before .before .before .before .before .before)))) (e .before .before .before .before .before .before .before .before .before .before .before .before .before .before .before .before .before .before .before .before .before .before .before .before .before .before .before .before .before .before .args .order .now) (blank (2 * e .before .before .before .before .before .before .before .before .before .before .before .before .before .before .before .before .before .before .before .before .before .before .before .before .before .before .before .before .before .before .args .v) (e .before .before .before .before .before .before .before .before .before .before .before .before .before .before .before .before .before .before .before .before .before .before .before .before .before .before .before .before .before .before .args .finishes .now) (e .before .before .before .before .before .before .before .before .before .before .before .before .before .before .before .before .before .before .before .before .before .before .before .before .before .before .before .before .before .before .args .parents .now) (e .before .before .before .before .before .before .before .before .before .before .before .before .before .before .before .before .before .before .before .before .before .before .before .before .before .before .before .before .before .before .args .starts .now))) discoveries′ finishes′ parents′ starts′
   held =
       let a = e .before .before .before .before .before .before .before .before .before .before .before .before .before .before .before .before .before .before .before .before .before .before .before .before .before .before .before .before .before .before .args in
-      as-clauses (e .before .before .before .before .before .before .before .before .before .before .before .before .before .before .before) (λ f t. Holding (stampAll (outs f t) (λ q. absent q t) (a .order .now) (blank (2 * a .v) (a .finishes .now) (a .parents .now) (a .starts .now))) discoveries′ finishes′ parents′ starts′)
-      (subst (λ (n : ℕ). Holding (stampAll (outs (take (count (e .before .before .before .before .before .before .before .before .before .before .before .before .before .before .before)) (from′ (e .before .before .before .before .before .before .before .before .before .before .before .before .before .before .before))) (take (count (e .before .before .before .before .before .before .before .before .before .before .before .before .before .before .before)) (to′ (e .before .before .before .before .before .before .before .before .before .before .before .before .before .before .before)))) (λ q. absent q (take (count (e .before .before .before .before .before .before .before .before .before .before .before .before .before .before .before)) (to′ (e .before .before .before .before .before .before .before .before .before .before .before .before .before .before .before)))) (a .order .now) (blank n (a .finishes .now) (a .parents .now) (a .starts .now))) discoveries′ finishes′ parents′ starts′)
+      as-clauses (e .before .before .before .before .before .before .before .before .before .before .before .before .before .before .before) (λ f t. ColumnsHold (stampAll (outs f t) (λ q. absent q t) (a .order .now) (blank (2 * a .v) (a .finishes .now) (a .parents .now) (a .starts .now))) discoveries′ finishes′ parents′ starts′)
+      (subst (λ (n : ℕ). ColumnsHold (stampAll (outs (take (count (e .before .before .before .before .before .before .before .before .before .before .before .before .before .before .before)) (from′ (e .before .before .before .before .before .before .before .before .before .before .before .before .before .before .before))) (take (count (e .before .before .before .before .before .before .before .before .before .before .before .before .before .before .before)) (to′ (e .before .before .before .before .before .before .before .before .before .before .before .before .before .before .before)))) (λ q. absent q (take (count (e .before .before .before .before .before .before .before .before .before .before .before .before .before .before .before)) (to′ (e .before .before .before .before .before .before .before .before .before .before .before .before .before .before .before)))) (a .order .now) (blank n (a .finishes .now) (a .parents .now) (a .starts .now))) discoveries′ finishes′ parents′ starts′)
       (e .before .before .before .before .before .before .before .before .before .before .before .before .before .before .before .before .before .before .before .before .before .before .before .before .before .before .before .before .before .before .pre .1 .1 .discs) (e .stamp-edges .ensures))
 
 list-pairs-requires : tie.Need-list-pairs-requires
@@ -101,8 +101,8 @@ slice-aggregate-stamp-edges-2 c = sym (length-take-le (count (c .before .before 
 
 stamp-edges-requires : tie.Need-stamp-edges-requires
 stamp-edges-requires c κs = let a = c .before .before .before .before .before .before .before .before .before .before .before .before .before .before .before .before .before .before .before .before .before .before .before .before .before .before .before .before .before .args in let C = c .before .before .before .before .before .before .before .before .before .before .before .before .before .before .before .before .before .before .before .before .before .before .before .before .before .before .before .before .before .pre .1 .1 in (
-  as-listed (c .before .before .before .before .before .before .before .before .before .before .before .before .before .before) (λ f t. Walkable (length (a .discoveries .now)) f t (a .order .now) (a .offsets .now) (a .targets .now) (a .root .now) (a .roots .now))
-      (subst (λ (n : ℕ). Walkable n (froms (clauses (c .before .before .before .before .before .before .before .before .before .before .before .before .before .before))) (tos (clauses (c .before .before .before .before .before .before .before .before .before .before .before .before .before .before))) (a .order .now) (a .offsets .now) (a .targets .now) (a .root .now) (a .roots .now)) (sym (C .discs)) (walkable (c .before .before .before .before .before .before .before .before .before .before .before .before .before .before .before .before .before .before .before .before .before .before .before .before .before .before .before .before .before .pre .0 .0) (c .before .before .before .before .before .before .before .before .before .before .before .before .before .before .before .before .before .before .before .before .before .before .before .before .before .before .before .before .before .pre .0 .1) (c .before .before .before .before .before .before .before .before .before .before .before .before .before .before .before .before .before .before .before .before .before .before .before .before .before .before .before .before .before .pre .1 .0))),
+  as-listed (c .before .before .before .before .before .before .before .before .before .before .before .before .before .before) (λ f t. WalkableEdges (length (a .discoveries .now)) f t (a .order .now) (a .offsets .now) (a .targets .now) (a .root .now) (a .roots .now))
+      (subst (λ (n : ℕ). WalkableEdges n (froms (clauses (c .before .before .before .before .before .before .before .before .before .before .before .before .before .before))) (tos (clauses (c .before .before .before .before .before .before .before .before .before .before .before .before .before .before))) (a .order .now) (a .offsets .now) (a .targets .now) (a .root .now) (a .roots .now)) (sym (C .discs)) (walkable (c .before .before .before .before .before .before .before .before .before .before .before .before .before .before .before .before .before .before .before .before .before .before .before .before .before .before .before .before .before .pre .0 .0) (c .before .before .before .before .before .before .before .before .before .before .before .before .before .before .before .before .before .before .before .before .before .before .before .before .before .before .before .before .before .pre .0 .1) (c .before .before .before .before .before .before .before .before .before .before .before .before .before .before .before .before .before .before .before .before .before .before .before .before .before .before .before .before .before .pre .1 .0))),
   record { discs = refl; fins = C .fins ∙ sym (C .discs); pars = C .pars ∙ sym (C .discs); tops = C .tops ∙ sym (C .discs) },
 )
 

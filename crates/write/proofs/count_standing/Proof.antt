@@ -8,14 +8,14 @@ use lib.IntN.{ℤ}
 use borrow.Author.Needs.{needs}
 use Rattle.tables.specs.Tables.{standing}
 use Rattle.tables.specs.Clauses.{literalsOf}
-use Rattle.write.specs.Gathered.{clauseAt}
+use Rattle.write.specs.Gathered.{writtenAt}
 use Rattle.write.proofs.Records.{clause-none, clause-some}
 use Rattle.write.proofs.Gathering.{Counting, counting-begin, counting-step, counting-end}
 use Rattle.write.proofs.count_standing.Statement.{statement}
 use Rattle.write.proofs.count_standing.Tie as tie
 
 abbrev Inv-loop : tie.InvT-loop
-Inv-loop clauses n count₀ i₀ count i = (i ≤ n) × (count ≤ i) × ((literals : List ℤ) → Counting (clauseAt clauses literals) n i count)
+Inv-loop clauses n count₀ i₀ count i = (i ≤ n) × (count ≤ i) × ((literals : List ℤ) → Counting (writtenAt clauses literals) n i count)
 
 abbrev μ-loop : tie.MeasureT-loop
 μ-loop clauses n count₀ i₀ count i = n - i
@@ -31,7 +31,7 @@ no-flag : (xs : List ℕ) (i : ℕ) → getD xs (3 * (i + 1) - 1) 0 ≡ 0 → st
 no-flag xs i h = rw place at h
 
 loop-holds : tie.Need-loop-holds Inv-loop μ-loop
-loop-holds c = (omega arith, omega arith, λ ls. counting-begin (clauseAt (c .args .clauses .now) ls) (c .args .n))
+loop-holds c = (omega arith, omega arith, λ ls. counting-begin (writtenAt (c .args .clauses .now) ls) (c .args .n))
 
 add-i : tie.Need-add-i Inv-loop μ-loop
 add-i c = search needs

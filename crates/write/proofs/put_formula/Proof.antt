@@ -5,14 +5,14 @@ use lib.ListN.{length}
 use borrow.Author.Needs.{needs}
 use Rattle.tables.specs.Tables.{tables}
 use Rattle.printing.specs.Printing.{clausesText, headerText}
-use Rattle.write.specs.Gathered.{gathered, unitAt, classAt, clauseAt}
+use Rattle.write.specs.Gathered.{gathered, unitAt, classAt, writtenAt}
 use Rattle.write.proofs.Bounds.{header-short, text-short}
 use Rattle.write.proofs.Text.{none-small, empty-length, standing-ready, formula-below, stored-marked, stored-unmarked}
 use Rattle.write.proofs.put_formula.Statement.{statement}
 use Rattle.write.proofs.put_formula.Tie as tie
 
 -- a header with a count and all clauses are short
-short : (s : tie.Start) (count : ℕ) → count < 10000 → length (headerText (s .args .st .v) count) + length (clausesText (gathered (unitAt (s .args .variables .now)) (s .args .st .v) 0)) + length (clausesText (gathered (classAt (s .args .variables .now)) (s .args .st .v) 0)) + length (clausesText (gathered (clauseAt (s .args .clauses .now) (s .args .literals .now)) (s .args .st .n) 0)) < 2 ^ 63
+short : (s : tie.Start) (count : ℕ) → count < 10000 → length (headerText (s .args .st .v) count) + length (clausesText (gathered (unitAt (s .args .variables .now)) (s .args .st .v) 0)) + length (clausesText (gathered (classAt (s .args .variables .now)) (s .args .st .v) 0)) + length (clausesText (gathered (writtenAt (s .args .clauses .now) (s .args .literals .now)) (s .args .st .n) 0)) < 2 ^ 63
 short s count h = let a = s .args in text-short (a .clauses .now) (a .literals .now) (a .variables .now) (a .st .v) (a .st .n) (s .pre) count h
 
 few : (c : tie.After-count-clauses) → c .count-clauses .result < 10000

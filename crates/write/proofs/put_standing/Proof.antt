@@ -3,20 +3,20 @@ use Prim.Native.Nat.{_-_, _≤_}
 use native.Mathlib.Omega.{arith}
 use borrow.Author.Needs.{needs}
 use Rattle.tables.specs.Tables.{startOf, lengthOf}
-use Rattle.write.specs.Gathered.{clauseAt}
+use Rattle.write.specs.Gathered.{writtenAt}
 use Rattle.write.proofs.Records.{part-small}
 use Rattle.write.proofs.Gathering.{Putting, putting-begin, putting-room, putting-step, putting-end}
 use Rattle.write.proofs.put_standing.Statement.{statement}
 use Rattle.write.proofs.put_standing.Tie as tie
 
 abbrev Inv-loop : tie.InvT-loop
-Inv-loop out₀ at clauses literals n next₀ i₀ out next i = (i ≤ n) × Putting (clauseAt clauses literals) n next₀ out₀ i next out
+Inv-loop out₀ at clauses literals n next₀ i₀ out next i = (i ≤ n) × Putting (writtenAt clauses literals) n next₀ out₀ i next out
 
 abbrev μ-loop : tie.MeasureT-loop
 μ-loop out₀ at clauses literals n next₀ i₀ out next i = n - i
 
 loop-holds : tie.Need-loop-holds Inv-loop μ-loop
-loop-holds c = let a = c .before .before .args in (omega arith, putting-begin (clauseAt (a .clauses .now) (a .literals .now)) (a .n) (a .at) (a .out .now))
+loop-holds c = let a = c .before .before .args in (omega arith, putting-begin (writtenAt (a .clauses .now) (a .literals .now)) (a .n) (a .at) (a .out .now))
 
 mul-start : tie.Need-mul-start Inv-loop μ-loop
 mul-start c = search needs
