@@ -72,6 +72,7 @@ fn pass_of(pass: u32, cursor: u32, changed: u32) -> Pass
     }
 }
 
+// The state that the first seven numbers are; `ready` has seen that they are there.
 pub fn state_at(state: &[u32]) -> State
     requires { ⌜ 7 ≤ length (now state) ⌝ }
     ensures { λ r. ⌜ r ≡ stateOf (now (state .entry)) ⌝ }
@@ -171,7 +172,7 @@ fn put_values(answer: &mut [u64], a: Answer)
     }
 }
 
-// What is returned: 0, or the refusal's number, negative. A refusal puts its place first, and the other three numbers stay.
+// What is returned: 0, or the refusal's number, negative. A refusal puts its place first, and the other three numbers stay. That the four are there, `ready` or `refuse_unread` has seen.
 pub fn put_answer(answer: &mut [u64], a: Answer) -> i64
     requires { ⌜ 4 ≤ length (now answer) ⌝ }
     ensures { λ r. ⌜ (r ≡ resultBy (replyOf a .number) 0) × (now (answer .exit) ≡ putAnswer (replyOf a) (now (answer .entry))) ⌝ }
@@ -195,7 +196,7 @@ pub fn refuse_unread(answer: &mut [u64]) -> i64
     put_answer(answer, Answer::Refused(Refusal::Shape))
 }
 
-// After a call: its answer and, where it was made, the state.
+// After a call: its answer and, where it was made, the state. Both slices are long enough, as `ready` has seen.
 pub fn finish(state: &mut [u32], answer: &mut [u64], outcome: Outcome) -> i64
     requires { ⌜ (7 ≤ length (now state)) × (4 ≤ length (now answer)) ⌝ }
     ensures { λ r. ⌜ ((t : Tables) → afterC r (now (answer .exit)) (now (state .exit)) t ≡ told (after outcome t) (now (state .entry)) (now (answer .entry))) ⌝ }

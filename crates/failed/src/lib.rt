@@ -160,7 +160,7 @@ fn failed_fresh(variables: &mut [i32], times: &[u32], links: &[i32], st: State) 
     }
 }
 
-// Refusal 9 where the stamps are not fresh, and otherwise the call. Run enters here.
+// Refusal 9 where the stamps are not fresh, and otherwise the call. Run enters here. Where stamps are fresh, the shape rule has them so: `entry::may_open` has checked it for the call, and for a run the passes before keep it.
 pub fn unless_stale(variables: &mut [i32], times: &[u32], links: &[i32], st: State) -> Outcome
     requires { ⌜ Callable st (now variables) (now times) (now links) ⌝ }
     ensures { λ r. ⌜ ((clauses : List ℕ) (literals : List ℤ) → after r (returned (unlent clauses) (unlent literals) variables times links)

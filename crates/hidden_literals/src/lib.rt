@@ -108,7 +108,7 @@ fn outer_twins(slots: &[u32], twins: &mut [u32], times: &[u32]) -> usize
     keep_outer(twins, times)
 }
 
-// Figure 5 on a part whose slots are given by rising discovery, with room for as many; how many literals stay.
+// Figure 5 on a part whose slots are given by rising discovery, with room for as many; how many literals stay. The clause has fresh stamps as `hidden_tautology` asks, which leaves its slots sorted.
 pub fn shorten_part(part: &mut [i32], slots: &mut [u32], twins: &mut [u32], times: &[u32]) -> usize
     requires { ⌜ StampedClause (now times) (now part) × (now slots ≡ byDiscovery (columns (now times) []) (map slotOf (now part))) × (length (now twins) ≡ length (now part)) ⌝ }
     ensures { λ r. ⌜ (r ≡ length (shorten slotOf (columns (now (times .entry)) []) (now (part .entry))))

@@ -52,7 +52,7 @@ fn scan(times: &[u32], links: &[i32], two: bool, pos: &[u32], neg: &[u32]) -> bo
     verdict
 }
 
-// Whether the clause is a hidden tautology; its slots are left sorted in `slots`. `slots` and `twins` are as long as the part.
+// Whether the clause is a hidden tautology; its slots are left sorted in `slots`. `slots` and `twins` are as long as the part. All its literals have fresh stamps: `sweep_visits::visit_clause` has it from the shape rule.
 pub fn hidden_tautology(
     part: &[i32],
     times: &[u32],

@@ -23,6 +23,7 @@ pub fn in_range(l: i32, v: u32) -> bool
     l as u32 <= v
 }
 
+// The complement. A literal in range is not the smallest i32: `in_range` has said so, or the shape rule does.
 pub fn complement(l: i32) -> i32
     requires { ⌜ Small l ⌝ }
     ensures { λ r. ⌜ r ≡ negℤ l ⌝ }
@@ -30,6 +31,7 @@ pub fn complement(l: i32) -> i32
     -l
 }
 
+// The variable, for the same reason.
 pub fn var_of(l: i32) -> usize
     requires { ⌜ Small l ⌝ }
     ensures { λ r. ⌜ r ≡ natAbs l ⌝ }
@@ -37,6 +39,7 @@ pub fn var_of(l: i32) -> usize
     if l < 0 { (-l) as usize } else { l as usize }
 }
 
+// The slot of a literal, which is not 0 and not the smallest i32, as `in_range` or the shape rule has it.
 pub fn slot_of(l: i32) -> usize
     requires { ⌜ (0 < natAbs l) × Small l ⌝ }
     ensures { λ r. ⌜ r ≡ slotOf l ⌝ }
@@ -50,7 +53,7 @@ pub fn slot_of(l: i32) -> usize
     }
 }
 
-// The literal whose slot is given.
+// The literal whose slot is given. Slots are at most 2,047 wherever it is called.
 pub fn lit_at(slot: usize) -> i32
     requires { ⌜ slot < 4294967294 ⌝ }
     ensures { λ r. ⌜ r ≡ litAt slot ⌝ }
@@ -59,7 +62,7 @@ pub fn lit_at(slot: usize) -> i32
     if slot % 2 == 0 { v } else { -v }
 }
 
-// The slot of the complement.
+// The slot of the complement. Slots are at most 2,047 wherever it is called.
 pub fn twin_of(slot: u32) -> u32
     requires { ⌜ slot < 65536 ⌝ }
     ensures { λ r. ⌜ r ≡ twin slot ⌝ }
@@ -81,7 +84,7 @@ pub fn contains(part: &[i32], l: i32) -> bool
     false
 }
 
-// 0 from a place to the end.
+// 0 from a place to the end. The place is a length that the caller has counted in the same slice.
 pub fn zero_from(part: &mut [i32], from: usize)
     requires { ⌜ from ≤ length (now part) ⌝ }
     ensures { λ _. ⌜ now (part .exit) ≡ take from (now (part .entry)) ++ replicate (length (now (part .entry)) - from) (pos 0) ⌝ }

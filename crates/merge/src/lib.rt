@@ -207,7 +207,7 @@ fn merge_from(
     visits::answer_at(st, Pass::Merge(end), fresh, fresh, counts, end)
 }
 
-// Opens the pass: the mark where v and −v share a component, else the new classes and the visits from the first clause on. Opening spends the stamps.
+// Opens the pass: the mark where v and −v share a component, else the new classes and the visits from the first clause on. Opening spends the stamps. Refusal 6 has been asked, or Settle has just propagated; the shape rule holds since the call's entry.
 pub fn merge_open(
     clauses: &mut [u32],
     literals: &mut [i32],

@@ -36,7 +36,7 @@ fn link_clause(clauses: &[u32], literals: &[i32], i: u32, heads: &mut [u32], pla
     }
 }
 
-// Links the places of n clauses. All chains are empty before.
+// Links the places of n clauses. All chains are empty before. The clauses lie in the tables by the shape rule, and `propagate::visit_listed` makes the tables of chains.
 pub fn link(clauses: &[u32], literals: &[i32], n: u32, heads: &mut [u32], places: &mut [u32])
     requires { ⌜ ChainRoom (now heads) (now places) ⌝ }
     requires { ⌜ Linkable n (now clauses) (now literals) ⌝ }
@@ -50,7 +50,7 @@ pub fn link(clauses: &[u32], literals: &[i32], n: u32, heads: &mut [u32], places
     }
 }
 
-// The clauses in which variable w occurs become pending.
+// The clauses in which variable w occurs become pending. `link` has made its chain.
 pub fn set_pending(
     heads: &[u32],
     places: &[u32],
@@ -109,7 +109,7 @@ fn pending_in_block(pending: &[bool], blocks: &mut [bool], j: usize) -> usize
     end
 }
 
-// The first pending clause from k on; 4,096 if there is none.
+// The first pending clause from k on; 4,096 if there is none. The two tables are those of `propagate::visit_listed`, in which every clause is pending at first.
 pub fn next_pending(pending: &[bool], blocks: &mut [bool], k: usize) -> usize
     requires { ⌜ (k ≤ 4096) × ((4096 ≤ length (now pending)) × (64 ≤ length (now blocks))) ⌝ }
     requires { ⌜ Covered (now pending) (now blocks) ⌝ }

@@ -42,7 +42,7 @@ fn put_literal(out: &mut [u8], at: usize, l: i32) -> usize
     put_number(out, at, l as u64)
 }
 
-// Each literal and a space, then `0` and LF.
+// Each literal and a space, then `0` and LF. Its literals come from tables that keep the shape rule, and what is written is far shorter than 2^63 bytes.
 pub fn put_clause(out: &mut [u8], at: usize, clause: &[i32]) -> usize
     requires { ⌜ EachSmall (now clause) × (at + length (clauseText (now clause)) < 2 ^ 63) ⌝ }
     ensures { λ r. ⌜ Stored (clauseText (now (clause .entry))) at (now (out .entry)) (now (out .exit)) r ⌝ }
@@ -83,7 +83,7 @@ fn put_line(out: &mut [u8], at: usize, word: &[u8], a: u64, b: u64) -> usize
     put_byte(out, end, b'\n')
 }
 
-// The line `p cnf V N`.
+// The line `p cnf V N`. What is written is far shorter than 2^63 bytes.
 pub fn put_header(out: &mut [u8], at: usize, v: u32, n: u32) -> usize
     requires { ⌜ at + length (headerText v n) < 2 ^ 63 ⌝ }
     ensures { λ r. ⌜ Stored (headerText v n) at (now (out .entry)) (now (out .exit)) r ⌝ }
@@ -91,7 +91,7 @@ pub fn put_header(out: &mut [u8], at: usize, v: u32, n: u32) -> usize
     put_line(out, at, b"p cnf ", v as u64, n as u64)
 }
 
-// The line `refused NUMBER PLACE`.
+// The line `refused NUMBER PLACE`. It is written at the front.
 pub fn put_refusal(out: &mut [u8], at: usize, number: u64, place: u64) -> usize
     requires { ⌜ at + length (refusedLine number place) < 2 ^ 63 ⌝ }
     ensures { λ r. ⌜ Stored (refusedLine number place) at (now (out .entry)) (now (out .exit)) r ⌝ }

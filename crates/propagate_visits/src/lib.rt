@@ -88,7 +88,7 @@ fn visit_part(part: &mut [i32], variables: &mut [i32]) -> Visited
     Visited::Left(n as u32)
 }
 
-// A visit to clause k. Its part of the literal table is lent on.
+// A visit to clause k. Its part of the literal table is lent on. The tables keep the shape rule and the clause is one of theirs, as for every visit of a pass that has passed its entry.
 pub fn visit_clause(
     clauses: &mut [u32],
     literals: &mut [i32],
@@ -123,7 +123,7 @@ fn onward(n: u32, k: u32, changed: bool) -> Stand
     Stand::Settled
 }
 
-// Where the pass stands after a visit to clause k, which had `size` literals.
+// Where the pass stands after a visit to clause k, which had `size` literals. The pass stands before clause k, and n is within its limit by the shape rule.
 pub fn stand_after(n: u32, k: u32, changed: bool, size: u32, seen: Visited) -> Stand
     requires { ⌜ (k < n) × (n ≤ 4096) ⌝ }
     ensures { λ r. ⌜ ((t : Tables) → progressOf r t ≡ standAfter n k changed size seen t) ⌝ }
@@ -156,7 +156,7 @@ fn step(
     stand_after(n, k, changed, size, seen)
 }
 
-// As many visits as `steps` says, or as the pass has left, from clause `cursor` on: one after the other.
+// As many visits as `steps` says, or as the pass has left, from clause `cursor` on: one after the other. The pass stands before clause `cursor` of tables that keep the shape rule: `entry::entry_of` has checked it, or `open_pass` begins there.
 pub fn visit_each(
     clauses: &mut [u32],
     literals: &mut [i32],
@@ -188,7 +188,7 @@ pub fn visit_each(
     }
 }
 
-// Visits that change nothing, from clause k up to clause j, at most `room` of them: they only move the cursor.
+// Visits that change nothing, from clause k up to clause j, at most `room` of them: they only move the cursor. `propagate::skip_or_visit` calls it where the next pending clause lies behind k and visits are left.
 pub fn skip(n: u32, room: u32, k: u32, j: u32, changed: bool) -> Reach
     requires { ⌜ (k < n) × ((k < j) × (0 < room)) ⌝ }
     ensures { λ r. ⌜ (0 < r .visits) × ((r .visits ≤ room) × ((k + r .visits ≤ n) × (k + r .visits ≤ j))) ⌝ }

@@ -27,7 +27,7 @@ fn turn_of(k: u32, size: usize) -> usize
     k as usize % size
 }
 
-// Writes 1, -1, 2, -2, .. of v variables, turned left by k mod 2v places.
+// Writes 1, -1, 2, -2, .. of v variables, turned left by k mod 2v places. V is within its limit by the shape rule, and the order is cut to 2V places by its caller.
 pub fn write_order(order: &mut [i32], v: u32, k: u32)
     requires { ⌜ (length (now order) ≡ 2 * v) × (v ≤ 1024) ⌝ }
     ensures { λ _. ⌜ now (order .exit) ≡ orderOf v k ⌝ }

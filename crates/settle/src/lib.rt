@@ -94,7 +94,7 @@ fn settle_once(clauses: &mut [u32], literals: &mut [i32], variables: &mut [i32],
     }
 }
 
-// The whole of Settle, on tables without the mark in which no pass is open.
+// The whole of Settle, on tables without the mark in which no pass is open. They keep the shape rule: `entry::may_open` has checked it, and for later rounds the passes before keep it.
 pub fn settle(clauses: &mut [u32], literals: &mut [i32], variables: &mut [i32], st: State) -> State
     requires { ⌜ Formed (st .v) (st .n) (st .n) false (now clauses) (now literals) (now variables) ⌝ }
     ensures { λ r. ⌜ ((times : List ℕ) (links : List ℤ) → standingIn (returned clauses literals variables (unlent times) (unlent links)) r

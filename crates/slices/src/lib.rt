@@ -6,7 +6,7 @@ ghost use lib.Dec.{eqb};
 ghost use Rattle.base.specs.Lists.{sameList};
 ghost use Rattle.literal.specs.Literals.{eqZ};
 
-// Copies the front of a table of numbers that is at least as long.
+// Copies the front of a table of numbers that is at least as long, as the tables of a run are, which its entry has checked.
 pub fn copy_numbers(from: &[u32], to: &mut [u32])
     requires { ⌜ length (now to) ≤ length (now from) ⌝ }
     ensures { λ _. ⌜ now (to .exit) ≡ take (length (now (to .entry))) (now (from .entry)) ⌝ }
@@ -30,7 +30,7 @@ pub fn copy_literals(from: &[i32], to: &mut [i32])
     }
 }
 
-// Whether two tables of numbers, equally long, are the same.
+// Whether two tables of numbers, equally long, are the same. `run::same_tables` cuts both to one length.
 pub fn same_numbers(a: &[u32], b: &[u32]) -> bool
     requires { ⌜ length (now a) ≡ length (now b) ⌝ }
     ensures { λ r. ⌜ r ≡ sameList eqb (now (a .entry)) (now (b .entry)) ⌝ }

@@ -48,7 +48,7 @@ fn check_order(order: &[i32], v: u32) -> usize
     i
 }
 
-// Refusals 8 and 6, in this order: all that Run asks of a Stamp but for a cycle.
+// Refusals 8 and 6, in this order: all that Run asks of a Stamp but for a cycle. The tables keep the shape rule: `entry::may_open` has checked it, and for a run the passes before keep it.
 pub fn ask_ordered(
     clauses: &[u32],
     literals: &[i32],
@@ -153,7 +153,7 @@ fn answer(st: State, cyclic: bool) -> Outcome
     }
 }
 
-// The call past refusals 8 and 6, which Run uses: refusal 7, or the stamps. Nothing is written where the graph is cyclic.
+// The call past refusals 8 and 6, which Run uses: refusal 7, or the stamps. Nothing is written where the graph is cyclic. `ask_ordered` has found the order full and every clause settled; the records are there by the shape check.
 pub fn stamp_acyclic(
     clauses: &[u32],
     literals: &[i32],

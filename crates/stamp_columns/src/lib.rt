@@ -7,7 +7,7 @@ ghost use Rattle.walk.specs.Forest.{discoveryAt, finishAt, parentAt};
 ghost use Rattle.stamp_columns.specs.Columns.{columns};
 ghost use Rattle.stamp_columns.specs.Slots.{Child};
 
-// When slot s is discovered.
+// When slot s is discovered. The slot has times: it is one of the 2V of tables whose stamps are fresh.
 pub fn discovery(times: &[u32], s: u32) -> u32
     requires { ⌜ 2 * s + 1 < length (now times) ⌝ }
     ensures { λ r. ⌜ r ≡ discoveryAt (columns (now (times .entry)) []) s ⌝ }
@@ -15,7 +15,7 @@ pub fn discovery(times: &[u32], s: u32) -> u32
     times[2 * s as usize]
 }
 
-// When slot s is finished.
+// When slot s is finished. The same holds for it.
 pub fn finish(times: &[u32], s: u32) -> u32
     requires { ⌜ 2 * s + 1 < length (now times) ⌝ }
     ensures { λ r. ⌜ r ≡ finishAt (columns (now (times .entry)) []) s ⌝ }
@@ -23,7 +23,7 @@ pub fn finish(times: &[u32], s: u32) -> u32
     times[2 * s as usize + 1]
 }
 
-// The slot of the parent of slot s.
+// The slot of the parent of slot s. Its link is a literal, as fresh stamps have it.
 pub fn parent(links: &[i32], s: u32) -> u32
     requires { ⌜ Child (now links) s ⌝ }
     ensures { λ r. ⌜ r ≡ parentAt (columns [] (now (links .entry))) s ⌝ }

@@ -95,7 +95,7 @@ pub fn columns_of(s: &[StampRecord]) -> Columns
     }
 }
 
-// The records that the columns hold, over the first of the lent ones; later ones stay.
+// The records that the columns hold, over the first of the lent ones; later ones stay. The columns are those that `columns_of` made of this slice.
 pub fn put_columns(s: &mut [StampRecord], c: Columns)
     requires { ⌜ (c .count ≤ 2048) × (c .count ≤ length (now s)) ⌝ }
     ensures { λ _. ⌜ now (s .exit) ≡ packed (heldTimes c) (heldLinks c) (now (s .entry)) ⌝ }

@@ -13,7 +13,7 @@ ghost use Rattle.implications.specs.Edges.{outs};
 ghost use Rattle.scc.specs.Groups.{blank};
 ghost use Rattle.stamp_walk.specs.Stamping.{LiteralOrder, Finished, WalkableEdges, Columned, ColumnsHold, Proper, Ordered, WalkRoom, WalkLeaves};
 
-// The slots of a list of literals.
+// The slots of a list of literals. `stamp::check_order` has seen that the order has literals in range alone.
 pub fn list_slots(order: &[i32], slots: &mut [u32])
     requires { ⌜ LiteralOrder (now order) × (length (now slots) ≡ length (now order)) ⌝ }
     ensures { λ _. ⌜ now (slots .exit) ≡ map slotOf (now (order .entry)) ⌝ }
@@ -42,7 +42,7 @@ fn any_backward(from: &[u32], to: &[u32], finishes: &[u32]) -> bool
     false
 }
 
-// The times of the records: the discovery and the finish of each slot. What stands behind them stays.
+// The times of the records: the discovery and the finish of each slot. What stands behind them stays. The tables have the stated length, which the call's entry has checked.
 pub fn copy_times(discoveries: &[u32], finishes: &[u32], times: &mut [u32])
     requires { ⌜ (length (now finishes) ≡ length (now discoveries)) × (2 * length (now discoveries) ≤ length (now times)) ⌝ }
     ensures { λ _. ⌜ now (times .exit) ≡ interleave (now (discoveries .entry)) (now (finishes .entry)) ++ drop (2 * length (now (discoveries .entry))) (now (times .entry)) ⌝ }
@@ -56,7 +56,7 @@ pub fn copy_times(discoveries: &[u32], finishes: &[u32], times: &mut [u32])
     }
 }
 
-// The links of the records: the parent and the start of each slot, as literals. What stands behind them stays.
+// The links of the records: the parent and the start of each slot, as literals. What stands behind them stays. The tables have the stated length, which the call's entry has checked, and parents and starts are slots, as the walk leaves them.
 pub fn copy_links(parents: &[u32], starts: &[u32], links: &mut [i32])
     requires { ⌜ (length (now starts) ≡ length (now parents)) × (2 * length (now parents) ≤ length (now links)) ⌝ }
     requires { ⌜ ((s : ℕ) → s < length (now parents) → (getD (now parents) s 0 < 2048) × (getD (now starts) s 0 < 2048)) ⌝ }
@@ -194,7 +194,7 @@ fn stamp_graph(
     any_backward(&from[..k], &to[..k], finishes)
 }
 
-// The same with scratch of its own.
+// The same with scratch of its own. The clauses lie in the tables by the shape rule, and `stamp::check_order` has seen a full order.
 pub fn stamp_columns(
     v: usize,
     n: usize,

@@ -89,7 +89,7 @@ fn stamps_by(times: &[u32], links: &[i32], v: u32, index: &mut [u32]) -> bool
     scan_times(links, index, v)
 }
 
-// Whether the stamps of v variables are as the rule has them.
+// Whether the stamps of v variables are as the rule has them. The tables have the stated length and V is within its limit: `shape::fresh_ok` asks only then.
 pub fn stamps_ok(times: &[u32], links: &[i32], v: u32) -> bool
     requires { ⌜ (v ≤ 1024) × (4 * v ≤ length (now times)) × (4 * v ≤ length (now links)) ⌝ }
     ensures { λ r. ⌜ Decides r (FreshStamps v (now (times .entry)) (now (links .entry))) ⌝ }

@@ -51,7 +51,7 @@ fn sweep_from(
     visits::answer_at(st, Pass::Sweep(k), true, false, counts, k)
 }
 
-// A call that no refusal above 9 stops: it opens the pass or resumes it, from clause `cursor` on. Run enters here.
+// A call that no refusal above 9 stops: it opens the pass or resumes it, from clause `cursor` on. Run enters here. Where stamps are fresh, the shape rule has them so: `entry::entry_of` has checked it for the call, and for a run the passes before keep it.
 pub fn sweep_entered(
     clauses: &mut [u32],
     literals: &mut [i32],

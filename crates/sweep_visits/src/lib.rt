@@ -67,7 +67,7 @@ fn visit_clause(
     seen
 }
 
-// Visits to m clauses from clause k on.
+// Visits to m clauses from clause k on. The tables keep the shape rule with fresh stamps, as `sweep::sweep_entered` has it, and `sweep_from` makes the room for slots.
 pub fn sweep_visits(
     clauses: &mut [u32],
     literals: &mut [i32],

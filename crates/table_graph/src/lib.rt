@@ -24,7 +24,7 @@ fn put_pair(a: u32, b: u32, k: usize, from: &mut [u32], to: &mut [u32])
     to[next] = a;
 }
 
-// Lists the edges of the two-literal clauses among the first `n`, and returns how many there are. A clause of length 2 stands, since a dropped one has length 0.
+// Lists the edges of the two-literal clauses among the first `n`, and returns how many there are. A clause of length 2 stands, since a dropped one has length 0. The clauses lie in the tables by the shape rule, and the columns have two places for each.
 pub fn list_pairs(
     n: usize,
     clauses: &[u32],
@@ -112,7 +112,7 @@ fn find_components(
     );
 }
 
-// The same with scratch of its own: `rep` has a place for each slot of the v variables.
+// The same with scratch of its own: `rep` has a place for each slot of the v variables. The clauses lie in the tables by the shape rule.
 pub fn representatives(v: usize, n: usize, clauses: &[u32], literals: &[i32], rep: &mut [u32])
     requires { ⌜ ClausesInside v n (now clauses) (now literals) ⌝ }
     requires { ⌜ length (now rep) ≡ 2 * v ⌝ }

@@ -30,7 +30,7 @@ fn signed_by(l: i32, x: i32) -> i32
     if l < 0 { -x } else { x }
 }
 
-// The class literal of l.
+// The class literal of l. Its variable has a record, and its class is a literal in range: the shape rule has both, here and in the functions on a literal below.
 pub fn class_literal(variables: &[i32], l: i32) -> i32
     requires { ⌜ Known (now variables) l ⌝ }
     ensures { λ r. ⌜ r ≡ classLiteral (now (variables .entry)) l ⌝ }
@@ -57,6 +57,7 @@ fn truth(variables: &[i32], l: i32) -> i32
     own_truth(variables, c)
 }
 
+// Whether l is true, as the value of its class literal says.
 pub fn is_true(variables: &[i32], l: i32) -> bool
     requires { ⌜ Known (now variables) l ⌝ }
     ensures { λ r. ⌜ r ≡ isTrue (now (variables .entry)) l ⌝ }
@@ -64,6 +65,7 @@ pub fn is_true(variables: &[i32], l: i32) -> bool
     truth(variables, l) == 1
 }
 
+// Whether l is false.
 pub fn is_false(variables: &[i32], l: i32) -> bool
     requires { ⌜ Known (now variables) l ⌝ }
     ensures { λ r. ⌜ r ≡ isFalse (now (variables .entry)) l ⌝ }
@@ -83,7 +85,7 @@ pub fn set_true(variables: &mut [i32], l: i32)
 
 // ---- the record of a clause: that it lies in its table, and the clause's part in the literal table, follows from the shape rule, which a call checks first
 
-// Whether clause k stands: 1, or 0 where it is dropped.
+// Whether clause k stands: 1, or 0 where it is dropped. The clause is one of N, here and in the functions on its record below, and the record lies in the table by the shape check.
 pub fn flag_of(clauses: &[u32], k: usize) -> u32
     requires { ⌜ Placed k (now clauses) ⌝ }
     ensures { λ r. ⌜ r ≡ standing (now (clauses .entry)) k ⌝ }
@@ -155,7 +157,7 @@ pub struct Totals {
     pub literals: u32,
 }
 
-// Counts the clauses and literals that stand among the first n.
+// Counts the clauses and literals that stand among the first n. Their parts lie in the literal table by the shape rule, so that the counts fit.
 pub fn count_standing(clauses: &[u32], n: usize) -> Totals
     requires { ⌜ Counted n (now clauses) ⌝ }
     ensures { λ r. ⌜ (r .clauses ≡ standingCount (take (3 * n) (now (clauses .entry)))) × (r .literals ≡ literalCount (take (3 * n) (now (clauses .entry)))) ⌝ }
@@ -277,7 +279,7 @@ fn is_unsettled(clauses: &[u32], literals: &[i32], variables: &[i32], i: usize) 
     any_valued(&literals[start..end], variables)
 }
 
-// The first such clause of n, counted from 0; n if there is none.
+// The first such clause of n, counted from 0; n if there is none. The clauses lie in the tables by the shape rule.
 pub fn first_unsettled(clauses: &[u32], literals: &[i32], variables: &[i32], n: usize) -> usize
     requires { ⌜ ((i : ℕ) → i < n → Asked i (now clauses) (now literals) (now variables)) × (n ≤ 4096) ⌝ }
     ensures { λ r. ⌜ ((times : List ℕ) (links : List ℤ) → r ≡ firstUnsettled (lent clauses literals variables (unlent times) (unlent links)) n) ⌝ }

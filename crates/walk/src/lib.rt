@@ -129,7 +129,7 @@ fn start_at(
     }
 }
 
-// Starts at each slot of `order` that is not yet entered, in order.
+// Starts at each slot of `order` that is not yet entered, in order. The graph is compressed by `implications::build`, the columns have a place for each slot, and the order has slots alone.
 pub fn start_each(
     order: &[u32],
     time: u32,
