@@ -19,7 +19,8 @@ use Rattle.entry.specs.declared.Opening.the-variants.{Denied, Granted}
 use Rattle.propagate.specs.Propagate.{propagateFrom}
 use Rattle.propagate_visits.specs.Visits.{Progress, going, settled, contradicted, onward, visited, changes, propagateClause, propagateVisit, propagateVisits, begin}
 use Rattle.propagate.proofs.Shaped.{tablesAt, begin-tables, replied-tables}
-use Rattle.merge.specs.Merge.{edgesOf, clashes, mergedClasses, mergeClause, mergeOpen}
+use Rattle.merge.specs.Merge.{edgesOf, clashes, mergedClasses, mergeOpen}
+use Rattle.merge_visits.specs.Clause.{mergeClause}
 use Rattle.stamp.specs.Stamp.{stampOrdered}
 use Rattle.failed.specs.Failed.{failedFresh}
 use Rattle.failed.specs.Failed as failing

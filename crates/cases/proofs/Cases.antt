@@ -28,7 +28,8 @@ use Rattle.printing.specs.Printing.{digits, clauseText, clausesText, textOf}
 use Rattle.write.specs.Write.{writtenClauses, writeText, writeCall}
 use Rattle.propagate.specs.Propagate.{propagateFrom, propagateCall}
 use Rattle.propagate_visits.specs.Visits.{propagateClause, propagateVisit, propagateVisits}
-use Rattle.merge.specs.Merge.{clashes, representative, regrouped, mergedClasses, mergeClause, mergeOpen, mergeSettled, mergeCall}
+use Rattle.merge.specs.Merge.{clashes, representative, regrouped, mergedClasses, mergeOpen, mergeSettled, mergeCall}
+use Rattle.merge_visits.specs.Clause.{mergeClause}
 use Rattle.hidden.specs.Hidden.{holds, insert, byDiscovery, passes, scanAt, scan, hiddenTautology, unhidden, shorten}
 use Rattle.hidden.specs.Failed.{sameStart, holdsBoth, lowest, failedSlot}
 use Rattle.stamp.specs.Stamp.{firstBad, stampsOf, stampedTables, stampAcyclic, stampSettled, stampOrdered, stampCall}

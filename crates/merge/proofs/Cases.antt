@@ -12,7 +12,8 @@ use Rattle.scc.specs.Groups.{reaches, connected, leastMutual}
 use Rattle.tables.specs.Tables.{Tables, tables}
 use Rattle.tables.specs.Clauses.{slotsAt, slotsFrom}
 use Rattle.tables.specs.Fates.{left, dropped}
-use Rattle.merge.specs.Merge.{clashes, representative, regrouped, mergedClasses, mergeClause}
+use Rattle.merge.specs.Merge.{clashes, representative, regrouped, mergedClasses}
+use Rattle.merge_visits.specs.Clause.{mergeClause}
 
 -- (2 3)(-2 -3) over 1, 2, 3, 4, where the class of 4 is 3 already: 3 becomes -2, and so does 4
 given : Tables

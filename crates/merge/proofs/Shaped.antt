@@ -22,10 +22,11 @@ use Rattle.visits.proofs.Forming.{formed-marked, formed-shape}
 use Rattle.visits.proofs.Visiting.{Beside, visits-beside}
 use Rattle.visits.proofs.StoreKeeps.{FormedTo, formed-shape-as}
 use Rattle.visits.proofs.Advancing.{advance-cases}
-use Rattle.merge.specs.Merge.{mergedClasses, mergeClause, mergeFrom, mergeOpen, mergeBy, mergeCall}
+use Rattle.merge.specs.Merge.{mergedClasses, mergeFrom, mergeOpen, mergeBy, mergeCall}
+use Rattle.merge_visits.specs.Clause.{mergeClause}
 use Rattle.merge.proofs.Merged.{classes-formed}
-use Rattle.merge.proofs.Visiting.{merge-shrinks}
-use Rattle.merge.proofs.VisitKeeps.{formed-visits}
+use Rattle.merge_visits.proofs.Visiting.{merge-shrinks}
+use Rattle.merge_visits.proofs.VisitKeeps.{formed-visits}
 use Rattle.merge.proofs.Calling.{open-cases, settled-cases, opens-formed, resumes-resumable}
 
 abbrev pub Shaped : After → Type 0

@@ -35,13 +35,14 @@ use Rattle.visits.proofs.Known.{known-row}
 use Rattle.visits.proofs.Visiting.{visit-beside}
 use Rattle.visits.proofs.StoreKeeps.{FormedTo, formed-cases}
 use Rattle.visits.proofs.Advancing.{advance-cases}
-use Rattle.merge.specs.Merge.{mergedClasses, mergeClause, mergeFrom, mergeOpen, mergeBy, mergeCall}
-use Rattle.merge.specs.Visits.{substituted}
+use Rattle.merge.specs.Merge.{mergedClasses, mergeFrom, mergeOpen, mergeBy, mergeCall}
+use Rattle.merge_visits.specs.Clause.{mergeClause}
+use Rattle.merge_visits.specs.Visits.{substituted}
 use Rattle.merge.proofs.Merged.{classes-formed}
 use Rattle.merge.proofs.Equal.{opening-keeps, opening-adds-none, clash-stands}
-use Rattle.merge.proofs.Repeats.{distinct-short}
-use Rattle.merge.proofs.Visiting.{merge-shrinks}
-use Rattle.merge.proofs.VisitKeeps.{formed-visit, mapped}
+use Rattle.merge_visits.proofs.Repeats.{distinct-short}
+use Rattle.merge_visits.proofs.Visiting.{merge-shrinks}
+use Rattle.merge_visits.proofs.VisitKeeps.{formed-visit, mapped}
 use Rattle.merge.proofs.Calling.{open-cases, settled-cases, opens-formed, resumes-resumable}
 use Rattle.merge.proofs.Truth.{Classed, substituted-true, dropped-true}
 

@@ -16,8 +16,8 @@ use Rattle.literal.proofs.Truth.{holds-neg}
 use Rattle.tables.specs.Tables.{classOf}
 use Rattle.tables.specs.Values.{classLiteral}
 use Rattle.visits.proofs.Known.{abs-signed}
-use Rattle.merge.specs.Visits.{substituted}
-use Rattle.merge.proofs.Repeats.{All, distinct-all, all-map}
+use Rattle.merge_visits.specs.Visits.{substituted}
+use Rattle.merge_visits.proofs.Repeats.{All, distinct-all, all-map}
 
 -- ---- repeats
 

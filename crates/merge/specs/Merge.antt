@@ -3,12 +3,11 @@
 -- Assumes nothing: these are definitions.
 use Prim.Native.Nat.{ℕ, zero, suc, _+_, _*_}
 use mathlib.Core.Bool.{Bool, true, false}
-use mathlib.Core.List.{List, [], _∷_, map}
+use mathlib.Core.List.{List, [], _∷_}
 use lib.Dec.{ltb}
 use lib.IntN.{ℤ}
 use Rattle.base.specs.Lists.{anyBelow}
 use Rattle.literal.specs.Literals.{slotOf, litAt}
-use Rattle.literal.specs.Clauses.{distinct, tautology}
 use Rattle.implications.specs.Clauses.{implications}
 use Rattle.scc.specs.Groups.{connected, leastMutual}
 use Rattle.state.specs.States.{marked}
@@ -17,15 +16,14 @@ use Rattle.state.specs.declared.Pass.the-variants.{Merge}
 use Rattle.state.specs.declared.Refusal.the-variants.{Unsettled}
 use Rattle.state.specs.declared.Answer.the-variants.{Done}
 use Rattle.tables.specs.Tables.{Tables, tables}
-use Rattle.tables.specs.Values.{classLiteral}
 use Rattle.tables.specs.Clauses.{slotsFrom, gone}
-use Rattle.tables.specs.Fates.{Fate, left, dropped}
 use Rattle.tables.specs.Passes.{advance, firstUnsettled}
 use Rattle.tables.specs.Calls.{After, answered, refuse}
 use Rattle.entry.specs.Entry.{entryOf}
 use Rattle.entry.specs.declared.PassName.the-variants as own
 use Rattle.entry.specs.declared.Entry.{Entry}
 use Rattle.entry.specs.declared.Entry.the-variants.{No, Opens, Resumes}
+use Rattle.merge_visits.specs.Clause.{mergeClause}
 
 -- ---- the groups
 
@@ -50,14 +48,6 @@ regrouped new (suc m) (class ∷ value ∷ rs) = new class ∷ value ∷ regroup
 
 unfoldable pub mergedClasses : ℕ → ℕ → Tables → Tables
 mergedClasses v n t = tables (t .clauses) (t .literals) (regrouped (representative (edgesOf t n) v) v (t .variables)) (t .times) (t .links)
-
--- ---- one clause
-
-abbrev pub unlessTautology : List ℤ → Fate
-unlessTautology D = elim (tautology D) [ true ↦ dropped | false ↦ left D ]
-
-unfoldable pub mergeClause : List ℤ → List ℤ → Fate
-mergeClause variables C = unlessTautology (distinct (map (classLiteral variables) C))
 
 -- ---- the call
 

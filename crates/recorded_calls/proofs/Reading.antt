@@ -32,8 +32,9 @@ use Rattle.propagate.specs.Propagate.{propagateFrom, propagateBy, propagateCall
 use Rattle.propagate_visits.specs.Visits.{Progress, going, begin, propagateVisits}
 use Rattle.propagate_visits.proofs.Stepping.{Good}
 use Rattle.propagate.proofs.Shaped.{tablesAt, begin-tables, begin-good, replied-tables, visits-stamps}
-use Rattle.merge.specs.Merge.{mergedClasses, mergeClause, mergeOpen, mergeBy, mergeCall}
-use Rattle.merge.proofs.Visiting.{merge-shrinks}
+use Rattle.merge.specs.Merge.{mergedClasses, mergeOpen, mergeBy, mergeCall}
+use Rattle.merge_visits.specs.Clause.{mergeClause}
+use Rattle.merge_visits.proofs.Visiting.{merge-shrinks}
 use Rattle.merge.proofs.Calling.{open-cases, settled-cases}
 use Rattle.failed.specs.Failed.{failedFresh, failedBy, failedCall}
 use Rattle.failed.specs.Failed as failing

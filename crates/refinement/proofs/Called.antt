@@ -22,7 +22,8 @@ use Rattle.propagate.specs.Propagate.{propagateFrom, replied, propagateBy, prop
 use Rattle.propagate_visits.specs.Visits.{Progress, going, settled, contradicted, begin, propagateVisits}
 use Rattle.propagate_visits.proofs.Stepping.{Good}
 use Rattle.propagate.proofs.Shaped.{begin-good}
-use Rattle.merge.specs.Merge.{mergedClasses, mergeClause, mergeFrom, mergeOpen, mergeBy, mergeCall}
+use Rattle.merge.specs.Merge.{mergedClasses, mergeFrom, mergeOpen, mergeBy, mergeCall}
+use Rattle.merge_visits.specs.Clause.{mergeClause}
 use Rattle.merge.proofs.Merged.{classes-formed}
 use Rattle.merge.proofs.Calling.{open-cases, settled-cases, opens-formed, resumes-resumable}
 use Rattle.moves.specs.Core as core

@@ -46,7 +46,7 @@ use Rattle.sound.specs.Formula.{Clause, dropped, standing}
 use Rattle.moves.specs.Core as core
 use Rattle.moves.proofs.Keeps as keeps
 use Rattle.moves.proofs.Traced.{only-left-out}
-use Rattle.merge.proofs.Repeats.{All, distinct-all}
+use Rattle.merge_visits.proofs.Repeats.{All, distinct-all}
 use Rattle.refinement.proofs.Literals.{class-is}
 use Rattle.refinement.proofs.Standing.{stands-clause}
 use Rattle.refinement.proofs.Laid.{nth}

@@ -29,7 +29,8 @@ use Rattle.entry.proofs.Entering.{resumes-entered}
 use Rattle.propagate.specs.Propagate.{propagateFrom, replied, propagateBy, propagateCall}
 use Rattle.propagate_visits.specs.Visits.{Progress, going, settled, contradicted, begin, propagateVisits}
 use Rattle.propagate.proofs.Shaped.{propagate-shaped}
-use Rattle.merge.specs.Merge.{edgesOf, clashes, mergedClasses, mergeClause, mergeFrom, mergeOpen, mergeSettled, mergeBy, mergeCall}
+use Rattle.merge.specs.Merge.{edgesOf, clashes, mergedClasses, mergeFrom, mergeOpen, mergeSettled, mergeBy, mergeCall}
+use Rattle.merge_visits.specs.Clause.{mergeClause}
 use Rattle.merge.proofs.Shaped.{merge-shaped}
 use Rattle.sound.specs.Formula.{Clause, standing}
 use Rattle.moves.specs.Core.{Core, load}

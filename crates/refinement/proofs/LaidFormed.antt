@@ -16,7 +16,7 @@ use Rattle.tables.specs.Tables as T
 use Rattle.shape.specs.Shape.{Parts, Literals, Variable}
 use Rattle.visits.specs.Formed.{Formed, FitClause}
 use Rattle.visits.proofs.Fitting.{fit-none}
-use Rattle.merge.proofs.Repeats.{All, Own, distinct-short, distinct-none, distinct-all, distinct-once, once-fits}
+use Rattle.merge_visits.proofs.Repeats.{All, Own, distinct-short, distinct-none, distinct-all, distinct-once, once-fits}
 use Rattle.write.specs.Writable.{InClause, InClauses, total}
 use Rattle.roundtrip.proofs.Plain.{distinct-plain}
 use Rattle.load.specs.Load.{keptOf, clauseRecords, literalPlaces, variableRecords, filled, anyEmpty, laid}

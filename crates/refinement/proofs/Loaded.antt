@@ -31,7 +31,7 @@ use Rattle.roundtrip.proofs.Accepted.{text-within}
 use Rattle.roundtrip.proofs.Reread.{text-loads}
 use Rattle.load.specs.Load.{keptOf, literalPlaces, anyEmpty, laid, loadCall}
 use Rattle.merge.proofs.Truth.{some-distinct, tautology-true}
-use Rattle.merge.proofs.Repeats.{All, distinct-all}
+use Rattle.merge_visits.proofs.Repeats.{All, distinct-all}
 use Rattle.sound.specs.Formula.{Clause, dropped, standing, Sat, Models}
 use Rattle.moves.specs.Core.{load, markedCore}
 use Rattle.moves.specs.Moves.{spent, conflict, change, stay, go}

@@ -26,7 +26,7 @@ use Rattle.visits.proofs.Fitting.{fit-member}
 use Rattle.sound.specs.Formula.{Clause, dropped, standing}
 use Rattle.moves.specs.Core as core
 use Rattle.moves.specs.Moves as moves
-use Rattle.merge.proofs.Repeats.{distinct-short}
+use Rattle.merge_visits.proofs.Repeats.{distinct-short}
 use Rattle.literal.proofs.Distinct.{has-distinct}
 use Rattle.refinement.specs.Represented.{Represented}
 use Rattle.refinement.proofs.Literals.{class-is, class-lit}

@@ -21,10 +21,11 @@ use Rattle.moves.specs.Moves as moves
 use Rattle.moves.proofs.Groups.{least, least-in, least-out, least-grouped, least-twin, clash-found}
 use Rattle.visits.proofs.Visiting.{visit-beside}
 use Rattle.visits.proofs.StoreKeeps.{FormedTo, formed-cases}
-use Rattle.merge.specs.Merge.{edgesOf, clashes, representative, mergedClasses, mergeClause}
+use Rattle.merge.specs.Merge.{edgesOf, clashes, representative, mergedClasses}
+use Rattle.merge_visits.specs.Clause.{mergeClause}
 use Rattle.merge.proofs.Regrouped.{regrouped-class, regrouped-value}
-use Rattle.merge.proofs.Visiting.{merge-shrinks}
-use Rattle.merge.proofs.VisitKeeps.{formed-visit}
+use Rattle.merge_visits.proofs.Visiting.{merge-shrinks}
+use Rattle.merge_visits.proofs.VisitKeeps.{formed-visit}
 use Rattle.sound.specs.Formula.{graph}
 use Rattle.refinement.specs.Represented.{Represented}
 use Rattle.refinement.proofs.Literals.{class-lit}

@@ -24,7 +24,8 @@ use Rattle.visits.proofs.Placing.{shortened-same}
 use Rattle.visits.proofs.Forming.{part-inside, clause-fits}
 use Rattle.visits.proofs.StoreKeeps.{FormedTo, formed-cases}
 use Rattle.table_graph.proofs.Listing.{formed-listed, slots-in}
-use Rattle.merge.specs.Merge.{edgesOf, clashes, representative, regrouped, mergedClasses, mergeClause}
+use Rattle.merge.specs.Merge.{edgesOf, clashes, representative, regrouped, mergedClasses}
+use Rattle.merge_visits.specs.Clause.{mergeClause}
 use Rattle.merge.proofs.Regrouped.{class-at, regrouped-as}
 use Rattle.merge.proofs.Opening.{clashes-some}
 use Rattle.merge.proofs.Merged.{edges-skew, edges-least}

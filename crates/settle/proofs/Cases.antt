@@ -17,7 +17,8 @@ use Rattle.tables.specs.Fates.{shortened, droppedAt, fateAt, visits}
 use Rattle.tables.specs.Passes.{advance}
 use Rattle.propagate.specs.Propagate.{propagateFrom}
 use Rattle.propagate_visits.specs.Visits.{propagateClause, propagateVisit, propagateVisits}
-use Rattle.merge.specs.Merge.{clashes, representative, regrouped, mergedClasses, mergeClause, mergeOpen}
+use Rattle.merge.specs.Merge.{clashes, representative, regrouped, mergedClasses, mergeOpen}
+use Rattle.merge_visits.specs.Clause.{mergeClause}
 use Rattle.settle.specs.Settle.{Standing, settleFor, settle}
 use Rattle.settle.specs.Steps.{standingIn}
 use Rattle.settle.specs.Own.{owns}

@@ -13,10 +13,11 @@ use Rattle.tables.specs.Passes.{firstUnsettled}
 use Rattle.visits.proofs.Visiting.{visits-beside}
 use Rattle.visits.proofs.StoreKeeps.{FormedTo}
 use Rattle.visits.proofs.Advancing.{advance-whole}
-use Rattle.merge.specs.Merge.{edgesOf, clashes, representative, regrouped, mergedClasses, mergeClause}
+use Rattle.merge.specs.Merge.{edgesOf, clashes, representative, regrouped, mergedClasses}
+use Rattle.merge_visits.specs.Clause.{mergeClause}
 use Rattle.merge.proofs.Merged.{classes-formed}
-use Rattle.merge.proofs.Visiting.{merge-shrinks}
-use Rattle.merge.proofs.VisitKeeps.{formed-visits}
+use Rattle.merge_visits.proofs.Visiting.{merge-shrinks}
+use Rattle.merge_visits.proofs.VisitKeeps.{formed-visits}
 use Rattle.merge.proofs.Calling.{open-clash, open-none}
 use Rattle.settle.specs.Settle.{between, merged}
 use Rattle.settle.specs.Steps.{standingIn}

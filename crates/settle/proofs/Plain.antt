@@ -14,7 +14,7 @@ use Rattle.tables.specs.Values.{classLiteral}
 use Rattle.tables.specs.Fates.{Fate, left, dropped}
 use Rattle.visits.specs.Formed.{FitClause}
 use Rattle.visits.proofs.Fitting.{fit-head, fit-tail}
-use Rattle.merge.specs.Merge.{mergeClause}
+use Rattle.merge_visits.specs.Clause.{mergeClause}
 use Rattle.propagate.proofs.Unvalued.{own-literal}
 
 -- ---- literals of other variables

@@ -1,11 +1,11 @@
--- `merge::visit_part` meets its contract. Assumes nothing.
+-- `merge_visits::visit_part` meets its contract. Assumes nothing.
 use native.Mathlib.Omega.{arith}
 use mathlib.Core.Path.{sym, _∙_}
 use lib.Seq.{length-take-le}
-use Rattle.merge.proofs.Parting.{Reduced, part-front, part-count, part-small, part-dropped, part-left}
+use Rattle.merge_visits.proofs.Parting.{Reduced, part-front, part-count, part-small, part-dropped, part-left}
 use borrow.Author.Needs.{needs}
-use Rattle.merge.proofs.visit_part.Statement.{statement}
-use Rattle.merge.proofs.visit_part.Tie as tie
+use Rattle.merge_visits.proofs.visit_part.Statement.{statement}
+use Rattle.merge_visits.proofs.visit_part.Tie as tie
 
 -- what is left of the part when repeats are out
 reduced : (c : tie.After-remove-repeats) → Reduced (c .before .before .before .before .before .args .variables .now) (c .before .before .before .before .before .args .part .now) (c .remove-repeats .last .0) (c .remove-repeats .result)

@@ -1,13 +1,13 @@
--- `merge::visit_clause` meets its contract. Assumes nothing.
+-- `merge_visits::visit_clause` meets its contract. Assumes nothing.
 use native.Mathlib.Omega.{arith}
 use mathlib.Core.Path.{sym, _∙_}
 use Rattle.tables.specs.Tables.{tables}
 use Rattle.visits.proofs.Composing.{visit-none, shrinks-variables, Bounds, visit-is, visitable-placed, visitable-inside, lent-inside, lent-short, lent-known}
-use Rattle.merge.specs.Merge.{mergeClause}
-use Rattle.merge.proofs.Visiting.{merge-shrinks}
+use Rattle.merge_visits.specs.Clause.{mergeClause}
+use Rattle.merge_visits.proofs.Visiting.{merge-shrinks}
 use borrow.Author.Needs.{needs}
-use Rattle.merge.proofs.visit_clause.Statement.{statement}
-use Rattle.merge.proofs.visit_clause.Tie as tie
+use Rattle.merge_visits.proofs.visit_clause.Statement.{statement}
+use Rattle.merge_visits.proofs.visit_clause.Tie as tie
 
 -- the clause's part, as it is lent
 bounds : (c : tie.After-part-end) → Bounds (c .before .before .before .before .before .before .before .before .args .k) (c .before .before .before .before .before .before .before .before .args .clauses .now) (c .before .before .part-start .result) (c .part-end .result)

@@ -11,9 +11,9 @@ use Rattle.tables.specs.Fates.{visit, visits}
 use Rattle.visits.specs.Visited.{Visitable}
 use Rattle.visits.proofs.StoreKeeps.{FormedTo}
 use Rattle.visits.proofs.Visiting.{visits-next, visits-none}
-use Rattle.merge.specs.Merge.{mergeClause}
-use Rattle.merge.specs.Visits.{Mergeable}
-use Rattle.merge.proofs.VisitKeeps.{formed-visit}
+use Rattle.merge_visits.specs.Clause.{mergeClause}
+use Rattle.merge_visits.specs.Visits.{Mergeable}
+use Rattle.merge_visits.proofs.VisitKeeps.{formed-visit}
 
 pub record Passing (k end i : ℕ) (w : List ℤ) (c₀ : List ℕ) (l₀ : List ℤ) (c : List ℕ) (l : List ℤ) : Type 0 where
   pub mergeable : Mergeable i end c l w

@@ -1,4 +1,4 @@
--- `merge::remove_repeats` meets its contract. Assumes nothing.
+-- `merge_visits::remove_repeats` meets its contract. Assumes nothing.
 use Prim.Native.Nat.{_-_}
 use native.Mathlib.Omega.{arith}
 use mathlib.Core.Path.{sym, _∙_}
@@ -7,10 +7,10 @@ use lib.Seq.{length-take-le}
 use borrow.Author.Tests.{not-true, not-false}
 use Rattle.literal.proofs.Signed.{read}
 use Rattle.literal.proofs.Compact.{Compact, start}
-use Rattle.merge.proofs.Scanning.{unseen, sifting-stays, sifting-goes, sifting-done}
+use Rattle.merge_visits.proofs.Scanning.{unseen, sifting-stays, sifting-goes, sifting-done}
 use borrow.Author.Needs.{needs}
-use Rattle.merge.proofs.remove_repeats.Statement.{statement}
-use Rattle.merge.proofs.remove_repeats.Tie as tie
+use Rattle.merge_visits.proofs.remove_repeats.Statement.{statement}
+use Rattle.merge_visits.proofs.remove_repeats.Tie as tie
 
 abbrev Inv-loop : tie.InvT-loop
 Inv-loop part₀ n₀ i₀ part n i = Compact unseen part₀ part n i

@@ -5,8 +5,8 @@ use lib.IntN.{ℤ}
 use Rattle.literal.specs.Clauses.{tautology}
 use Rattle.tables.specs.Fates.{left, dropped}
 use Rattle.visits.proofs.Visiting.{Shrinks, leaves, drops}
-use Rattle.merge.specs.Merge.{mergeClause}
-use Rattle.merge.specs.Visits.{substituted}
+use Rattle.merge_visits.specs.Clause.{mergeClause}
+use Rattle.merge_visits.specs.Visits.{substituted}
 
 -- Merge shortens a clause or drops it
 pub merge-shrinks : (w C : List ℤ) → Shrinks (mergeClause w C)

@@ -16,9 +16,9 @@ use Rattle.visits.specs.Holding.{holding}
 use Rattle.visits.proofs.Known.{known-small, known-class}
 use Rattle.visits.specs.Visited.{Part, partOf, partAfter}
 use Rattle.visits.specs.declared.Visited.the-variants.{Left, Dropped}
-use Rattle.merge.specs.Merge.{mergeClause}
-use Rattle.merge.specs.Visits.{substituted}
-use Rattle.merge.proofs.Repeats.{distinct-short, distinct-all, all-at, all-map}
+use Rattle.merge_visits.specs.Clause.{mergeClause}
+use Rattle.merge_visits.specs.Visits.{substituted}
+use Rattle.merge_visits.proofs.Repeats.{distinct-short, distinct-all, all-at, all-map}
 
 -- class literals are small
 small-substituted : (w p : List ℤ) → EachKnown w p → EachSmall (substituted w p)

@@ -1,4 +1,4 @@
--- `merge::has_both` meets its contract: the rest has a variable with both signs exactly if the whole has. Assumes nothing.
+-- `merge_visits::has_both` meets its contract: the rest has a variable with both signs exactly if the whole has. Assumes nothing.
 use Prim.Native.Nat.{_+_, _-_, _≤_}
 use native.Mathlib.Omega.{arith}
 use mathlib.Core.Path.{_≡_, refl, sym, ap, _∙_}
@@ -11,9 +11,9 @@ use Rattle.literal.specs.Clauses.{has, tautology}
 use mir.Syntax.{w32}
 use mir.Val.{toZ, ofZ}
 use Rattle.literal.proofs.Signed.{read}
-use Rattle.merge.proofs.Scanning.{both-hit, both-miss, both-none}
-use Rattle.merge.proofs.has_both.Statement.{statement}
-use Rattle.merge.proofs.has_both.Tie as tie
+use Rattle.merge_visits.proofs.Scanning.{both-hit, both-miss, both-none}
+use Rattle.merge_visits.proofs.has_both.Statement.{statement}
+use Rattle.merge_visits.proofs.has_both.Tie as tie
 
 abbrev Inv-loop : tie.InvT-loop
 Inv-loop part i₀ i = (i ≤ length part) × (tautology (drop i part) ≡ tautology part)

@@ -1,4 +1,4 @@
--- `merge::substitute` meets its contract. Assumes nothing.
+-- `merge_visits::substitute` meets its contract. Assumes nothing.
 use Prim.Native.Nat.{_-_}
 use native.Mathlib.Omega.{arith}
 use mathlib.Core.Path.{_∙_}
@@ -7,9 +7,9 @@ use mir.Facts.{toZ-ofZ}
 use borrow.Author.Needs.{sfits-of, needs}
 use Rattle.literal.proofs.Signed.{read}
 use Rattle.visits.proofs.Ahead.{ahead-known}
-use Rattle.merge.proofs.Scanning.{Putting, putting-none, putting-next, putting-done}
-use Rattle.merge.proofs.substitute.Statement.{statement}
-use Rattle.merge.proofs.substitute.Tie as tie
+use Rattle.merge_visits.proofs.Scanning.{Putting, putting-none, putting-next, putting-done}
+use Rattle.merge_visits.proofs.substitute.Statement.{statement}
+use Rattle.merge_visits.proofs.substitute.Tie as tie
 
 abbrev Inv-loop : tie.InvT-loop
 Inv-loop part₀ variables i₀ part i = Putting variables part₀ part i

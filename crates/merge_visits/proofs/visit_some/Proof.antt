@@ -1,13 +1,13 @@
--- `merge::visit_some` meets its contract. Assumes nothing.
+-- `merge_visits::visit_some` meets its contract. Assumes nothing.
 use Prim.Native.Nat.{_-_}
 use native.Mathlib.Omega.{arith}
 use Rattle.tables.specs.Tables.{tables}
 use Rattle.visits.proofs.Composing.{visit-tables}
-use Rattle.merge.specs.Merge.{mergeClause}
-use Rattle.merge.proofs.Passing.{Passing, passing-none, passing-one, passing-next, passing-done}
+use Rattle.merge_visits.specs.Clause.{mergeClause}
+use Rattle.merge_visits.proofs.Passing.{Passing, passing-none, passing-one, passing-next, passing-done}
 use borrow.Author.Needs.{needs}
-use Rattle.merge.proofs.visit_some.Statement.{statement}
-use Rattle.merge.proofs.visit_some.Tie as tie
+use Rattle.merge_visits.proofs.visit_some.Statement.{statement}
+use Rattle.merge_visits.proofs.visit_some.Tie as tie
 
 abbrev Inv-loop : tie.InvT-loop
 Inv-loop clauses₀ literals₀ variables k end i₀ clauses literals i = Passing i₀ end i variables clauses₀ literals₀ clauses literals

@@ -20,10 +20,10 @@ use Rattle.visits.proofs.Forming.{clause-fits, part-length}
 use Rattle.visits.proofs.StoreKeeps.{FormedTo, formed-shortened, formed-dropped, formed-cases}
 use Rattle.visits.proofs.Visiting.{visit-beside}
 use Rattle.visits.proofs.Known.{class-ranged, class-own}
-use Rattle.merge.specs.Merge.{mergeClause}
-use Rattle.merge.specs.Visits.{substituted}
-use Rattle.merge.proofs.Repeats.{Own, distinct-short, distinct-none, distinct-all, distinct-once, all-map, once-fits}
-use Rattle.merge.proofs.Visiting.{merge-shrinks}
+use Rattle.merge_visits.specs.Clause.{mergeClause}
+use Rattle.merge_visits.specs.Visits.{substituted}
+use Rattle.merge_visits.proofs.Repeats.{Own, distinct-short, distinct-none, distinct-all, distinct-once, all-map, once-fits}
+use Rattle.merge_visits.proofs.Visiting.{merge-shrinks}
 
 module _ (v n k : ℕ) (t : Tables) (F : FormedTo v n k t) (lt : k < n) where
   -- a clause other than k that is to be settled after the visit was settled before it
