@@ -23,7 +23,7 @@ pub fn in_range(l: i32, v: u32) -> bool
     l as u32 <= v
 }
 
-// The complement. A literal in range is not the smallest i32: `in_range` has said so, or the shape rule does.
+// The complement. It is asked of literals of a text that was judged to fit, and of a part under the shape rule: neither has the smallest i32.
 pub fn complement(l: i32) -> i32
     requires { ⌜ Small l ⌝ }
     ensures { λ r. ⌜ r ≡ negℤ l ⌝ }
@@ -31,7 +31,7 @@ pub fn complement(l: i32) -> i32
     -l
 }
 
-// The variable, for the same reason.
+// The variable of a literal, which is not the smallest i32, as the shape rule or the caller's own test has it.
 pub fn var_of(l: i32) -> usize
     requires { ⌜ Small l ⌝ }
     ensures { λ r. ⌜ r ≡ natAbs l ⌝ }

@@ -4,7 +4,7 @@ ghost use Prim.Native.Nat.{_≤_};
 ghost use lib.ListN.{take, replicate};
 ghost use Rattle.simplify.specs.Texts.{unhideText};
 
-// Makes the bytes that are printed in `out`, which is empty; how many they are. One round; an input of more than 65,535 bytes is refused unread.
+// Makes the bytes that are printed in `out`, which is 65,536 zeros, as the program makes it; how many they are. One round; an input of more than 65,535 bytes is refused unread.
 pub fn print_into(input: &[u8], out: &mut [u8]) -> usize
     requires { ⌜ now out ≡ replicate 65536 0 ⌝ }
     ensures { λ r. ⌜ (r ≤ 65536) × (take r (now (out .exit)) ≡ unhideText (now (input .entry))) ⌝ }
