@@ -4,9 +4,9 @@ ghost use mathlib.Core.Path.{_≡_};
 ghost use mathlib.Core.Bool.{true, false, _&&_};
 ghost use Prim.Native.Nat.{_+_, _*_, _-_, _<_, _≤_, min};
 ghost use lib.ListN.{length, drop};
-ghost use lib.Dec.{leb, ltb};
-ghost use Rattle.dimacs.specs.Words.{isSep, isWordByte, isDigit, span, wordsAt};
-ghost use Rattle.dimacs.specs.Tokens.{decimal, numeral, meaning, tokenBy, tokenOf};
+ghost use lib.Dec.{leb, ltb, eqb};
+ghost use Rattle.dimacs.specs.Words.{isSep, isWordByte, isLineByte, isDigit, span, front, wordsAt};
+ghost use Rattle.dimacs.specs.Tokens.{decimal, unsigned, tokenBy, tokenOf};
 ghost use Rattle.dimacs.specs.Header.{comments, expect, number, lineEnd, headerRest, header};
 ghost use Rattle.dimacs.specs.Text.{judge, judgeEnd, judgeText, budget};
 use state::Refusal;
@@ -81,12 +81,46 @@ fn separators_end(text: &[u8], at: usize) -> usize
     i
 }
 
-fn word_end(text: &[u8], at: usize) -> usize
-    ensures { λ r. ⌜ r ≡ at + span isWordByte (drop at (now (text .entry))) ⌝ }
+// Whether an LF is among the bytes. The loop has no early exit, so that the compiler compares many bytes at once.
+fn has_line_feed(block: &[u8]) -> bool
+    ensures { λ r. ⌜ r ≡ ltb (span isLineByte (now (block .entry))) (length (now (block .entry))) ⌝ }
+{
+    let mut found = false;
+    let mut i = 0;
+    while i < block.len() {
+        if block[i] == b'\n' {
+            found = true;
+        }
+        i += 1;
+    }
+    found
+}
+
+// An offset up to which no LF stands: sixteen bytes at a time, as far as that goes.
+fn blocks_end(text: &[u8], at: usize) -> usize
+    requires { ⌜ at ≤ length (now text) ⌝ }
+    ensures { λ r. ⌜ (r ≤ length (now (text .entry))) × (r + span isLineByte (drop r (now (text .entry))) ≡ at + span isLineByte (drop at (now (text .entry)))) ⌝ }
 {
     let mut i = at;
+    loop {
+        if text.len() - i < 16 {
+            return i;
+        }
+        if has_line_feed(&text[i..i + 16]) {
+            return i;
+        }
+        i += 16;
+    }
+}
+
+// Where the line's LF is, or the text's end.
+fn line_feed_at(text: &[u8], at: usize) -> usize
+    requires { ⌜ at ≤ length (now text) ⌝ }
+    ensures { λ r. ⌜ r ≡ at + span isLineByte (drop at (now (text .entry))) ⌝ }
+{
+    let mut i = blocks_end(text, at);
     while i < text.len() {
-        if is_separator(text[i]) {
+        if text[i] == b'\n' {
             return i;
         }
         i += 1;
@@ -94,17 +128,14 @@ fn word_end(text: &[u8], at: usize) -> usize
     i
 }
 
-fn digits_end(text: &[u8], at: usize) -> usize
-    ensures { λ r. ⌜ r ≡ at + span isDigit (drop at (now (text .entry))) ⌝ }
+// Whether a word that reaches up to `at` ends there.
+fn ends_word(text: &[u8], at: usize) -> bool
+    ensures { λ r. ⌜ r ≡ eqb (span isWordByte (drop at (now (text .entry)))) 0 ⌝ }
 {
-    let mut i = at;
-    while i < text.len() {
-        if !is_digit(text[i]) {
-            return i;
-        }
-        i += 1;
+    if text.len() <= at {
+        return true;
     }
-    i
+    is_separator(text[at])
 }
 
 // ---- numbers
@@ -119,56 +150,61 @@ fn with_digit(n: u32, b: u8) -> u32
     if m < 65535 { m } else { 65535 }
 }
 
-// The decimal value of some digits, or 65,535 if it is larger.
-fn decimal_value(part: &[u8]) -> u32
-    ensures { λ r. ⌜ r ≡ min (decimal (now (part .entry))) 65535 ⌝ }
+// Some digits from an offset on: their value, or 65,535 if it is larger, and the offset after them.
+struct Digits {
+    value: u32,
+    next: usize,
+}
+
+fn digits_at(text: &[u8], at: usize) -> Digits
+    ensures { λ r. ⌜ (r .value ≡ min (decimal (front isDigit (drop at (now (text .entry))))) 65535) × (r .next ≡ at + span isDigit (drop at (now (text .entry)))) ⌝ }
 {
+    let mut i = at;
     let mut n: u32 = 0;
-    let mut i = 0;
-    while i < part.len() {
-        n = with_digit(n, part[i]);
+    while i < text.len() {
+        let b = text[i];
+        if !is_digit(b) {
+            return Digits { value: n, next: i };
+        }
+        n = with_digit(n, b);
         i += 1;
     }
-    n
+    Digits { value: n, next: i }
 }
 
 // ---- tokens
 
-fn numeral_token(part: &[u8], negative: bool, start: usize, next: usize) -> Token
-    ensures { λ r. ⌜ r ≡ tokenBy (numeral negative (now (part .entry))) start next ⌝ }
+// The token whose digits begin at `at`, which is `start` or, after a minus sign, the byte behind it.
+fn numeral_at(text: &[u8], at: usize, negative: bool, start: usize) -> Token
+    ensures { λ r. ⌜ r ≡ tokenBy (unsigned negative (front isWordByte (drop at (now (text .entry))))) start (at + span isWordByte (drop at (now (text .entry)))) ⌝ }
 {
-    if part.len() == 0 {
+    if text.len() <= at {
         return Token::Bad(start);
     }
-    if part[0] == b'0' {
+    let d = digits_at(text, at);
+    let next = d.next;
+    if next == at {
         return Token::Bad(start);
     }
-    if digits_end(part, 0) != part.len() {
+    if !ends_word(text, next) {
         return Token::Bad(start);
     }
-    Token::Literal {
-        negative,
-        magnitude: decimal_value(part),
-        start,
-        next,
+    if text[at] != b'0' {
+        return Token::Literal {
+            negative,
+            magnitude: d.value,
+            start,
+            next,
+        };
     }
-}
-
-fn word_token(part: &[u8], start: usize, next: usize) -> Token
-    ensures { λ r. ⌜ r ≡ tokenBy (meaning (now (part .entry))) start next ⌝ }
-{
-    if part.len() == 0 {
+    if negative {
         return Token::Bad(start);
     }
-    if part[0] == b'-' {
-        return numeral_token(&part[1..], true, start, next);
+    if next == at + 1 {
+        Token::Zero { start, next }
+    } else {
+        Token::Bad(start)
     }
-    if part[0] == b'0' {
-        if part.len() == 1 {
-            return Token::Zero { start, next };
-        }
-    }
-    numeral_token(part, false, start, next)
 }
 
 // The first token from `at` on.
@@ -179,8 +215,9 @@ fn token_at(text: &[u8], at: usize) -> Token
     if text.len() <= start {
         return Token::End;
     }
-    let next = word_end(text, start);
-    word_token(&text[start..next], start, next)
+    let negative = text[start] == b'-';
+    let first = if negative { start + 1 } else { start };
+    numeral_at(text, first, negative, start)
 }
 
 // ---- the reader
@@ -219,24 +256,15 @@ fn comments_end(text: &[u8]) -> Piece
     ensures { λ r. ⌜ r ≡ comments false (now (text .entry)) 0 ⌝ }
 {
     let mut at = 0;
-    let mut inside = false;
     while at < text.len() {
-        let b = text[at];
-        at += 1;
-        if inside {
-            inside = b != b'\n';
-        } else {
-            if b != b'c' {
-                return Piece::Got {
-                    value: 0,
-                    next: at - 1,
-                };
-            }
-            inside = true;
+        if text[at] != b'c' {
+            return Piece::Got { value: 0, next: at };
         }
-    }
-    if inside {
-        return Piece::Wrong(Refusal::Grammar(at));
+        let lf = line_feed_at(text, at);
+        if text.len() <= lf {
+            return Piece::Wrong(Refusal::Grammar(lf));
+        }
+        at = lf + 1;
     }
     Piece::Got { value: 0, next: at }
 }
@@ -278,8 +306,9 @@ fn number_at(text: &[u8], at: usize, limit: u32) -> Piece
     if !is_digit(b) {
         return Piece::Wrong(Refusal::Grammar(at));
     }
-    let next = digits_end(text, at);
-    let value = decimal_value(&text[at..next]);
+    let d = digits_at(text, at);
+    let value = d.value;
+    let next = d.next;
     if limit < value {
         return Piece::Wrong(Refusal::Limit(at));
     }
