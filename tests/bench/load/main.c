@@ -115,6 +115,41 @@ static void long_clauses(void)
         put_clause(100, 10);
 }
 
+/* Sixteen times all variables in some order, MAX_LITERALS literals, with `between` between two orders. They are positive, so that
+   they fit into the text and no clause is a tautology. */
+static void put_orders(const char *between)
+{
+    uint32_t order[MAX_VARIABLES];
+    char word[16];
+    seed = 1;
+    for (uint32_t i = 0; i < MAX_VARIABLES; i++)
+        order[i] = i + 1;
+    for (uint32_t k = 0; k < MAX_LITERALS / MAX_VARIABLES; k++) {
+        put(k ? between : "");
+        for (uint32_t i = MAX_VARIABLES; i > 0; i--) {
+            uint32_t j = draw(i), variable = order[j];
+            order[j] = order[i - 1];
+            order[i - 1] = variable;
+            snprintf(word, sizeof word, "%u ", variable);
+            put(word);
+        }
+    }
+    put("0\n");
+}
+
+static void one_long_clause(void)
+{
+    put("p cnf 1024 1\n");
+    put_orders("");
+}
+
+/* The same literals in the same order, in clauses without repeats. */
+static void no_repeats(void)
+{
+    put("p cnf 1024 16\n");
+    put_orders("0\n");
+}
+
 static void many_comments(void)
 {
     while (used < LENGTH - 2000)
@@ -204,7 +239,8 @@ static double median(double *xs)
     return xs[SAMPLES / 2];
 }
 
-static void measure(const char *kind, void (*make)(void))
+/* Nanoseconds of one load. */
+static double measure(const char *kind, void (*make)(void))
 {
     static double copies[SAMPLES], plains[SAMPLES], loads[SAMPLES], ones[SAMPLES];
     double c, p, l, one;
@@ -233,6 +269,19 @@ static void measure(const char *kind, void (*make)(void))
         printf("  a load takes a millisecond or more\n");
         failed = 1;
     }
+    return l;
+}
+
+/* Whether literals that are repeats cost no more than others, for the same literals in one clause and in clauses without repeats. */
+static void measure_repeats(void)
+{
+    double repeats = measure("one long clause", one_long_clause) / MAX_LITERALS;
+    double none = measure("no repeats", no_repeats) / MAX_LITERALS;
+    printf("a literal of the long clause takes %.2f ns, one without repeats %.2f ns: ratio %.2f\n", repeats, none, repeats / none);
+    if (repeats > 2 * none) {
+        printf("  a literal of the long clause takes more than twice the time\n");
+        failed = 1;
+    }
 }
 
 int main(void)
@@ -243,6 +292,7 @@ int main(void)
     measure("comments", many_comments);
     measure("wide gaps", wide_gaps);
     measure("refused at the last byte", refused_at_the_end);
+    measure_repeats();
     if (!failed)
         printf("load and the plain parser agree on every text and on %d spoilt copies of each\n", SPOILT);
     return failed;
