@@ -60,7 +60,7 @@ unsigned-not : (negative : Bool) (w : List ℕ) → (span isDigit w ≡ length w
 unsigned-not true w n = numeral-not true w n
 unsigned-not false w n = unsigned-plain w (λ e l. n (nought-digits w e l)) ∙ numeral-not false w n
 
-unsigned-is : (negative : Bool) (w : List ℕ) → 0 < length w → (getD w 0 0 ≡ 48 → ⊥) → span isDigit w ≡ length w → unsigned negative w ≡ literal negative (decimal w)
+pub unsigned-is : (negative : Bool) (w : List ℕ) → 0 < length w → (getD w 0 0 ≡ 48 → ⊥) → span isDigit w ≡ length w → unsigned negative w ≡ literal negative (decimal w)
 unsigned-is true w h n e = numeral-is true w h n e
 unsigned-is false w h n e = unsigned-plain w (λ z _. n z) ∙ numeral-is false w h n e
 
@@ -71,7 +71,7 @@ unsigned-bare false [] e = refl
 unsigned-bare negative (d ∷ ds) e = unsigned-not negative (d ∷ ds) (λ q. omega (arith, e, q))
 
 -- ---- digits are no separators
-digit-word : (b : ℕ) → isDigit b ≡ true → isWordByte b ≡ true
+pub digit-word : (b : ℕ) → isDigit b ≡ true → isWordByte b ≡ true
 digit-word b e = go (leb 48 b) refl
   where
     go : (t : Bool) → leb 48 b ≡ t → isWordByte b ≡ true
@@ -156,12 +156,16 @@ module _ (text : List ℕ) (at : ℕ) (negative : Bool) (start : ℕ) where
           let w : List ℕ = front isWordByte (drop at text) in
           rw (b, unsigned-plain w (λ q l. n (omega (arith, size, same))), numeral-nought false w (first ∙ z))
 
--- ---- the word at a text's front, by its first byte
+-- ---- a word by its first byte: a minus sign, or none
+pub meaning-plain : (w : List ℕ) → (getD w 0 0 ≡ 45 → ⊥) → meaning w ≡ unsigned false w
+meaning-plain [] n = refl
+meaning-plain (b ∷ bs) n = rw (ne-eqb b 45 n, meaning)
+
 front-plain : (b : ℕ) (s : List ℕ) → (b ≡ 45 → ⊥) → meaning (front isWordByte (b ∷ s)) ≡ unsigned false (front isWordByte (b ∷ s))
 front-plain b s n = go (isWordByte b) refl
   where
     go : (t : Bool) → isWordByte b ≡ t → meaning (front isWordByte (b ∷ s)) ≡ unsigned false (front isWordByte (b ∷ s))
-    go true e = rw (e, span, ne-eqb b 45 n, meaning)
+    go true e = rw (e, span) (meaning-plain (b ∷ front isWordByte s) n)
     go false e = rw (e, span)
 
 module _ (text : List ℕ) (start : ℕ) (h : start < length text) where

@@ -7,19 +7,19 @@ use mathlib.Core.Bool.{Bool, true, false, not, false≢true}
 use mathlib.Core.List.{List, [], _∷_, _++_, append-assoc, append-nil}
 use lib.ListN.{length, take, drop, getD, length-append, List·getD-append}
 use lib.Seq.{take-at, drop-at, drop-drop}
-use lib.Dec.{leb, ltb}
+use lib.Dec.{ltb}
 use lib.IntN.{ℤ, pos, negsuc, natAbs}
-use borrow.Author.Tests.{leb-true, not-true, ne-eqb, le-leb, lt-ltb, ltb-true, ltb-false}
-use Rattle.base.proofs.Booleans.{and-left}
+use borrow.Author.Tests.{not-true, ne-eqb, le-leb, lt-ltb, ltb-true, ltb-false}
 use Rattle.dimacs.specs.Words.{isSep, isWordByte, isDigit, span, Word, word, wordsAt}
-use Rattle.dimacs.specs.Tokens.{literal, decimal, decimalFrom, numeral, meaning}
+use Rattle.dimacs.specs.Tokens.{literal, decimal, decimalFrom, unsigned, meaning}
 use Rattle.dimacs.specs.Header.{number, withinLimit, andThen, header, headerRest}
 use Rattle.dimacs.specs.Text.{budget, judge, judgeText, literalOf, clausesOf, textClauses}
 use Rattle.dimacs.specs.declared.Piece.the-variants.{Got}
 use Rattle.dimacs.specs.declared.Header.the-variants.{Fields}
 use Rattle.dimacs.specs.declared.Verdict.{Verdict}
 use Rattle.dimacs.specs.declared.Verdict.the-variants.{Fits}
-use Rattle.dimacs.proofs.Scan.{words-front, words-sep, numeral-is, meaning-minus, meaning-plain}
+use Rattle.dimacs.proofs.Scan.{words-front, words-sep}
+use Rattle.dimacs.proofs.Numerals.{unsigned-is, meaning-plain, digit-word}
 use Rattle.printing.specs.Printing.{digitsBy, digits, literalText, clauseText, clausesText, textOf}
 use Rattle.write.specs.Writable.{InClause, InClauses, total, Writable}
 
@@ -114,11 +114,6 @@ number-read limit zero b at s h e = refl
 number-read limit (suc n) b at s h e = numeral-read limit (suc n) b at s (digits (suc n)) (omega arith) h e (digits-are (suc n))
 
 -- ---- literals
-digit-word : (b : ℕ) → isDigit b ≡ true → isWordByte b ≡ true
-digit-word b e =
-    let h : 48 ≤ b = leb-true 48 b (and-left (leb 48 b) (leb b 57) e) in
-    rw (ne-eqb b 32 (λ q. omega (arith, q)), ne-eqb b 9 (λ q. omega (arith, q)), ne-eqb b 13 (λ q. omega (arith, q)), ne-eqb b 10 (λ q. omega (arith, q)))
-
 -- a literal's text is a word that means it
 record Spelt (l : ℤ) (w : List ℕ) : Type 0 where
   negative : Bool
@@ -127,8 +122,8 @@ record Spelt (l : ℤ) (w : List ℕ) : Type 0 where
   means : meaning w ≡ literal negative (natAbs l)
   back : literalOf negative (natAbs l) ≡ l
 
-numeral-means : (negative : Bool) (n : ℕ) (ds : List ℕ) → 0 < n → Numeral n ds → numeral negative ds ≡ literal negative n
-numeral-means negative n ds z r = numeral-is negative ds (r .some) (r .lead z) (span-all isDigit ds (r .each)) ∙ ap (literal negative) (r .value)
+numeral-means : (negative : Bool) (n : ℕ) (ds : List ℕ) → 0 < n → Numeral n ds → unsigned negative ds ≡ literal negative n
+numeral-means negative n ds z r = unsigned-is negative ds (r .some) (r .lead z) (span-all isDigit ds (r .each)) ∙ ap (literal negative) (r .value)
 
 -- no digit is `-`
 no-minus : (ds : List ℕ) → 0 < length ds → Each isDigit ds → getD ds 0 0 ≡ 45 → ⊥
@@ -143,7 +138,7 @@ spelt-pos n z =
       negative = false;
       some = r .some;
       each = each-weaker isDigit isWordByte digit-word (digits n) (r .each);
-      means = meaning-plain (digits n) (r .some) (no-minus (digits n) (r .some) (r .each)) (λ e _. r .lead z e) ∙ numeral-means false n (digits n) z r;
+      means = meaning-plain (digits n) (no-minus (digits n) (r .some) (r .each)) ∙ numeral-means false n (digits n) z r;
       back = refl;
     }
 
@@ -155,7 +150,7 @@ spelt-neg n =
       negative = true;
       some = omega arith;
       each = (refl, each-weaker isDigit isWordByte digit-word (digits (suc n)) (r .each));
-      means = meaning-minus (45 ∷ digits (suc n)) (omega arith) refl ∙ numeral-means true (suc n) (digits (suc n)) (omega arith) r;
+      means = numeral-means true (suc n) (digits (suc n)) (omega arith) r;
       back = refl;
     }
 
