@@ -1,4 +1,4 @@
--- The token of a word, by the tests of the code: a sign or none, digits, and whether the word ends behind them. Assumes nothing.
+-- The token of a word, by the tests of the code: a minus sign or none, digits, and whether the word ends behind them. Assumes nothing.
 use mathlib.Core.Path.{_≡_, refl, sym, ap, _∙_}
 use mathlib.Core.Bool.{Bool, true, false, _&&_, false≢true}
 use mathlib.Core.List.{List, [], _∷_}
@@ -17,7 +17,7 @@ use Rattle.dimacs.specs.declared.Token.the-variants.{Zero, Literal, Bad}
 use Rattle.dimacs.proofs.Runs.{span-le}
 use Rattle.dimacs.proofs.Scan.{wordEnd}
 
--- ---- what a word means that has a sign in front of it or none
+-- ---- what a word means behind a minus sign or with none in front of it
 pick : (a b : Bool) → (a ≡ true → b ≡ true → ⊥) → (a && b) ≡ false
 pick true true h = absurd (h refl refl)
 pick true false h = refl

@@ -1,4 +1,4 @@
--- `dimacs::has_line_feed` meets its contract. The invariant: an LF was found if the run of other bytes ends before here. The measure is what is left of the bytes. Assumes nothing.
+-- `dimacs::has_line_feed` meets its contract. The invariant: an LF was found exactly if the run of other bytes from the start ends before here. The measure is what is left of the bytes. Assumes nothing.
 use Rattle.dimacs.proofs.Runs.{span-before, span-not}
 use Rattle.dimacs.specs.Words.{isLineByte, span}
 use lib.ListN.{length}
