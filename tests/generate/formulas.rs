@@ -1,6 +1,7 @@
 //! Random formulas of several kinds, as lists of clauses and as texts.
 
 use crate::random::Random;
+use crate::repeats;
 
 pub struct Draft {
     pub variables: usize,
@@ -11,7 +12,7 @@ pub struct Draft {
 pub fn draft(random: &mut Random, variables: usize) -> Draft {
     let mut clauses = Vec::new();
     if variables > 0 {
-        match random.below(9) {
+        match random.below(10) {
             0 => short_clauses(random, variables, &mut clauses),
             1 | 2 => implications_without_cycles(random, variables, &mut clauses),
             3 => cycles(random, variables, &mut clauses),
@@ -23,6 +24,7 @@ pub fn draft(random: &mut Random, variables: usize) -> Draft {
                 long_clauses(random, variables, &mut clauses);
                 long_clauses(random, variables, &mut clauses);
             }
+            8 => repeats::by_classes(random, variables, &mut clauses),
             _ => {
                 implications_without_cycles(random, variables, &mut clauses);
                 short_clauses(random, variables, &mut clauses);
@@ -46,6 +48,9 @@ pub fn draft(random: &mut Random, variables: usize) -> Draft {
         }
         if random.once_in(2) {
             random.shuffle(&mut clauses);
+        }
+        if random.once_in(6) {
+            repeats::written(random, variables, &mut clauses);
         }
     }
     if random.once_in(25) {

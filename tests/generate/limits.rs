@@ -3,6 +3,7 @@
 
 use crate::formulas::{clause, plain_text, Draft};
 use crate::random::Random;
+use crate::repeats::{add_complement, drawn};
 
 const V: usize = 1_024;
 const N: usize = 4_096;
@@ -12,7 +13,7 @@ pub fn text(random: &mut Random) -> Vec<u8> {
         variables: V,
         clauses: Vec::new(),
     };
-    match random.below(12) {
+    match random.below(13) {
         0 => four_literals_each(random, &mut draft),
         1 => {
             four_literals_each(random, &mut draft);
@@ -37,6 +38,7 @@ pub fn text(random: &mut Random) -> Vec<u8> {
         8 => propagation(random, &mut draft),
         9 => repeated(random, &mut draft),
         10 => widest(random, &mut draft),
+        11 => many_repeats(random, &mut draft),
         _ => two_sided_ring(&mut draft),
     }
     plain_text(&draft)
@@ -104,6 +106,29 @@ fn repeated(random: &mut Random, draft: &mut Draft) {
         long.push(if negative { -variable } else { variable });
     }
     draft.clauses.push(long);
+}
+
+/// A few clauses that are written with together 16,384 literals of few or many
+/// variables, some with both signs; sometimes there is one literal more.
+fn many_repeats(random: &mut Random, draft: &mut Draft) {
+    let mut pool: Vec<i32> = (1..=V as i32).collect();
+    random.shuffle(&mut pool);
+    pool.truncate(random.pick(&[1, 2, 10, 300, V]));
+    let count = random.between(1, 8);
+    let mut rest = 16_384;
+    for left in (1..=count).rev() {
+        let length = rest / left;
+        rest -= length;
+        let mut long = drawn(random, &pool, length);
+        if random.once_in(4) {
+            long.pop();
+            add_complement(random, &mut long);
+        }
+        draft.clauses.push(long);
+    }
+    if random.once_in(4) {
+        draft.clauses[count - 1].push(pool[0]);
+    }
 }
 
 /// 16 clauses of all variables.

@@ -11,6 +11,7 @@ mod limits;
 mod lists;
 mod near;
 mod random;
+mod repeats;
 mod script;
 mod texts;
 

@@ -10,7 +10,7 @@ pub fn cases() -> i32 {
     for case in named::cases() {
         let mut replay = Replay::new();
         replay.take(&case.script());
-        if !told(case.name, replay.output, case.prints) {
+        if !told(case.name, replay.output, &case.prints) {
             status = 1;
         }
     }

@@ -5,6 +5,7 @@
 use crate::calls::{any, fitting, line, Call};
 use crate::compare_calls::{in_two_calls, run_by_passes};
 use crate::compare_figures::figures_agree;
+use crate::compare_repeats::{loaded_agrees, merged_agrees};
 use crate::compare_walks::{groups_agree, is_subsequence, stamps_agree};
 use crate::failed::failed;
 use crate::forest::forest;
@@ -119,6 +120,7 @@ impl<'a> Check<'a> {
             return Err("a good text is refused".to_string());
         }
         self.tables_agree()?;
+        loaded_agrees(&self.formula, &self.loaded)?;
         for _ in 0..random.between(1, 24) {
             let call = if random.once_in(12) {
                 any(random, &self.formula)
@@ -248,6 +250,7 @@ impl<'a> Check<'a> {
             (Call::Merge(steps), Outcome::Steps(answer)) => {
                 self.steps_agree(random, before, merge, *steps, *answer)?;
                 groups_agree(before)?;
+                merged_agrees(before, after, answer.visits as usize)?;
             }
             (Call::Sweep(steps), Outcome::Steps(answer)) => {
                 self.steps_agree(random, before, sweep, *steps, *answer)?;

@@ -30,6 +30,7 @@ mod cases;
 mod check;
 mod compare_calls;
 mod compare_figures;
+mod compare_repeats;
 mod compare_walks;
 mod named;
 mod truth;
@@ -44,6 +45,8 @@ mod formulas;
 mod lists;
 #[path = "../generate/random.rs"]
 mod random;
+#[path = "../generate/repeats.rs"]
+mod repeats;
 
 use std::io::{Read, Write};
 use std::process::exit;

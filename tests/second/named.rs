@@ -1,5 +1,6 @@
-//! Named cases: texts, good and bad, the pallet cases, refusals by call, and
-//! formulas at the limits; each with what a replay of it prints.
+//! Named cases: texts, good and bad, the pallet cases, refusals by call,
+//! repeated literals in loads and in Merge, and formulas at the limits; each
+//! with what a replay of it prints.
 
 /// The bytes of a load, the calls behind it, a line each, and what a replay of
 /// both prints.
@@ -7,7 +8,7 @@ pub struct Case {
     pub name: &'static str,
     pub text: Vec<u8>,
     pub calls: &'static str,
-    pub prints: &'static str,
+    pub prints: String,
 }
 
 impl Case {
@@ -52,13 +53,14 @@ fn short() -> Vec<Case> {
         } else {
             ""
         },
-        prints,
+        prints: prints.to_string(),
     });
-    let passes = CALLS.iter().map(|&(name, text, calls, prints)| Case {
+    let passes = CALLS.iter().chain(REPEATS);
+    let passes = passes.map(|&(name, text, calls, prints)| Case {
         name,
         text: text.as_bytes().to_vec(),
         calls,
-        prints,
+        prints: prints.to_string(),
     });
     texts.chain(passes).collect()
 }
@@ -386,15 +388,180 @@ const CALLS: &[(&str, &str, &str, &str)] = &[
     ),
 ];
 
+/// Repeated literals: a text, the calls behind its load, which look at the
+/// tables, and what all of them print. A clause record is printed as start,
+/// length, and 1 for standing or 0 for dropped.
+const REPEATS: &[(&str, &str, &str, &str)] = &[
+    (
+        "repeat-of-the-first-at-the-end",
+        "p cnf 3 1\n1 2 3 1 0\n",
+        "clauses\nliterals\n",
+        "loaded 3 1 0\n0 3 1\nliterals 1 2 3\n",
+    ),
+    (
+        "repeats-alone",
+        "p cnf 1 3\n1 1 0\n-1 -1 -1 0\n1 1 1 1 0\n",
+        "clauses\nliterals\n",
+        "loaded 1 3 0\n0 1 1\n1 1 1\n2 1 1\nliterals 1 -1 1\n",
+    ),
+    (
+        "repeat-three-times-between-others",
+        "p cnf 5 4\n2 1 2 3 2 4 0\n1 2 3 2 4 2 0\n4 -2 3 -2 1 -2 5 0\n5 4 4 3 5 3 4 2 0\n",
+        "clauses\nliterals\n",
+        "loaded 5 4 0\n0 4 1\n4 4 1\n8 5 1\n13 4 1\nliterals 2 1 3 4 1 2 3 4 4 -2 3 1 5 5 4 3 2\n",
+    ),
+    // a literal of the clause before is no repeat
+    (
+        "same-literals-in-the-next-clause",
+        "p cnf 3 3\n1 2 0\n2 1 3 0\n3 2 1 0\n",
+        "clauses\nliterals\n",
+        "loaded 3 3 0\n0 2 1\n2 3 1\n5 3 1\nliterals 1 2 2 1 3 3 2 1\n",
+    ),
+    (
+        "same-repeats-in-the-next-clause",
+        "p cnf 2 4\n1 1 0\n1 1 2 1 0\n2 1 2 0\n2 2 0\n",
+        "clauses\nliterals\n",
+        "loaded 2 4 0\n0 1 1\n1 2 1\n3 2 1\n5 1 1\nliterals 1 1 2 2 1 2\n",
+    ),
+    (
+        "complements-in-the-next-clause",
+        "p cnf 2 3\n1 -2 1 0\n-1 2 -1 0\n-2 1 -2 0\n",
+        "clauses\nliterals\n",
+        "loaded 2 3 0\n0 2 1\n2 2 1\n4 2 1\nliterals 1 -2 -1 2 -2 1\n",
+    ),
+    (
+        "empty-clause-between",
+        "p cnf 2 3\n1 2 1 0\n0\n1 2 0\n",
+        "state\nclauses\nliterals\nwrite 12\n",
+        "loaded 2 3 1\nstate 2 3 0 0 0 0 1\n0 2 1\n2 0 1\n2 2 1\nliterals 1 2 1 2\nwritten 12\np cnf 2 1\n0\n",
+    ),
+    (
+        "empty-clauses-around",
+        "p cnf 2 6\n0 2 2 0 0 0 2 -1 2 0 0",
+        "state\nclauses\nliterals\n",
+        "loaded 2 6 1\nstate 2 6 0 0 0 0 1\n0 0 1\n0 1 1\n1 0 1\n1 0 1\n1 2 1\n3 0 1\nliterals 2 2 -1\n",
+    ),
+    (
+        "dropped-clause-between",
+        "p cnf 3 3\n1 2 0\n1 -1 2 3 0\n3 1 2 0\n",
+        "state\nclauses\nliterals\n",
+        "loaded 3 3 0\nstate 3 3 0 0 0 0 0\n0 2 1\n2 0 0\n2 3 1\nliterals 1 2 3 1 2\n",
+    ),
+    (
+        "dropped-clause-between-complements",
+        "p cnf 2 3\n1 2 0\n2 1 -1 0\n-1 2 0\n",
+        "clauses\nliterals\n",
+        "loaded 2 3 0\n0 2 1\n2 0 0\n2 2 1\nliterals 1 2 -1 2\n",
+    ),
+    (
+        "dropped-clause-first",
+        "p cnf 3 2\n3 1 -3 2 0\n3 -2 1 3 0\n",
+        "clauses\nliterals\n",
+        "loaded 3 2 0\n0 0 0\n0 3 1\nliterals 3 -2 1\n",
+    ),
+    (
+        "dropped-clauses-then-unit",
+        "p cnf 1 3\n1 -1 1 0\n-1 1 0\n1 0\n",
+        "state\nclauses\nliterals\n",
+        "loaded 1 3 0\nstate 1 3 0 0 0 0 0\n0 0 0\n0 0 0\n0 1 1\nliterals 1\n",
+    ),
+    (
+        "complement-behind-a-repeat",
+        "p cnf 2 5\n2 2 -2 0\n-2 -2 1 2 0\n2 0\n1 2 1 2 1 -1 0\n-2 -2 0\n",
+        "clauses\nliterals\n",
+        "loaded 2 5 0\n0 0 0\n0 0 0\n0 1 1\n1 0 0\n1 1 1\nliterals 2 -2\n",
+    ),
+    (
+        "all-dropped",
+        "p cnf 2 2\n1 1 -1 -1 0\n2 1 2 -2 1 0\n",
+        "state\nclauses\nliterals\nvariables\n",
+        "loaded 2 2 0\nstate 2 2 0 0 0 0 0\n0 0 0\n0 0 0\nliterals\n1 0\n2 0\n",
+    ),
+    // the text is wrong at 20, behind repeats of a clause that has no end
+    (
+        "refused-behind-repeats",
+        "p cnf 2 2\n1 2 0 1 1 x 0\n",
+        "load 18\np cnf 2 1\n1 2 1 0\n\nclauses\nliterals\n",
+        "refused 2 20\nloaded 2 1 0\n0 2 1\nliterals 1 2\n",
+    ),
+    // the second load fills fewer places than the first
+    (
+        "load-over-a-load",
+        "p cnf 3 3\n1 2 3 0\n-3 -2 0\n2 3 0\n",
+        "load 20\np cnf 2 2\n3 0\n1 2 0\n\nliterals\nload 18\np cnf 2 2\n2 2 0\n0\n\nstate\nclauses\nliterals\nvariables\nload 18\np cnf 1 1\n1 1 1 0\n\nstate\nclauses\nliterals\nvariables\n",
+        "loaded 3 3 0\nrefused 3 10\nliterals 1 2 3 -3 -2 2 3\nloaded 2 2 1\nstate 2 2 0 0 0 0 1\n0 1 1\n1 0 1\nliterals 2\n1 0\n2 0\nloaded 1 1 0\nstate 1 1 0 0 0 0 0\n0 1 1\nliterals 1\n1 0\n",
+    ),
+    // 2 becomes 1 in both clauses of three
+    (
+        "merge-repeats-in-two-clauses",
+        "p cnf 4 4\n-1 2 0\n-2 1 0\n1 2 3 0\n2 1 4 0\n",
+        "clauses\nliterals\nmerge 65535\nvariables\nclauses\nliterals\n",
+        "loaded 4 4 0\n0 2 1\n2 2 1\n4 3 1\n7 3 1\nliterals -1 2 -2 1 1 2 3 2 1 4\ndone 4 2 6\n1 0\n1 0\n3 0\n4 0\n0 0 0\n2 0 0\n4 2 1\n7 2 1\nliterals 0 0 0 0 1 3 0 1 4\n",
+    ),
+    (
+        "merge-repeats-in-two-clauses-steps",
+        "p cnf 4 4\n-1 2 0\n-2 1 0\n1 2 3 0\n2 1 4 0\n",
+        "merge 1\nliterals\nmerge 1\nliterals\nmerge 1\nliterals\nstate\nmerge 1\nliterals\nstate\nclauses\n",
+        "loaded 4 4 0\nopen 1 1 2\nliterals 0 0 -2 1 1 2 3 2 1 4\nopen 1 1 2\nliterals 0 0 0 0 1 2 3 2 1 4\nopen 1 0 1\nliterals 0 0 0 0 1 3 0 2 1 4\nstate 4 4 2 3 0 0 0\ndone 1 0 1\nliterals 0 0 0 0 1 3 0 1 4\nstate 4 4 0 0 0 0 0\n0 0 0\n2 0 0\n4 2 1\n7 2 1\n",
+    ),
+    // the clauses of three with 1 and -2 are dropped; those behind them have 3, 1 and -1 again
+    (
+        "merge-tautology-between",
+        "p cnf 4 6\n1 -2 0\n-1 2 0\n3 1 -2 0\n3 2 4 0\n-2 3 1 0\n-1 4 3 0\n",
+        "merge 65535\nvariables\nclauses\nliterals\n",
+        "loaded 4 6 0\ndone 6 4 10\n1 0\n1 0\n3 0\n4 0\n0 0 0\n2 0 0\n4 0 0\n7 3 1\n10 0 0\n13 3 1\nliterals 0 0 0 0 0 0 0 3 1 4 0 0 0 -1 4 3\n",
+    ),
+    (
+        "merge-tautology-between-steps",
+        "p cnf 4 6\n1 -2 0\n-1 2 0\n3 1 -2 0\n3 2 4 0\n-2 3 1 0\n-1 4 3 0\n",
+        "merge 1\nmerge 1\nmerge 1\nliterals\nmerge 1\nliterals\nmerge 1\nliterals\nmerge 1\nclauses\nliterals\n",
+        "loaded 4 6 0\nopen 1 1 2\nopen 1 1 2\nopen 1 1 3\nliterals 0 0 0 0 0 0 0 3 2 4 -2 3 1 -1 4 3\nopen 1 0 0\nliterals 0 0 0 0 0 0 0 3 1 4 -2 3 1 -1 4 3\nopen 1 1 3\nliterals 0 0 0 0 0 0 0 3 1 4 0 0 0 -1 4 3\ndone 1 0 0\n0 0 0\n2 0 0\n4 0 0\n7 3 1\n10 0 0\n13 3 1\nliterals 0 0 0 0 0 0 0 3 1 4 0 0 0 -1 4 3\n",
+    ),
+    // a clause with a repeat and a complement by classes, then its literals again without the complement
+    (
+        "merge-repeat-and-complement",
+        "p cnf 5 7\n1 -2 0\n-1 2 0\n2 -3 0\n-2 3 0\n4 1 2 -3 0\n4 3 5 1 0\n3 5 -1 0\n",
+        "merge 5\nmerge 1\nmerge 1\nclauses\nliterals\n",
+        "loaded 5 7 0\nopen 5 5 12\nopen 1 0 1\ndone 1 1 3\n0 0 0\n2 0 0\n4 0 0\n6 0 0\n8 0 0\n12 3 1\n16 0 0\nliterals 0 0 0 0 0 0 0 0 0 0 0 0 4 1 5\n",
+    ),
+    // 2 becomes 1 and 3 becomes -1; 1 comes from 2, 1 and -3, with others between
+    (
+        "merge-repeats-apart",
+        "p cnf 5 7\n-1 2 0\n-2 1 0\n-2 -3 0\n3 2 0\n2 4 1 5 -3 0\n-4 3 5 -2 0\n5 2 -4 1 0\n",
+        "merge 65535\nvariables\nclauses\nliterals\n",
+        "loaded 5 7 0\ndone 7 4 12\n1 0\n1 0\n-1 0\n4 0\n5 0\n0 0 0\n2 0 0\n4 0 0\n6 0 0\n8 3 1\n13 3 1\n17 3 1\nliterals 0 0 0 0 0 0 0 0 1 4 5 0 0 -4 -1 5 0 5 1 -4\n",
+    ),
+    (
+        "merge-repeats-apart-steps",
+        "p cnf 5 7\n-1 2 0\n-2 1 0\n-2 -3 0\n3 2 0\n2 4 1 5 -3 0\n-4 3 5 -2 0\n5 2 -4 1 0\n",
+        "merge 0\nmerge 1\nmerge 1\nmerge 1\nmerge 1\nliterals\nmerge 1\nliterals\nmerge 1\nliterals\nmerge 1\nclauses\nliterals\n",
+        "loaded 5 7 0\nopen 0 0 0\nopen 1 1 2\nopen 1 1 2\nopen 1 1 2\nopen 1 1 2\nliterals 0 0 0 0 0 0 0 0 2 4 1 5 -3 -4 3 5 -2 5 2 -4 1\nopen 1 0 2\nliterals 0 0 0 0 0 0 0 0 1 4 5 0 0 -4 3 5 -2 5 2 -4 1\nopen 1 0 1\nliterals 0 0 0 0 0 0 0 0 1 4 5 0 0 -4 -1 5 0 5 2 -4 1\ndone 1 0 1\n0 0 0\n2 0 0\n4 0 0\n6 0 0\n8 3 1\n13 3 1\n17 3 1\nliterals 0 0 0 0 0 0 0 0 1 4 5 0 0 -4 -1 5 0 5 1 -4\n",
+    ),
+    // of the third clause one literal is left, and the next has it again
+    (
+        "merge-leaves-a-unit",
+        "p cnf 3 4\n-1 2 0\n1 -2 0\n1 2 0\n2 1 3 0\n",
+        "merge 65535\nvariables\nclauses\nliterals\n",
+        "loaded 3 4 0\ndone 4 2 6\n1 0\n1 0\n3 0\n0 0 0\n2 0 0\n4 1 1\n6 2 1\nliterals 0 0 0 0 1 0 1 3\n",
+    ),
+    // 3 becomes 2, which leaves the pairs by which 2 becomes 1
+    (
+        "merge-repeats-twice",
+        "p cnf 4 5\n-2 3 0\n-3 2 0\n1 -2 -3 0\n-1 3 2 0\n3 1 4 2 0\n",
+        "merge 65535\nvariables\nclauses\nliterals\nmerge 65535\nvariables\nclauses\nliterals\n",
+        "loaded 4 5 0\ndone 5 2 7\n1 0\n2 0\n2 0\n4 0\n0 0 0\n2 0 0\n4 2 1\n7 2 1\n10 3 1\nliterals 0 0 0 0 1 -2 0 -1 2 0 2 1 4\ndone 5 2 5\n1 0\n1 0\n1 0\n4 0\n0 0 0\n2 0 0\n4 0 0\n7 0 0\n10 2 1\nliterals 0 0 0 0 0 0 0 0 0 0 1 4\n",
+    ),
+];
+
 /// Cases at the limits and on all 1,024 variables. A text that Write gives is
 /// looked at by its length alone, which the refusal of an output of 0 bytes tells.
 fn large() -> Vec<Case> {
     let passes = "merge 65535\npropagate 65535\nwrite 0\n";
-    let case = |name, text, calls, prints| Case {
+    let case = |name, text, calls, prints: &str| Case {
         name,
         text,
         calls,
-        prints,
+        prints: prints.to_string(),
     };
     vec![
         case(
@@ -403,13 +570,36 @@ fn large() -> Vec<Case> {
             "write 256\n",
             "loaded 1024 0 0\nwritten 13\np cnf 1024 0\n",
         ),
-        // literal k, from 1, stands at 8 + 2 k, the `0` two bytes behind the last
+        // the literals with the first and the last stamp records, and their neighbours
         case(
-            "literal-16384",
-            repeated("p cnf 1 1\n", "1 ", 16_384, "0"),
-            "write 256\n",
-            "loaded 1 1 0\nwritten 14\np cnf 1 1\n1 0\n",
+            "first-and-last-variable",
+            b"p cnf 1024 7\n1 1024 1 0\n-1 -1024 -1024 0\n-1024 1 0\n1024 -1 1024 0\n1024 1 -1024 0\n-1023 1024 2 -1 2 0\n-1024 1 -1 0\n".to_vec(),
+            "clauses\nliterals\n",
+            "loaded 1024 7 0\n0 2 1\n2 2 1\n4 2 1\n6 2 1\n8 0 0\n8 4 1\n12 0 0\nliterals 1 1024 -1 -1024 -1024 1 1024 -1 -1023 1024 2 -1\n",
         ),
+        // 16,384 literals in one clause; Write gives a header of 13 bytes, 4,013 bytes of literals, `0` and LF
+        case(
+            "all-variables-16-times",
+            repeated("p cnf 1024 1\n", &rising(), 16, "0"),
+            "clauses\nliterals\nwrite 0\n",
+            &format!(
+                "loaded 1024 1 0\n0 1024 1\nliterals {}\nrefused 10 4028\n",
+                rising().trim_end()
+            ),
+        ),
+        // 16,384 literals in two clauses
+        case(
+            "8192-literals-twice",
+            repeated(
+                &format!("p cnf 2 2\n{}0\n", "1 ".repeat(8_192)),
+                "2 1 ",
+                4_096,
+                "0",
+            ),
+            "clauses\nliterals\nwrite 256\n",
+            "loaded 2 2 0\n0 1 1\n1 2 1\nliterals 1 2 1\nwritten 20\np cnf 2 2\n1 0\n2 1 0\n",
+        ),
+        // literal k, from 1, stands at 8 + 2 k
         case(
             "literal-16385",
             repeated("p cnf 1 1\n", "1 ", 16_385, "0"),
@@ -469,6 +659,11 @@ fn large() -> Vec<Case> {
 
 fn repeated(header: &str, token: &str, count: usize, end: &str) -> Vec<u8> {
     format!("{header}{}{end}", token.repeat(count)).into_bytes()
+}
+
+/// 1 to 1024, a space behind each.
+fn rising() -> String {
+    (1..=1_024).map(|v| format!("{v} ")).collect()
 }
 
 /// The 1,023 pairs by which each of 1,024 variables implies the next, and more
