@@ -53,6 +53,14 @@ or-right a b h = or-neither a b h .1
 pub neither-or : (a b : Bool) → a ≡ false → b ≡ false → (a || b) ≡ false
 neither-or a b p q = ap (λ (x : Bool). x || b) p ∙ q
 
+pub or-when-true : (a b : Bool) → a ≡ true → a ≡ (a || b)
+or-when-true true b e = refl
+or-when-true false b e = clash e refl
+
+pub or-when-false : (a b : Bool) → a ≡ false → b ≡ (a || b)
+or-when-false true b e = clash refl e
+or-when-false false b e = refl
+
 -- ---- different numbers, as the test says it
 
 pub differ : (a b : ℕ) → not (eqb a b) ≡ true → a ≡ b → ⊥

@@ -6,12 +6,12 @@ use native.Mathlib.Omega.{arith}
 use mathlib.Core.Path.{_≡_, refl, sym, ap, subst, _∙_}
 use mathlib.Core.Bool.{Bool, true, false, _&&_}
 use mathlib.Core.Logic.{_⊎_, inl, inr, ⊎-elim}
-use mathlib.Core.List.{List, [], _∷_, map, List·Memᴰ, List·Memᴰ·head, List·Memᴰ·tail, List·Memᴰ·not-nil, List·Memᴰ·cases-cons, Sublistᴰ, Sublistᴰ·slnil, Sublistᴰ·cons, Sublistᴰ·cons-cons}
+use mathlib.Core.List.{List, [], _∷_, _++_, map, List·Memᴰ, List·Memᴰ·head, List·Memᴰ·tail, List·Memᴰ·not-nil, List·Memᴰ·cases-cons, Sublistᴰ, Sublistᴰ·slnil, Sublistᴰ·cons, Sublistᴰ·cons-cons}
 use lib.ListN.{length, getD, take, drop, replicate, length-replicate}
 use lib.Seq.{drop-cons, drop-length, getD-take}
 use borrow.Author.Tests.{eq-eqb, ne-eqb}
 use Rattle.base.specs.Decide.{same-or}
-use Rattle.base.specs.Lists.{any, filter, absent}
+use Rattle.base.specs.Lists.{any, filter, absent, numbers}
 use Rattle.base.proofs.Booleans.{clash}
 
 -- ---- no element is q
@@ -78,6 +78,16 @@ in-filter {A} p (y ∷ ys) {x} m h = go (λ t. in-filter p ys t h) (p y) refl (L
     go rest true e (inr t) = List·Memᴰ·tail (rest t)
     go rest false e (inl k) = clash (sym (ap p k) ∙ h) e
     go rest false e (inr t) = rest t
+
+pub filter-append : {A : Type 0} (p : A → Bool) (xs ys : List A) → filter p (xs ++ ys) ≡ filter p xs ++ filter p ys
+unfolding filter
+filter-append p [] ys = refl
+filter-append {A} p (x ∷ xs) ys = go (filter-append p xs ys) (p x)
+  where
+    go : filter p (xs ++ ys) ≡ filter p xs ++ filter p ys → (b : Bool)
+        → elim b as (λ z. List A) [ true ↦ x ∷ filter p (xs ++ ys) | false ↦ filter p (xs ++ ys) ] ≡ elim b as (λ z. List A) [ true ↦ x ∷ filter p xs | false ↦ filter p xs ] ++ filter p ys
+    go e true = ap (λ (l : List A). x ∷ l) e
+    go e false = e
 
 -- what a filter leaves is a subsequence
 pub filter-sub : {A : Type 0} (p : A → Bool) (xs : List A) → Sublistᴰ (filter p xs) xs
@@ -265,3 +275,10 @@ front-filled n m a h = ap length (take-filled n m a h) ∙ length-replicate n a
 
 pub front-zeros : (n m : ℕ) → n ≤ m → length (take n (replicate {A = ℕ} m 0)) ≡ n
 front-zeros n m h = front-filled {A = ℕ} n m 0 h
+
+-- ---- numbers in order
+
+pub numbers-snoc : (k n : ℕ) → numbers k (suc n) ≡ numbers k n ++ ((k + n) ∷ [])
+unfolding numbers
+numbers-snoc k zero = ap (λ (i : ℕ). i ∷ []) (let e : k ≡ k + 0 = omega arith in e)
+numbers-snoc k (suc n) = ap (λ (l : List ℕ). k ∷ l) (numbers-snoc (suc k) n ∙ ap (λ (i : ℕ). numbers (suc k) n ++ (i ∷ [])) (let e : suc k + n ≡ k + suc n = omega arith in e))

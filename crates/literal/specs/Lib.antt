@@ -1,3 +1,4 @@
 pub mod Literals
 pub mod Clauses
 pub mod Assignments
+pub mod Holding

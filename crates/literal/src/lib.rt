@@ -5,7 +5,6 @@ ghost use Prim.Native.Nat.{_<_, _≤_, _-_};
 ghost use lib.ListN.{length, take, replicate};
 ghost use lib.IntN.{natAbs, negℤ, pos};
 ghost use Rattle.literal.specs.Literals.{Small, inRange, slotOf, litAt, twin};
-ghost use Rattle.literal.specs.Clauses.{has};
 
 // Whether l is a literal of the variables 1 to v; the smallest i32 is none.
 pub fn in_range(l: i32, v: u32) -> bool
@@ -44,13 +43,8 @@ pub fn slot_of(l: i32) -> usize
     requires { ⌜ (0 < natAbs l) × Small l ⌝ }
     ensures { λ r. ⌜ r ≡ slotOf l ⌝ }
 {
-    if l < 0 {
-        let v = (-l) as usize;
-        2 * v - 1
-    } else {
-        let v = l as usize;
-        2 * v - 2
-    }
+    let v = var_of(l);
+    if l < 0 { 2 * v - 1 } else { 2 * v - 2 }
 }
 
 // The literal whose slot is given. Slots are at most 2,047 wherever it is called.
@@ -68,20 +62,6 @@ pub fn twin_of(slot: u32) -> u32
     ensures { λ r. ⌜ r ≡ twin slot ⌝ }
 {
     if slot % 2 == 0 { slot + 1 } else { slot - 1 }
-}
-
-// Whether l is in the part.
-pub fn contains(part: &[i32], l: i32) -> bool
-    ensures { λ r. ⌜ r ≡ has l (now (part .entry)) ⌝ }
-{
-    let mut i = 0;
-    while i < part.len() {
-        if part[i] == l {
-            return true;
-        }
-        i += 1;
-    }
-    false
 }
 
 // 0 from a place to the end. The place is a length that the caller has counted in the same slice.

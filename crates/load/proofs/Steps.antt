@@ -1,5 +1,5 @@
 -- One token: what the code leaves is what the definitions of Laid.antt say. Assumes nothing.
-use mathlib.Core.Path.{_≡_, refl, sym, ap, _∙_}
+use mathlib.Core.Path.{_≡_, sym, ap, _∙_}
 use mathlib.Core.Bool.{Bool, true, false, _||_}
 use mathlib.Core.List.{List}
 use Prim.Native.Nat.{ℕ, _+_, _-_, _≤_}
@@ -11,14 +11,6 @@ use borrow.Author.Tests.{eq-eqb, ne-eqb}
 use Rattle.literal.specs.Literals.{slotOf}
 use Rattle.load.specs.Laid.{Work, work, progress, keptEnd, flag, putClauseRecord, endClause, wasRead, addLiteral}
 use Rattle.load.specs.declared.Progress.{Progress}
-
-pub or-when-true : (a b : Bool) → a ≡ true → a ≡ (a || b)
-or-when-true true b e = refl
-or-when-true false b e = absurd (let z : _≡_ {A = ℕ} 0 1 = cc in omega arith)
-
-pub or-when-false : (a b : Bool) → a ≡ false → b ≡ (a || b)
-or-when-false true b e = absurd (let z : _≡_ {A = ℕ} 0 1 = cc in omega arith)
-or-when-false false b e = refl
 
 -- ---- a clause's end
 pub kept-between : (p : Progress) → p .start ≤ p .end → (p .start ≤ keptEnd p) × (keptEnd p ≤ p .end)

@@ -4,7 +4,7 @@ use native.Mathlib.Omega.{arith}
 use native.Mathlib.Nat.{min-le-right}
 use mathlib.Core.Path.{_≡_, refl, sym, ap, subst, _∙_}
 use mathlib.Core.Bool.{Bool, true, false, false≢true}
-use mathlib.Core.Logic.{_⊎_, ⊎-elim, _↔_, Iff·rfl, Iff·trans}
+use mathlib.Core.Logic.{⊎-elim, _↔_, Iff·rfl, Iff·trans}
 use mathlib.Core.List.{List, [], map}
 use lib.ListN.{length, getD}
 use lib.IntN.{ℤ, pos, natAbs}
@@ -40,7 +40,7 @@ use Rattle.merge_visits.specs.Clause.{mergeClause}
 use Rattle.merge_visits.specs.Visits.{substituted}
 use Rattle.merge.proofs.Merged.{classes-formed}
 use Rattle.merge.proofs.Equal.{opening-keeps, opening-adds-none, clash-stands}
-use Rattle.merge_visits.proofs.Repeats.{distinct-short}
+use Rattle.repeats.proofs.Repeats.{distinct-short}
 use Rattle.merge_visits.proofs.Visiting.{merge-shrinks}
 use Rattle.merge_visits.proofs.VisitKeeps.{formed-visit, mapped}
 use Rattle.merge.proofs.Calling.{open-cases, settled-cases, opens-formed, resumes-resumable}

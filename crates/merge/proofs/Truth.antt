@@ -17,7 +17,7 @@ use Rattle.tables.specs.Tables.{classOf}
 use Rattle.tables.specs.Values.{classLiteral}
 use Rattle.visits.proofs.Known.{abs-signed}
 use Rattle.merge_visits.specs.Visits.{substituted}
-use Rattle.merge_visits.proofs.Repeats.{All, distinct-all, all-map}
+use Rattle.repeats.proofs.Repeats.{All, distinct-all, all-map}
 
 -- ---- repeats
 

@@ -5,35 +5,40 @@ use mathlib.Core.Path.{_≡_, sym, ap, subst, _∙_}
 use mathlib.Core.Bool.{Bool, true, false}
 use mathlib.Core.List.{List, _++_, map}
 use lib.ListN.{length, take, replicate, length-map, length-append, length-replicate}
-use lib.Seq.{take-at}
 use lib.IntN.{ℤ, pos}
-use Rattle.literal.specs.Literals.{Small, EachSmall}
+use Rattle.literal.specs.Literals.{Literal}
 use Rattle.literal.specs.Clauses.{distinct, tautology}
 use Rattle.tables.specs.Values.{classLiteral}
 use Rattle.tables.specs.Fates.{left, dropped}
-use Rattle.visits.specs.Formed.{EachKnown}
-use Rattle.visits.specs.Holding.{holding}
-use Rattle.visits.proofs.Known.{known-small, known-class}
+use Rattle.repeats.specs.Marks.{Markable}
+use Rattle.repeats.proofs.Repeats.{All, all-at, all-map, distinct-short}
+use Rattle.visits.specs.Formed.{Known, EachKnown}
+use Rattle.literal.specs.Holding.{holding}
+use Rattle.visits.proofs.Known.{known-class}
 use Rattle.visits.specs.Visited.{Part, partOf, partAfter}
 use Rattle.visits.specs.declared.Visited.the-variants.{Left, Dropped}
 use Rattle.merge_visits.specs.Clause.{mergeClause}
 use Rattle.merge_visits.specs.Visits.{substituted}
-use Rattle.merge_visits.proofs.Repeats.{distinct-short, distinct-all, all-at, all-map}
 
--- class literals are small
-small-substituted : (w p : List ℤ) → EachKnown w p → EachSmall (substituted w p)
-small-substituted w p K = record {
-  each = all-at Small (substituted w p) (distinct-all Small (map (classLiteral w) p) (all-map Small (classLiteral w) p (λ k h. known-small (known-class (K .each k h)))));
+-- class literals are literals of at most 1,024 variables
+pub part-markable : (w p : List ℤ) {marks : List ℕ} {classes : List ℤ} → EachKnown w p → marks ≡ replicate 2048 0 → classes ≡ map (classLiteral w) p → Markable classes marks
+part-markable w p {marks} {classes} K blank e = record {
+  literals = all-at (Literal 1024) classes (subst (All (Literal 1024)) (sym e) (all-map (Literal 1024) (classLiteral w) p (λ k h. ranged (known-class (K .each k h)))));
+  blank = blank;
 }
+  where
+    ranged : {l : ℤ} → Known w l → Literal 1024 l
+    ranged k = record { above = k .ranged .above; within = omega (arith, k .ranged .within, k .rows .few) }
 
--- class literals in, and repeats out: q holds the r literals that are left of p
-pub record Reduced (w p q : List ℤ) (r : ℕ) : Type 0 where
+-- class literals in, and repeats out: q holds the r literals that are left of p, and b tells whether they have v and −v
+pub record Reduced (w p q : List ℤ) (r : ℕ) (b : Bool) : Type 0 where
   pub classes : List ℤ
   pub substitutes : classes ≡ map (classLiteral w) p
   pub count : r ≡ length (distinct classes)
+  pub both : b ≡ tautology (distinct classes)
   pub held : q ≡ holding (distinct classes) classes
 
-module _ {w p q : List ℤ} {r : ℕ} (R : Reduced w p q r) where
+module _ {w p q : List ℤ} {r : ℕ} {b : Bool} (R : Reduced w p q r b) where
   abbrev p₁ : List ℤ
   p₁ = R .classes
 
@@ -52,25 +57,19 @@ module _ {w p q : List ℤ} {r : ℕ} (R : Reduced w p q r) where
   long : length q ≡ length p
   long = ap length (R .held) ∙ length-append (distinct p₁) (replicate (length p₁ - length (distinct p₁)) (pos 0)) ∙ omega (arith, length-replicate (length p₁ - length (distinct p₁)) (pos 0), short, size)
 
-  front : take r q ≡ substituted w p
-  front = ap (take r) (R .held) ∙ take-at (distinct p₁) (replicate (length p₁ - length (distinct p₁)) (pos 0)) r (sym (R .count)) ∙ kept
-
-  pub part-front : r ≤ length q
-  part-front = omega (arith, long, short, R .count)
-
   pub part-count : length p ≤ 16384 → r ≤ 16384
   part-count few = omega (arith, short, R .count)
 
-  pub part-small : EachKnown w p → EachSmall (take r q)
-  part-small K = subst EachSmall (sym front) (small-substituted w p K)
-
   by-test : Bool → Part
-  by-test b = partAfter (elim b [ true ↦ dropped | false ↦ left (substituted w p) ]) p
+  by-test t = partAfter (elim t [ true ↦ dropped | false ↦ left (substituted w p) ]) p
 
-  pub part-dropped : (q′ : List ℤ) → tautology (take r q) ≡ true → q′ ≡ take 0 q ++ replicate (length q - 0) (pos 0) → partOf Dropped q′ ≡ partAfter (mergeClause w p) p
-  unfolding by-test mergeClause
-  part-dropped q′ e h = ap (partOf Dropped) (h ∙ ap (λ (m : ℕ). replicate (m - 0) (pos 0)) long) ∙ ap by-test (sym (sym (ap tautology front) ∙ e))
+  tested : {t : Bool} → b ≡ t → t ≡ tautology (substituted w p)
+  tested e = sym e ∙ R .both ∙ ap tautology kept
 
-  pub part-left : tautology (take r q) ≡ false → partOf (Left r) q ≡ partAfter (mergeClause w p) p
+  pub part-dropped : (q′ : List ℤ) → b ≡ true → q′ ≡ take 0 q ++ replicate (length q - 0) (pos 0) → partOf Dropped q′ ≡ partAfter (mergeClause w p) p
   unfolding by-test mergeClause
-  part-left e = (λ j. partOf (Left ((R .count ∙ ap length kept) j)) (holds j)) ∙ ap by-test (sym (sym (ap tautology front) ∙ e))
+  part-dropped q′ e h = ap (partOf Dropped) (h ∙ ap (λ (m : ℕ). replicate (m - 0) (pos 0)) long) ∙ ap by-test (tested e)
+
+  pub part-left : b ≡ false → partOf (Left r) q ≡ partAfter (mergeClause w p) p
+  unfolding by-test mergeClause
+  part-left e = (λ j. partOf (Left ((R .count ∙ ap length kept) j)) (holds j)) ∙ ap by-test (tested e)

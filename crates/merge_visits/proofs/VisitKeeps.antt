@@ -22,7 +22,8 @@ use Rattle.visits.proofs.Visiting.{visit-beside}
 use Rattle.visits.proofs.Known.{class-ranged, class-own}
 use Rattle.merge_visits.specs.Clause.{mergeClause}
 use Rattle.merge_visits.specs.Visits.{substituted}
-use Rattle.merge_visits.proofs.Repeats.{Own, distinct-short, distinct-none, distinct-all, distinct-once, all-map, once-fits}
+use Rattle.repeats.proofs.Repeats.{distinct-short, distinct-none, distinct-all, distinct-once, all-map}
+use Rattle.merge_visits.proofs.Repeats.{Own, once-fits}
 use Rattle.merge_visits.proofs.Visiting.{merge-shrinks}
 
 module _ (v n k : ℕ) (t : Tables) (F : FormedTo v n k t) (lt : k < n) where

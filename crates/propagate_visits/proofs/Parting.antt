@@ -10,7 +10,7 @@ use Rattle.base.specs.Lists.{any, filter}
 use Rattle.tables.specs.Values.{isTrue, isFalse, setTrue}
 use Rattle.tables.specs.Fates.{Fate, left, dropped, unit, conflict}
 use Rattle.visits.specs.Formed.{Known, EachKnown}
-use Rattle.visits.specs.Holding.{holding}
+use Rattle.literal.specs.Holding.{holding}
 use Rattle.visits.proofs.Fitting.{filter-shorter}
 use Rattle.propagate_visits.specs.Visits.{notFalse, remaining, propagateClause}
 use Rattle.visits.specs.Visited.{partOf, partAfter, variablesAfter}

@@ -7,7 +7,7 @@ ghost use lib.ListN.{length};
 ghost use Rattle.base.specs.Lists.{any};
 ghost use Rattle.tables.specs.Values.{isTrue};
 ghost use Rattle.visits.specs.Formed.{EachKnown};
-ghost use Rattle.visits.specs.Holding.{holding};
+ghost use Rattle.literal.specs.Holding.{holding};
 ghost use Rattle.visits.specs.Visited.{Visitable, partOf, partAfter, variablesAfter, visitOf, visitAt};
 ghost use Rattle.propagate_visits.specs.Visits.{notFalse, propagateClause, going, onward, propagateVisit, propagateVisits};
 ghost use Rattle.propagate_visits.specs.Steps.{progressOf, standAfter, reachedAs, StandsBefore};

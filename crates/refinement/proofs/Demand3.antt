@@ -1,7 +1,7 @@
 -- DEMAND 3, over the calls as their users see them. After an accepted load and any list of Propagate, Merge, Stamp, Failed and Sweep calls, refused ones included, with any orders and step counts and any parts of the tables lent,
 -- an assignment satisfies what stands exactly if it satisfies the loaded formula (`demand-3`), and every standing clause is the loaded one of its number with literals left out, class literals put in on both sides (`left-out`).
 -- Assumes nothing.
-use Prim.Native.Nat.{ℕ, suc, _+_, _*_, _-_, _≤_, _<_}
+use Prim.Native.Nat.{ℕ, suc, _+_, _*_, _≤_, _<_}
 use native.Mathlib.Nat.{min-le-left}
 use native.Mathlib.Omega.{arith}
 use mathlib.Core.Path.{_≡_, refl, sym, ap, subst, subst₂, _∙_}
@@ -43,10 +43,9 @@ use Rattle.failed.specs.Failed.{failedBy, failedCall}
 use Rattle.sweep.specs.Sweep.{sweepBy, sweepCall}
 use Rattle.call_lists.specs.Lists.{Call, propagate, merge, stamp, failed, sweep, Lent, lend, giveBack, callOn, Step, stepOn, stepsOn}
 use Rattle.sound.specs.Formula.{Clause, dropped, standing}
-use Rattle.moves.specs.Core as core
 use Rattle.moves.proofs.Keeps as keeps
 use Rattle.moves.proofs.Traced.{only-left-out}
-use Rattle.merge_visits.proofs.Repeats.{All, distinct-all}
+use Rattle.repeats.proofs.Repeats.{All, distinct-all}
 use Rattle.refinement.proofs.Literals.{class-is}
 use Rattle.refinement.proofs.Standing.{stands-clause}
 use Rattle.refinement.proofs.Laid.{nth}

@@ -12,11 +12,11 @@ use borrow.Author.Tests.{eq-eqb}
 use Rattle.literal.specs.Literals.{Literal}
 use Rattle.literal.specs.Clauses.{distinct, tautology}
 use Rattle.tables.specs.Tables.{Tables, startOf, lengthOf, classOf, valueOf}
-use Rattle.tables.specs.Tables as T
 use Rattle.shape.specs.Shape.{Parts, Literals, Variable}
 use Rattle.visits.specs.Formed.{Formed, FitClause}
 use Rattle.visits.proofs.Fitting.{fit-none}
-use Rattle.merge_visits.proofs.Repeats.{All, Own, distinct-short, distinct-none, distinct-all, distinct-once, once-fits}
+use Rattle.repeats.proofs.Repeats.{All, distinct-short, distinct-none, distinct-all, distinct-once}
+use Rattle.merge_visits.proofs.Repeats.{Own, once-fits}
 use Rattle.write.specs.Writable.{InClause, InClauses, total}
 use Rattle.roundtrip.proofs.Plain.{distinct-plain}
 use Rattle.load.specs.Load.{keptOf, clauseRecords, literalPlaces, variableRecords, filled, anyEmpty, laid}

@@ -3,7 +3,7 @@ use Prim.Native.Nat.{ℕ, zero, suc, _+_, _*_, _-_, _≤_, _<_}
 use native.Mathlib.Omega.{arith}
 use mathlib.Core.Path.{_≡_, refl, sym, ap, subst, _∙_}
 use mathlib.Core.Bool.{Bool, true, false, _||_, false≢true}
-use mathlib.Core.Logic.{_⊎_, ⊎-elim}
+use mathlib.Core.Logic.{⊎-elim}
 use mathlib.Core.List.{List, [], _∷_, _++_, map, List·Memᴰ, List·Memᴰ·head, List·Memᴰ·tail, List·Memᴰ·not-nil, List·Memᴰ·cases-cons, append-assoc}
 use lib.ListN.{length, getD, drop, take, replicate, length-map}
 use lib.Dec.{eqb}
@@ -16,7 +16,6 @@ use Rattle.literal.specs.Assignments.{Assignment, someTrue, Satisfies}
 use Rattle.literal.proofs.Laws.{slot-lit, slot-below}
 use Rattle.state.specs.States.{loadedState}
 use Rattle.state.specs.declared.State.{State}
-use Rattle.state.specs.declared.Pass.the-variants.{Idle}
 use Rattle.tables.specs.Tables.{Tables}
 use Rattle.tables.specs.Tables as T
 use Rattle.tables.specs.Long.{Long}
@@ -31,7 +30,7 @@ use Rattle.roundtrip.proofs.Accepted.{text-within}
 use Rattle.roundtrip.proofs.Reread.{text-loads}
 use Rattle.load.specs.Load.{keptOf, literalPlaces, anyEmpty, laid, loadCall}
 use Rattle.merge.proofs.Truth.{some-distinct, tautology-true}
-use Rattle.merge_visits.proofs.Repeats.{All, distinct-all}
+use Rattle.repeats.proofs.Repeats.{All, distinct-all}
 use Rattle.sound.specs.Formula.{Clause, dropped, standing, Sat, Models}
 use Rattle.moves.specs.Core.{load, markedCore}
 use Rattle.moves.specs.Moves.{spent, conflict, change, stay, go}

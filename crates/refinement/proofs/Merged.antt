@@ -1,9 +1,9 @@
 -- A visit of Merge is a list of moves: class literals are put in and repeats go, and a clause with v and −v is dropped. Assumes nothing.
-use Prim.Native.Nat.{ℕ, _+_, _-_, _≤_, _<_}
+use Prim.Native.Nat.{ℕ, _+_, _≤_, _<_}
 use native.Mathlib.Omega.{arith}
 use mathlib.Core.Path.{_≡_, refl, sym, ap, subst, _∙_}
 use mathlib.Core.Bool.{Bool, true, false, _||_, false≢true}
-use mathlib.Core.Logic.{_⊎_, ⊎-elim}
+use mathlib.Core.Logic.{⊎-elim}
 use mathlib.Core.List.{List, [], _∷_, _++_, map, List·Memᴰ, List·Memᴰ·head, List·Memᴰ·tail, List·Memᴰ·not-nil, List·Memᴰ·cases-cons, Sublistᴰ, Sublistᴰ·cons, Sublistᴰ·refl, Sublistᴰ·trans, Sublistᴰ·append, append-assoc, append-nil, Memᴰ·map}
 use lib.ListN.{length, length-map}
 use lib.Seq.{getD-set-same, set-set}
@@ -18,7 +18,6 @@ use Rattle.tables.specs.Tables.{Tables, tables, lengthOf}
 use Rattle.tables.specs.Tables as T
 use Rattle.tables.specs.Values.{classLiteral}
 use Rattle.tables.specs.Fates.{shortened, droppedAt}
-use Rattle.tables.specs.Fates as fates
 use Rattle.visits.specs.Formed.{Formed}
 use Rattle.visits.proofs.Stores.{recorded, storedAt}
 use Rattle.visits.proofs.Forming.{clause-fits, part-length, recorded-same}
@@ -26,7 +25,7 @@ use Rattle.visits.proofs.Fitting.{fit-member}
 use Rattle.sound.specs.Formula.{Clause, dropped, standing}
 use Rattle.moves.specs.Core as core
 use Rattle.moves.specs.Moves as moves
-use Rattle.merge_visits.proofs.Repeats.{distinct-short}
+use Rattle.repeats.proofs.Repeats.{distinct-short}
 use Rattle.literal.proofs.Distinct.{has-distinct}
 use Rattle.refinement.specs.Represented.{Represented}
 use Rattle.refinement.proofs.Literals.{class-is, class-lit}

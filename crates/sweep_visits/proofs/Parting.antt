@@ -12,7 +12,7 @@ use Rattle.stamp_columns.specs.Columns.{columns}
 use Rattle.tables.specs.Fates.{Fate, kept, left, dropped}
 use Rattle.hidden.specs.Hidden.{holds, hiddenTautology, unhidden, shorten}
 use Rattle.visits.specs.Formed.{FitClause}
-use Rattle.visits.specs.Holding.{holding}
+use Rattle.literal.specs.Holding.{holding}
 use Rattle.visits.specs.Visited.{partOf, partAfter}
 use Rattle.visits.specs.declared.Visited.the-variants.{Kept, Left, Dropped}
 use Rattle.visits.proofs.Fitting.{fit-filter, filter-shorter}

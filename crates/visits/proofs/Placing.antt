@@ -9,7 +9,7 @@ use lib.IntN.{ℤ, pos}
 use Rattle.tables.specs.Tables.{Tables, tables, startOf, lengthOf}
 use Rattle.tables.specs.Clauses.{literalsOf}
 use Rattle.tables.specs.Fates.{putPart, shortened}
-use Rattle.visits.specs.Holding.{holding}
+use Rattle.literal.specs.Holding.{holding}
 
 -- the literal table with another part of the same length
 abbrev pub replaced : ℕ → ℕ → List ℤ → List ℤ → List ℤ

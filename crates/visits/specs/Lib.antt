@@ -1,4 +1,3 @@
 pub mod Formed
-pub mod Holding
 pub mod Settled
 pub mod Visited

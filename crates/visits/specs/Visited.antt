@@ -15,7 +15,7 @@ use Rattle.tables.specs.Values.{setTrue}
 use Rattle.tables.specs.Fates.{Fate, kept, left, dropped, unit, conflict, store, fateAt}
 use Rattle.tables.specs.Calls.{After, answered}
 use Rattle.visits.specs.Formed.{Formed}
-use Rattle.visits.specs.Holding.{holding}
+use Rattle.literal.specs.Holding.{holding}
 use Rattle.visits.specs.declared.Visited.{Visited}
 use Rattle.visits.specs.declared.Visited.the-variants.{Kept, Left, Dropped, MadeTrue, Conflict}
 

@@ -1,5 +1,6 @@
 -- `load::add_literal` meets its contract: the slots of l and of its complement, then `repeated` or `added`. Assumes nothing.
-use Rattle.load.proofs.Steps.{repeated, added, or-when-true, or-when-false}
+use Rattle.base.proofs.Booleans.{or-when-true, or-when-false}
+use Rattle.load.proofs.Steps.{repeated, added}
 use Prim.Native.Nat.{_<_}
 use native.Mathlib.Omega.{arith}
 use mathlib.Core.Path.{_≡_, _∙_, ap}

@@ -1,5 +1,6 @@
 -- `load::end_clause` meets its contract: what the calls ensure, put together by `ended`. Assumes nothing.
-use Rattle.load.proofs.Steps.{kept-between, ended, or-when-true, or-when-false}
+use Rattle.base.proofs.Booleans.{or-when-true, or-when-false}
+use Rattle.load.proofs.Steps.{kept-between, ended}
 use native.Mathlib.Omega.{arith}
 use borrow.Author.Needs.{needs}
 use Rattle.load.proofs.end_clause.Statement.{statement}

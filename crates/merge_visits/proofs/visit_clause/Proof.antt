@@ -10,26 +10,27 @@ use Rattle.merge_visits.proofs.visit_clause.Statement.{statement}
 use Rattle.merge_visits.proofs.visit_clause.Tie as tie
 
 -- the clause's part, as it is lent
-bounds : (c : tie.After-part-end) → Bounds (c .before .before .before .before .before .before .before .before .args .k) (c .before .before .before .before .before .before .before .before .args .clauses .now) (c .before .before .part-start .result) (c .part-end .result)
+bounds : (c : tie.After-part-end) → Bounds (c .before .before .before .before .before .before .before .before .before .args .k) (c .before .before .before .before .before .before .before .before .before .args .clauses .now) (c .before .before .part-start .result) (c .part-end .result)
 bounds c = record { starts = c .before .before .part-start .ensures; ends = c .part-end .ensures }
 
 flag-of-requires : tie.Need-flag-of-requires
-flag-of-requires c κs = visitable-placed (c .before .before .pre)
+flag-of-requires c κs = visitable-placed (c .before .before .before .pre .0)
 
 same-length : tie.Need-same-length
 same-length c = search needs
 
 returns : tie.Need-returns
-returns c = λ times links. let a = c .before .before .before .before .args in visit-none (mergeClause (a .variables .now)) (a .k) (tables (a .clauses .now) (a .literals .now) (a .variables .now) times links) (sym (c .before .flag-of .ensures) ∙ c .if1 .taken)
+returns c = let s = c .before .before .before .before .before in
+    (λ times links. visit-none (mergeClause (s .args .variables .now)) (s .args .k) (tables (s .args .clauses .now) (s .args .literals .now) (s .args .variables .now) times links) (sym (c .before .flag-of .ensures) ∙ c .if1 .taken), s .pre .1)
 
 part-start-requires : tie.Need-part-start-requires
-part-start-requires c κs = visitable-placed (c .before .before .before .before .before .pre)
+part-start-requires c κs = visitable-placed (c .before .before .before .before .before .before .pre .0)
 
 part-end-requires : tie.Need-part-end-requires
-part-end-requires c κs = visitable-placed (c .before .before .before .before .before .before .before .pre)
+part-end-requires c κs = visitable-placed (c .before .before .before .before .before .before .before .before .pre .0)
 
 mul-visit-part : tie.Need-mul-visit-part
-mul-visit-part c = omega (arith, visitable-placed (c .before .before .before .before .before .before .before .before .pre) .within, bounds c .starts)
+mul-visit-part c = omega (arith, visitable-placed (c .before .before .before .before .before .before .before .before .before .pre .0) .within, bounds c .starts)
 
 sub-visit-part : tie.Need-sub-visit-part
 sub-visit-part c = search needs
@@ -38,10 +39,11 @@ part-visit-part-start : tie.Need-part-visit-part-start
 part-visit-part-start c = search needs
 
 part-visit-part-end : tie.Need-part-visit-part-end
-part-visit-part-end c = let h = lent-inside (c .before .before .before .before .before .before .before .before .pre) (bounds c) in search needs
+part-visit-part-end c = let h = lent-inside (c .before .before .before .before .before .before .before .before .before .pre .0) (bounds c) in search needs
 
 visit-part-requires : tie.Need-visit-part-requires
-visit-part-requires c κs = (lent-known (c .before .before .before .before .before .before .before .before .before .pre) (bounds (c .before)), lent-short (c .before .before .before .before .before .before .before .before .before .pre) (bounds (c .before)))
+visit-part-requires c κs = let e = c .before .before in let s = e .before .before .before .before .before .before .before .before .before in
+    (lent-known (s .pre .0) (bounds e), lent-short (s .pre .0) (bounds e), s .pre .1)
 
 put-record-requires : tie.Need-put-record-requires
 put-record-requires c κs = search needs
@@ -52,10 +54,19 @@ same-length-2 c = search needs
 same-length-3 : tie.Need-same-length-3
 same-length-3 c = search needs
 
+same-length-4 : tie.Need-same-length-4
+same-length-4 c = search needs
+
 returns-2 : tie.Need-returns-2
-returns-2 c = let a = c .before .before .before .before .before .before .before .before .before .before .before .before .before .before .before .args in let v = c .before .before .before .before .before .visit-part in let r = c .before .before .put-record in
-    visit-is (bounds (c .before .before .before .before .before .before .before)) (a .literals .now) (a .variables .now) (visitable-inside (c .before .before .before .before .before .before .before .before .before .before .before .before .before .before .before .pre)) (mergeClause (a .variables .now)) (λ e. c .before .before .before .before .before .before .before .before .before .before .before .if1 .left (c .before .before .before .before .before .before .before .before .before .before .before .before .flag-of .ensures ∙ e)) (v .result) (r .last .0) (v .last .0) (a .variables .now)
-    (v .ensures) (shrinks-variables (a .variables .now) (merge-shrinks (a .variables .now) _)) (r .ensures)
+returns-2 c = let p = c .before .before .before .before .before .before .before in
+    let e = p .before .before .before in
+    let s = e .before .before .before .before .before .before .before .before .before in
+    let w = s .args .variables .now in
+    let r = c .before .before .put-record in (
+      visit-is (bounds e) (s .args .literals .now) w (visitable-inside (s .pre .0)) (mergeClause w) (λ q. e .before .before .before .before .if1 .left (e .before .before .before .before .before .flag-of .ensures ∙ q)) (p .visit-part .result) (r .last .0) (p .visit-part .last .0) w
+          (p .visit-part .ensures .0) (shrinks-variables w (merge-shrinks w _)) (r .ensures),
+      p .visit-part .ensures .1,
+    )
 
 pub visit-clause-spec : {M : Type 1} → statement M
 visit-clause-spec =
@@ -74,4 +85,5 @@ visit-clause-spec =
     put-record-requires
     same-length-2
     same-length-3
+    same-length-4
     returns-2)

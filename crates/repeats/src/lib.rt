@@ -1,0 +1,63 @@
+// Repeated literals of one clause removed, in time linear in the clause: each slot has a mark, which tells whether its literal was kept.
+ghost use mathlib.Core.Path.{_≡_};
+ghost use lib.ListN.{length};
+ghost use Rattle.literal.specs.Clauses.{distinct, tautology};
+ghost use Rattle.literal.specs.Holding.{holding};
+ghost use Rattle.repeats.specs.Marks.{Markable, Unmarkable, marked, FirstsKept};
+
+// What is left of a clause without repeats: how many literals, and whether some variable stands in it with both signs.
+pub struct Kept {
+    pub count: usize,
+    pub both: bool,
+}
+
+// Moves the first of each literal to the front, in order, and marks it. What stands behind the kept ones is left as it was. Both slots are
+// computed before the test, so that what the processor has to guess is only whether the literal is new.
+fn keep_first(part: &mut [i32], marks: &mut [u32]) -> Kept
+    requires { ⌜ Markable (now part) (now marks) ⌝ }
+    ensures { λ r. ⌜ FirstsKept (now (part .entry)) (now (marks .entry)) (now (part .exit)) (now (marks .exit)) r ⌝ }
+{
+    let mut n = 0;
+    let mut both = false;
+    let mut i = 0;
+    while i < part.len() {
+        let l = part[i];
+        i += 1;
+        let slot = literal::slot_of(l);
+        let other = literal::slot_of(literal::complement(l));
+        if marks[slot] == 0 {
+            both = both || marks[other] == 1;
+            marks[slot] = 1;
+            part[n] = l;
+            n += 1;
+        }
+    }
+    Kept { count: n, both }
+}
+
+// Takes the marks of the literals back, so that the next clause finds none.
+fn unmark(part: &[i32], marks: &mut [u32])
+    requires { ⌜ Unmarkable (now part) (now marks) ⌝ }
+    ensures { λ _. ⌜ now (marks .exit) ≡ marked 0 (now (part .entry)) (now (marks .entry)) ⌝ }
+{
+    let mut k = 0;
+    while k < part.len() {
+        let slot = literal::slot_of(part[k]);
+        marks[slot] = 0;
+        k += 1;
+    }
+}
+
+// Keeps the first of each literal, in order at the front, with 0 behind. The marks, one for each slot, are 0 before and after: the caller
+// lends an array of 0. The literals are of at most 1,024 variables, as the shape rule or the judgement of a text has it.
+pub fn remove_repeats(part: &mut [i32], marks: &mut [u32]) -> Kept
+    requires { ⌜ Markable (now part) (now marks) ⌝ }
+    ensures { λ r. ⌜ (r .count ≡ length (distinct (now (part .entry)))) × (r .both ≡ tautology (distinct (now (part .entry))))
+        × (now (part .exit) ≡ holding (distinct (now (part .entry))) (now (part .entry))) × (now (marks .exit) ≡ now (marks .entry)) ⌝ }
+{
+    let kept = keep_first(part, marks);
+    let n = kept.count;
+    unmark(&part[..n], marks);
+    literal::zero_from(part, n);
+    kept
+}
