@@ -38,7 +38,8 @@ pub fn var_of(l: i32) -> usize
     if l < 0 { (-l) as usize } else { l as usize }
 }
 
-// The slot of a literal, which is not 0 and not the smallest i32, as `in_range` or the shape rule has it.
+// The slot of a literal, which is not 0 and not the smallest i32, as `in_range` or the shape rule has it. The variable is taken before the
+// sign is asked, so that the compiler makes no branch of the sign, which the processor would have to guess.
 pub fn slot_of(l: i32) -> usize
     requires { ⌜ (0 < natAbs l) × Small l ⌝ }
     ensures { λ r. ⌜ r ≡ slotOf l ⌝ }

@@ -11,8 +11,8 @@ pub struct Kept {
     pub both: bool,
 }
 
-// Moves the first of each literal to the front, in order, and marks it. What stands behind the kept ones is left as it was. Both slots are
-// computed before the test, so that what the processor has to guess is only whether the literal is new.
+// Moves the first of each literal to the front, in order, and marks it; what stands behind the kept ones is left as it was. A variable has
+// both signs if the complement of a new literal has a mark already.
 fn keep_first(part: &mut [i32], marks: &mut [u32]) -> Kept
     requires { ⌜ Markable (now part) (now marks) ⌝ }
     ensures { λ r. ⌜ FirstsKept (now (part .entry)) (now (marks .entry)) (now (part .exit)) (now (marks .exit)) r ⌝ }
