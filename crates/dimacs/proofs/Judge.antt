@@ -1,6 +1,6 @@
 -- One token of the judgement: what the code's token says of the words, and the step that the definition takes. Assumes nothing.
 use mathlib.Core.Path.{_≡_, refl, sym, ap, _∙_, subst}
-use mathlib.Core.Bool.{Bool, true, false, _&&_, false≢true}
+use mathlib.Core.Bool.{Bool, true, false, _&&_}
 use mathlib.Core.List.{List, [], _∷_}
 use mathlib.Core.Logic.{_⊎_, ⊎-elim, inl, inr}
 use Prim.Native.Nat.{ℕ, zero, suc, _+_, _-_, _≤_, _<_, min}
@@ -8,6 +8,7 @@ use native.Mathlib.Omega.{arith}
 use lib.ListN.{length, take, drop}
 use lib.Dec.{leb, ltb, eqb}
 use borrow.Author.Tests.{lt-ltb, le-ltb, le-leb, lt-leb, leb-true, leb-false, ltb-true}
+use Rattle.base.proofs.Booleans.{and-left, and-right}
 use Rattle.dimacs.specs.Words.{Word, word, wordsAt, span, isDigit}
 use Rattle.dimacs.specs.Tokens.{Meaning, bad, nought, literal, meaning, tokenBy, tokenOf, decimal}
 use Rattle.dimacs.specs.Text.{Budget, budget, judge, judgeEnd}
@@ -165,15 +166,17 @@ module _ (v : ℕ) (l : Budget) (end : ℕ) (ok : Verdict) {text : List ℕ} {at
     unfolding judge
     judge-unfit e = rw (s .seen .words, s .seen .means, judge, tests false e)
 
--- where a literal fits, one is left
+-- where a literal fits, one is left, and its variable is at most v
+fits-tests : (v clauses literals magnitude : ℕ) → (ltb 0 clauses && (leb magnitude v && ltb 0 literals)) ≡ true → (magnitude ≤ v) × (0 < literals)
+fits-tests v clauses literals magnitude e =
+    let both : (leb magnitude v && ltb 0 literals) ≡ true = and-right (ltb 0 clauses) (leb magnitude v && ltb 0 literals) e in
+    (leb-true magnitude v (and-left (leb magnitude v) (ltb 0 literals) both), ltb-true 0 literals (and-right (leb magnitude v) (ltb 0 literals) both))
+
 pub fits-left : (v clauses literals magnitude : ℕ) → (ltb 0 clauses && (leb magnitude v && ltb 0 literals)) ≡ true → 0 < literals
-fits-left v clauses literals magnitude e = go (ltb 0 clauses) (leb magnitude v) (ltb 0 literals) refl e
-  where
-    go : (a b t : Bool) → ltb 0 literals ≡ t → (a && (b && t)) ≡ true → 0 < literals
-    go true true true t e = ltb-true 0 literals t
-    go true true false t e = absurd (false≢true e)
-    go true false b t e = absurd (false≢true e)
-    go false a b t e = absurd (false≢true e)
+fits-left v clauses literals magnitude e = fits-tests v clauses literals magnitude e .1
+
+pub fits-small : (v clauses literals magnitude : ℕ) → (ltb 0 clauses && (leb magnitude v && ltb 0 literals)) ≡ true → magnitude ≤ v
+fits-small v clauses literals magnitude e = fits-tests v clauses literals magnitude e .0
 
 pub judge-end : (v : ℕ) (l : Budget) (end : ℕ) (ok : Verdict) (text : List ℕ) (at : ℕ) → wordsAt (drop at text) at ≡ []
     → judge v l (wordsAt (drop at text) at) end ok ≡ judgeEnd l end ok

@@ -8,7 +8,8 @@ ghost use lib.Dec.{leb, ltb, eqb};
 ghost use Rattle.dimacs.specs.Words.{isSep, isWordByte, isLineByte, isDigit, span, front, wordsAt};
 ghost use Rattle.dimacs.specs.Tokens.{decimal, unsigned, tokenBy, tokenOf};
 ghost use Rattle.dimacs.specs.Header.{comments, expect, number, lineEnd, headerRest, header};
-ghost use Rattle.dimacs.specs.Text.{judge, judgeEnd, judgeText, budget};
+ghost use Rattle.dimacs.specs.Text.{judge, judgeEnd, judgeText, budget, literalOf, bodyOf};
+ghost use Rattle.dimacs.specs.Numbers.{clausesKept};
 use state::Refusal;
 
 // What stands at an offset of the text's body: `start` is its first byte, `next` the byte after it. A magnitude above 65,535
@@ -400,15 +401,26 @@ fn literal_fits(v: u32, clauses: u32, literals: u32, magnitude: u32) -> bool
     0 < literals
 }
 
-// The tokens from `body` on, against what is left to the text.
-fn judge_words(text: &[u8], v: u32, n: u32, body: usize) -> Verdict
-    requires { ⌜ v < 65535 ⌝ }
-    ensures { λ r. ⌜ r ≡ judge v (budget n 16384 false) (wordsAt (drop body (now (text .entry))) body) (length (now (text .entry))) (Verdict.Fits v n body) ⌝ }
+// A literal by its sign and its variable.
+fn literal_of(negative: bool, magnitude: u32) -> i32
+    requires { ⌜ magnitude ≤ 1024 ⌝ }
+    ensures { λ r. ⌜ r ≡ literalOf negative magnitude ⌝ }
+{
+    let m = magnitude as i32;
+    if negative { -m } else { m }
+}
+
+// The tokens from `body` on, against what is left to the text. Each is kept as a number: a literal, or 0 for a clause's end.
+fn judge_words(text: &[u8], v: u32, n: u32, body: usize, numbers: &mut [i32]) -> Verdict
+    requires { ⌜ (v ≤ 1024) × ((n ≤ 4096) × (20480 ≤ length (now numbers))) ⌝ }
+    ensures { λ r. ⌜ (r ≡ judge v (budget n 16384 false) (wordsAt (drop body (now (text .entry))) body) (length (now (text .entry))) (Verdict.Fits v n body))
+        × (clausesKept r (now (numbers .exit)) ≡ bodyOf (now (text .entry)) r) ⌝ }
 {
     let mut at = body;
     let mut clauses = n;
     let mut literals: u32 = 16384;
     let mut unfinished = false;
+    let mut k = 0;
     loop {
         match token_from(text, at) {
             Token::End => {
@@ -420,12 +432,14 @@ fn judge_words(text: &[u8], v: u32, n: u32, body: usize) -> Verdict
                 if clauses == 0 {
                     return Verdict::Refused(Refusal::Limit(start));
                 }
+                numbers[k] = 0;
+                k += 1;
                 clauses -= 1;
                 unfinished = false;
                 at = next;
             }
             Token::Literal {
-                negative: _,
+                negative,
                 magnitude,
                 start,
                 next,
@@ -433,6 +447,8 @@ fn judge_words(text: &[u8], v: u32, n: u32, body: usize) -> Verdict
                 if !literal_fits(v, clauses, literals, magnitude) {
                     return Verdict::Refused(Refusal::Limit(start));
                 }
+                numbers[k] = literal_of(negative, magnitude);
+                k += 1;
                 literals -= 1;
                 unfinished = true;
                 at = next;
@@ -441,11 +457,13 @@ fn judge_words(text: &[u8], v: u32, n: u32, body: usize) -> Verdict
     }
 }
 
-pub fn judge_text(text: &[u8]) -> Verdict
-    ensures { λ r. ⌜ r ≡ judgeText (now (text .entry)) ⌝ }
+// The judgement of a text, and the clauses of a text that fits in `numbers`, which a load has made long enough.
+pub fn judge_text(text: &[u8], numbers: &mut [i32]) -> Verdict
+    requires { ⌜ 20480 ≤ length (now numbers) ⌝ }
+    ensures { λ r. ⌜ (r ≡ judgeText (now (text .entry))) × (clausesKept r (now (numbers .exit)) ≡ bodyOf (now (text .entry)) r) ⌝ }
 {
     match read_header(text) {
         Header::NoHeader(r) => Verdict::Refused(r),
-        Header::Fields { v, n, next } => judge_words(text, v, n, next),
+        Header::Fields { v, n, next } => judge_words(text, v, n, next, numbers),
     }
 }

@@ -14,7 +14,7 @@ use Rattle.state.specs.declared.State.{State}
 use Rattle.tables.specs.Tables.{Tables, classOf, valueOf}
 use Rattle.shape.specs.Shape.{Shape}
 use Rattle.printing.specs.Printing.{clausesText, headerText}
-use Rattle.write.specs.Writable.{total}
+use Rattle.literal.specs.Ranged.{total}
 use Rattle.write.specs.Write.{writtenClauses, writeText}
 use Rattle.write.specs.Gathered.{gathered, unitFor, classFor, unitAt, classAt, writtenAt, formula}
 use Rattle.write.proofs.Gathering.{header-then}

@@ -22,9 +22,10 @@ use Rattle.dimacs.specs.Text.{judgeText, textClauses}
 use Rattle.dimacs.specs.declared.Verdict.{Verdict}
 use Rattle.dimacs.specs.declared.Verdict.the-variants.{Refused, Fits}
 use Rattle.printing.specs.Printing.{textOf, refusedLine}
-use Rattle.write.specs.Writable.{InClauses, total, Writable}
+use Rattle.literal.specs.Ranged.{InClauses, total}
+use Rattle.write.specs.Writable.{Writable}
 use Rattle.write.specs.Write.{AfterWrite, afterWrite, writtenClauses, writeText, writeInto}
-use Rattle.roundtrip.proofs.Accepted.{text-within}
+use Rattle.dimacs.proofs.Accepted.{text-within}
 use Rattle.roundtrip.proofs.ReadBack.{bodyAt, judged, read-back}
 use Rattle.roundtrip.proofs.Written.{written-in}
 use Rattle.simplify.specs.Texts.{emptyTables, simplifyIn, simplifyText, resultOf, shown, shownAfter, unhideText}

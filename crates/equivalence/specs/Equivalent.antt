@@ -8,7 +8,7 @@ use Rattle.literal.specs.Assignments.{Assignment, Satisfies}
 use Rattle.dimacs.specs.Text.{judgeText, textClauses}
 use Rattle.dimacs.specs.declared.Verdict.the-variants.{Fits}
 use Rattle.printing.specs.Printing.{textOf}
-use Rattle.write.specs.Writable.{InClauses}
+use Rattle.literal.specs.Ranged.{InClauses}
 
 -- the input is accepted with V variables; the text is `p cnf V N` and N clauses of literals 1 to V and complements, and an assignment satisfies the input's clauses exactly if it satisfies these
 pub record Equivalent (input text : List ℕ) : Type 0 where

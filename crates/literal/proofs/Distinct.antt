@@ -66,13 +66,6 @@ tautology-repeat xs x g h = tautology-snoc xs x ∙ go (has (negℤ x) xs) refl
     go true t = ap (λ (u : Bool). tautology xs || u) t ∙ or-true (tautology xs) ∙ sym (has-both x xs g h t)
     go false t = ap (λ (u : Bool). tautology xs || u) t ∙ or-false (tautology xs)
 
-pub has-repeat : (l : ℤ) (xs : List ℤ) (x : ℤ) → has x xs ≡ true → has l (xs ++ (x ∷ [])) ≡ has l xs
-has-repeat l xs x h = has-snoc l xs x ∙ go (eqZ x l) refl
-  where
-    go : (t : Bool) → eqZ x l ≡ t → (has l xs || eqZ x l) ≡ has l xs
-    go true t = ap (λ (u : Bool). has l xs || u) t ∙ or-true (has l xs) ∙ sym h ∙ ap (λ (z : ℤ). has z xs) (eqZ-true x l t)
-    go false t = ap (λ (u : Bool). has l xs || u) t ∙ or-false (has l xs)
-
 added : Bool → List ℤ → ℤ → List ℤ
 added true kept x = kept
 added false kept x = kept ++ (x ∷ [])

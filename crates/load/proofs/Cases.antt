@@ -14,7 +14,7 @@ use Rattle.base.specs.Decide.{and?, so?}
 use Rattle.state.specs.States.{state, loadedState}
 use Rattle.state.specs.Answers.{Reply, reply, refusalNumber, refusalPlace}
 use Rattle.state.specs.declared.State.{State}
-use Rattle.state.specs.declared.Pass.the-variants.{Idle, Sweep}
+use Rattle.state.specs.declared.Pass.the-variants.{Sweep}
 use Rattle.tables.specs.Tables.{Tables, tables}
 use Rattle.tables.specs.Long.{longOk, long?}
 use Rattle.tables.specs.Calls.{After}

@@ -8,23 +8,24 @@ use native.Mathlib.Numerals.{add-one}
 use lib.ListN.{length, take, drop, set, replicate, length-set, length-append, take-append-drop, replicate-append-replicate}
 use lib.Seq.{take-suc-set, drop-set-lt, length-take-le, sets, sets-eq, take-at}
 use lib.IntN.{ℤ, pos}
-use Rattle.base.specs.Decide.{Decides, agrees, does-exact}
+use Rattle.base.specs.Decide.{Decides, agrees}
 use Rattle.state.specs.States.{loadedState}
 use Rattle.state.specs.declared.State.{State}
-use Rattle.state.specs.declared.Pass.the-variants.{Idle}
+use Rattle.state.specs.declared.Refusal.{Refusal}
 use Rattle.state.specs.declared.Refusal.the-variants.{Shape}
 use Rattle.state.specs.declared.Answer.the-variants.{Loaded}
 use Rattle.tables.specs.Tables.{Tables, tables}
 use Rattle.tables.specs.Long.{Long, long?, longOk}
-use Rattle.tables.specs.Calls.{answered}
-use Rattle.dimacs.specs.Words.{wordsAt}
-use Rattle.dimacs.specs.Text.{judgeText, bodyOf, clausesOf}
+use Rattle.tables.specs.Calls.{answered, refuse}
+use Rattle.literal.specs.Ranged.{InClause, InClauses}
+use Rattle.dimacs.specs.Text.{judgeText, bodyOf, textClauses}
+use Rattle.dimacs.specs.Numbers.{clausesIn, clausesKept}
 use Rattle.dimacs.specs.declared.Verdict.{Verdict}
 use Rattle.dimacs.specs.declared.Verdict.the-variants.{Refused, Fits}
-use Rattle.load.specs.Load.{loadBy, loadCall, laid, filled, clauseRecords, literalPlaces, variableRecords}
-use Rattle.load.specs.Laid.{cleared, LaidBy, LayReady, askLoad}
+use Rattle.dimacs.proofs.Accepted.{text-within}
+use Rattle.load.specs.Load.{accept, loadBy, loadCall, laid, filled, clauseRecords, literalPlaces, variableRecords}
+use Rattle.load.specs.Laid.{cleared, Layable, LaidBy}
 use Rattle.load.specs.declared.Progress.{Progress}
-use Rattle.load.proofs.Texts.{fits-ready}
 
 -- ---- zeros from k up to i, on the way to `end`, in a table of any numbers
 pub record Clearing {A : Type 0} (z : A) (p₀ : List A) (k end : ℕ) (p : List A) (i : ℕ) : Type 0 where
@@ -118,51 +119,58 @@ own-end {w₀} {w} {v} {i} f h =
     cleared-filled (pos 0) w₀ w (variableRecords 1 v) (2 * v) 2048 t (omega (arith, f .small, f .room)) (f .beyond)
 
 -- ---- the whole load
-module _ {text : List ℕ} {body : ℕ} {c₀ : List ℕ} {l₀ : List ℤ} {c : List ℕ} {l : List ℤ} {p : Progress} {c₂ : List ℕ} {l₂ w₂ : List ℤ} (w₀ : List ℤ) (v n : ℕ)
-    (times : List ℕ) (links : List ℤ) (st : State) where
-  pub lay-done : LaidBy text body c₀ l₀ c l p → 12288 ≤ length c₀ → 16384 ≤ length l₀
+module _ {cs : List (List ℤ)} {c₀ : List ℕ} {l₀ : List ℤ} {c : List ℕ} {l : List ℤ} {p : Progress} {c₂ : List ℕ} {l₂ w₂ : List ℤ} (w₀ : List ℤ) (v n : ℕ) (times : List ℕ) (links : List ℤ) where
+  pub lay-done : LaidBy cs c₀ l₀ c l p → 12288 ≤ length c₀ → 16384 ≤ length l₀
       → c₂ ≡ cleared 0 c (3 * p .clauses) 12288 → l₂ ≡ cleared (pos 0) l (p .start) 16384 → w₂ ≡ filled (pos 0) 2048 (variableRecords 1 v) w₀
-      → answered Loaded (loadedState v n (p .mark)) (tables c₂ l₂ w₂ times links)
-      ≡ loadBy (Fits v n body) (bodyOf text (Fits v n body)) (tables c₀ l₀ w₀ times links) st
+      → answered Loaded (loadedState v n (p .mark)) (tables c₂ l₂ w₂ times links) ≡ accept v n cs (tables c₀ l₀ w₀ times links)
   unfolding laid
   lay-done h hc hl ec el ew =
-      let cs : List (List ℤ) = clausesOf [] (wordsAt (drop body text) body) in
       let pc = ec ∙ cleared-filled 0 c₀ c (clauseRecords 0 cs) (3 * p .clauses) 12288 (h .records) (omega (arith, h .within .0, h .sizes .0)) (h .beyond .0) in
       let pl = el ∙ cleared-filled (pos 0) l₀ l (literalPlaces cs) (p .start) 16384 (h .places) (omega (arith, h .within .1, h .sizes .1)) (h .beyond .1) in
       λ i. answered Loaded (loadedState v n (h .marks i)) (tables (pc i) (pl i) (ew i) times links)
+
+-- a smaller number of variables
+in-clause : (v : ℕ) (c : List ℤ) → v ≤ 1024 → InClause v c → InClause 1024 c
+unfolding InClause
+in-clause v [] h i = tt
+in-clause v (x ∷ c) h i = (i .0, (omega (arith, i .1 .0), in-clause v c h (i .1 .1)))
+
+in-clauses : (v : ℕ) (cs : List (List ℤ)) → v ≤ 1024 → InClauses v cs → InClauses 1024 cs
+unfolding InClauses
+in-clauses v [] h i = tt
+in-clauses v (c ∷ cs) h i = (in-clause v c h (i .0), in-clauses v cs h (i .1))
+
+-- ---- a text by its verdict r, and the numbers that were kept of it
+module _ (text : List ℕ) (ns : List ℤ) {r : Verdict} (judged : (r ≡ judgeText text) × (clausesKept r ns ≡ bodyOf text r)) where
+  module _ {v n body : ℕ} (e : r ≡ Fits v n body) where
+    kept-is : clausesIn n ns ≡ textClauses text
+    kept-is = ap (λ (x : Verdict). clausesKept x ns) (sym e) ∙ judged .1 ∙ ap (bodyOf text) (judged .0)
+
+    -- the clauses of a text that fits can be laid
+    pub text-layable : (c l : ℕ) → 12288 ≤ c → 16384 ≤ l → (v ≤ 1024) × Layable n ns c l
+    text-layable c l hc hl =
+        let W = text-within text v n body (sym (judged .0) ∙ e) in
+        (W .0, record { number = W .1 .0; each = rw kept-is (in-clauses v (textClauses text) (W .0) (W .1 .1 .each)); size = rw kept-is (W .1 .1 .size); clauseRoom = hc; literalRoom = hl })
+
+    pub text-accepted : (t : Tables) (st : State) → accept v n (clausesIn n ns) t ≡ loadBy (judgeText text) (textClauses text) t st
+    text-accepted t st = ap (λ (cs : List (List ℤ)). accept v n cs t) kept-is ∙ ap (λ (x : Verdict). loadBy x (textClauses text) t st) (sym e ∙ judged .0)
+
+  pub text-refused : {q : Refusal} → r ≡ Refused q → (t : Tables) (st : State) → refuse q st t ≡ loadBy (judgeText text) (textClauses text) t st
+  text-refused e t st = ap (λ (x : Verdict). loadBy x (textClauses text) t st) (sym e ∙ judged .0)
 
 pub long-agrees : (t : Tables) {b : Bool} → Decides b (Long t) → b ≡ longOk t
 unfolding longOk
 long-agrees t h = agrees h (long? t)
 
-pub ask-fits : (text : List ℕ) (t : Tables) {b : Bool} → Decides b (Long t) → b ≡ true → judgeText text ≡ askLoad text t
-unfolding askLoad
-ask-fits text t h e = rw (sym (long-agrees t h) ∙ e, askLoad)
+-- a load by the test of the tables' lengths
+pub load-short : (text : List ℕ) (t : Tables) (st : State) {b : Bool} → Decides b (Long t) → b ≡ false → refuse Shape st t ≡ loadCall text t st
+unfolding loadCall
+load-short text t st h e = rw (sym (long-agrees t h) ∙ e, loadCall)
 
-pub ask-short : (text : List ℕ) (t : Tables) {b : Bool} → Decides b (Long t) → b ≡ false → Refused Shape ≡ askLoad text t
-unfolding askLoad
-ask-short text t h e = rw (sym (long-agrees t h) ∙ e, askLoad)
+pub load-long : (text : List ℕ) (t : Tables) (st : State) {b : Bool} → Decides b (Long t) → b ≡ true → loadBy (judgeText text) (textClauses text) t st ≡ loadCall text t st
+unfolding loadCall
+load-long text t st h e = rw (sym (long-agrees t h) ∙ e, loadCall)
 
--- a text that fits and tables that are long enough
-pub ask-ready : (text : List ℕ) (t : Tables) (v n body : ℕ) → askLoad text t ≡ Fits v n body → LayReady text v n body (length (t .clauses)) (length (t .literals)) (length (t .variables))
-unfolding askLoad longOk
-ask-ready text t v n body e = go (longOk t) refl
-  where
-    go : (b : Bool) → longOk t ≡ b → LayReady text v n body (length (t .clauses)) (length (t .literals)) (length (t .variables))
-    go true b =
-        let f = fits-ready text v n body (rw (b, askLoad) at e) in
-        let L : Long t = does-exact (long? t) .holds b in
-        record { small = f .0; number = f .1 .0; fits = f .1 .1; clauseRoom = L .clauses; literalRoom = L .literals; variableRoom = L .variables }
-    go false b = let q : Refused Shape ≡ Fits v n body = rw (b, askLoad) at e in absurd (let z : _≡_ {A = ℕ} 0 1 = cc in omega arith)
-
--- a load is what was asked
-load-asked : (text : List ℕ) (t : Tables) (st : State) → loadBy (askLoad text t) (bodyOf text (askLoad text t)) t st ≡ loadCall text t st
-unfolding askLoad loadCall
-load-asked text t st = go (longOk t) refl
-  where
-    go : (b : Bool) → longOk t ≡ b → loadBy (askLoad text t) (bodyOf text (askLoad text t)) t st ≡ loadCall text t st
-    go true e = rw (e, askLoad, loadCall)
-    go false e = rw (e, askLoad, loadCall)
-
-pub load-as : (text : List ℕ) (t : Tables) (st : State) (x : Verdict) → askLoad text t ≡ x → loadBy x (bodyOf text x) t st ≡ loadCall text t st
-load-as text t st x e = ap (λ (y : Verdict). loadBy y (bodyOf text y) t st) (sym e) ∙ load-asked text t st
+-- what a load of a text asks of the tables
+pub long-rooms : (t : Tables) {b : Bool} → Decides b (Long t) → b ≡ true → (12288 ≤ length (t .clauses)) × ((16384 ≤ length (t .literals)) × (2048 ≤ length (t .variables)))
+long-rooms t h e = let L : Long t = h .holds e in (L .clauses, (L .literals, L .variables))

@@ -10,7 +10,6 @@ use lib.IntN.{ℤ, pos}
 use Rattle.literal.specs.Clauses.{distinct, tautology}
 use Rattle.state.specs.States.{loadedState}
 use Rattle.state.specs.declared.State.{State}
-use Rattle.state.specs.declared.Pass.the-variants.{Idle}
 use Rattle.state.specs.declared.Refusal.the-variants.{Shape}
 use Rattle.state.specs.declared.Answer.the-variants.{Loaded}
 use Rattle.tables.specs.Tables.{Tables, tables}
@@ -53,9 +52,13 @@ laid v cs t =
     tables (filled 0 12288 (clauseRecords 0 cs) (t .clauses)) (filled (pos 0) 16384 (literalPlaces cs) (t .literals)) (filled (pos 0) 2048 (variableRecords 1 v) (t .variables)) (t .times)
     (t .links)
 
+-- the clauses cs over v variables, n of them, are loaded
+abbrev pub accept : ℕ → ℕ → List (List ℤ) → Tables → After
+accept v n cs t = answered Loaded (loadedState v n (anyEmpty cs)) (laid v cs t)
+
 abbrev pub loadBy : Verdict → List (List ℤ) → Tables → State → After
 loadBy (Refused r) cs t st = refuse r st t
-loadBy (Fits v n _) cs t st = answered Loaded (loadedState v n (anyEmpty cs)) (laid v cs t)
+loadBy (Fits v n _) cs t st = accept v n cs t
 
 -- the call: a table that is shorter than stated gets 1; else the text is judged, and its clauses are laid
 unfoldable pub loadCall : List ℕ → Tables → State → After

@@ -1,48 +1,89 @@
-// A load: the text is judged as a whole, and only then are its clauses laid in the tables, so that a refused load changes
-// nothing. The time is linear in the text: `seen` holds for each slot the number of the last clause in which its literal was
-// read, so one comparison each tells whether a literal and its complement were read in the present clause.
+// A load: the text is judged as a whole, each token being read once and kept as a number, and only then are its clauses laid in the
+// tables, so that a refused load changes nothing. A clause is collected as it is written, and then its repeats are removed. The time is
+// linear in the text.
 ghost use mathlib.Core.Path.{_≡_};
 ghost use mathlib.Core.List.{List};
 ghost use Prim.Native.Nat.{ℕ, _+_, _*_, _≤_};
-ghost use lib.ListN.{length};
+ghost use lib.ListN.{length, drop, replicate};
+ghost use lib.Seq.{sets};
 ghost use lib.IntN.{ℤ, pos};
-ghost use Rattle.dimacs.specs.Text.{literalOf, bodyOf};
-ghost use Rattle.dimacs.specs.declared.Verdict;
+ghost use Rattle.literal.specs.Clauses.{distinct};
+ghost use Rattle.literal.specs.Holding.{holding};
+ghost use Rattle.dimacs.specs.Text.{judgeText, textClauses};
+ghost use Rattle.dimacs.specs.Numbers.{firstClause, clausesIn};
 ghost use Rattle.state.specs.declared.State.{State};
 ghost use Rattle.tables.specs.Lent.{lent, returned, unlent};
 ghost use Rattle.tables.specs.Calls.{after};
-ghost use Rattle.load.specs.Load.{variableRecords, filled, loadBy, loadCall};
-ghost use Rattle.load.specs.Laid.{work, keptEnd, flag, putClauseRecord, endClause, addLiteral, cleared, ClauseEnd, Adding, Accepted, LaidBy, LayReady, askLoad};
-use dimacs::Token;
+ghost use Rattle.load.specs.Load.{variableRecords, filled, accept, loadBy, loadCall};
+ghost use Rattle.load.specs.Laid.{written, keptSize, flag, putClauseRecord, nextClause, cleared, Collectable, ClauseEnd, Layable, LaidBy};
 use dimacs::Verdict;
 use state::Answer;
 use state::Outcome;
 use state::Refusal;
 use state::State;
 
-// What is laid so far: the number of clauses, where the literals of the next clause start and end, whether that clause has
-// v and -v, and whether one of the laid clauses is empty.
+// A clause that was laid: how many literals it has as written, how many of them are kept, and whether it has v and -v.
+struct Written {
+    size: usize,
+    kept: usize,
+    both: bool,
+}
+
+// What is laid so far: the number of clauses, where the literals of the next clause start, where its numbers begin, and whether
+// one of the laid clauses is empty.
 struct Progress {
     clauses: usize,
     start: usize,
-    end: usize,
-    dropped: bool,
+    at: usize,
     mark: bool,
 }
 
-fn literal_of(negative: bool, magnitude: u32) -> i32
-    requires { ⌜ magnitude ≤ 1024 ⌝ }
-    ensures { λ r. ⌜ r ≡ literalOf negative magnitude ⌝ }
+// Copies the clause whose numbers begin at `at` into the literal table from `start` on, as it is written. Where it ends there.
+fn collect(numbers: &[i32], at: usize, literals: &mut [i32], start: usize) -> usize
+    requires { ⌜ Collectable (now numbers) at start (length (now literals)) ⌝ }
+    ensures { λ r. ⌜ (r ≡ start + length (firstClause (drop at (now (numbers .entry))))) × (now (literals .exit) ≡ sets (now (literals .entry)) start (firstClause (drop at (now (numbers .entry))))) ⌝ }
 {
-    let m = magnitude as i32;
-    if negative { -m } else { m }
+    let mut i = at;
+    let mut end = start;
+    while i < numbers.len() {
+        let l = numbers[i];
+        if l == 0 {
+            return end;
+        }
+        literals[end] = l;
+        end += 1;
+        i += 1;
+    }
+    end
 }
 
-// Where the kept literals of the clause end: a dropped clause takes no place.
-fn kept_end(p: Progress) -> usize
-    ensures { λ r. ⌜ r ≡ keptEnd p ⌝ }
+// The literals of the clause whose numbers begin at `at`: collected from `start` on, then without repeats.
+fn lay_literals(
+    numbers: &[i32],
+    at: usize,
+    literals: &mut [i32],
+    start: usize,
+    marks: &mut [u32],
+) -> Written
+    requires { ⌜ Collectable (now numbers) at start (length (now literals)) × (now marks ≡ replicate 2048 0) ⌝ }
+    ensures { λ r. ⌜ (r ≡ written (firstClause (drop at (now (numbers .entry)))))
+        × ((now (literals .exit) ≡ sets (now (literals .entry)) start (holding (distinct (firstClause (drop at (now (numbers .entry))))) (firstClause (drop at (now (numbers .entry))))))
+        × (now (marks .exit) ≡ now (marks .entry))) ⌝ }
 {
-    if p.dropped { p.start } else { p.end }
+    let end = collect(numbers, at, literals, start);
+    let kept = repeats::remove_repeats(&mut literals[start..end], marks);
+    Written {
+        size: end - start,
+        kept: kept.count,
+        both: kept.both,
+    }
+}
+
+// How many places a clause takes: a dropped clause takes none.
+fn kept_size(c: Written) -> usize
+    ensures { λ r. ⌜ r ≡ keptSize c ⌝ }
+{
+    if c.both { 0 } else { c.kept }
 }
 
 fn standing_flag(dropped: bool) -> u32
@@ -62,92 +103,49 @@ fn put_record(clauses: &mut [u32], k: usize, start: u32, size: u32, standing: u3
     clauses[i + 2] = standing;
 }
 
-// A clause ends: its record is laid, and the next clause starts behind it. It was empty if its literals end where they start.
-fn end_clause(clauses: &mut [u32], p: Progress) -> Progress
-    requires { ⌜ ClauseEnd (length (now clauses)) p ⌝ }
-    ensures { λ r. ⌜ ((literals : List ℤ) (seen : List ℕ) → work (now (clauses .exit)) literals seen r ≡ endClause (work (now (clauses .entry)) literals seen p)) ⌝ }
+// A clause's literals are laid: its record follows, and the next clause starts behind it. A clause that is written empty sets the mark.
+fn end_clause(clauses: &mut [u32], p: Progress, c: Written) -> Progress
+    requires { ⌜ ClauseEnd (length (now clauses)) p c ⌝ }
+    ensures { λ r. ⌜ (r ≡ nextClause p c) × (now (clauses .exit) ≡ putClauseRecord (now (clauses .entry)) (p .clauses) (p .start) (keptSize c) (flag (c .both))) ⌝ }
 {
-    let start = p.start;
-    let end = kept_end(p);
+    let size = kept_size(c);
     put_record(
         clauses,
         p.clauses,
-        start as u32,
-        (end - start) as u32,
-        standing_flag(p.dropped),
+        p.start as u32,
+        size as u32,
+        standing_flag(c.both),
     );
     Progress {
         clauses: p.clauses + 1,
-        start: end,
-        end,
-        dropped: false,
-        mark: p.mark || p.end == start,
+        start: p.start + size,
+        at: p.at + c.size + 1,
+        mark: p.mark || c.size == 0,
     }
 }
 
-// A literal is read. A repeat changes nothing: what it says of the clause is known since the first.
-fn add_literal(literals: &mut [i32], seen: &mut [u32], p: Progress, l: i32) -> Progress
-    requires { ⌜ Adding (length (now literals)) (length (now seen)) p l ⌝ }
-    ensures { λ r. ⌜ ((clauses : List ℕ) → work clauses (now (literals .exit)) (now (seen .exit)) r ≡ addLiteral l (work clauses (now (literals .entry)) (now (seen .entry)) p)) ⌝ }
-{
-    let number = (p.clauses + 1) as u32;
-    let slot = literal::slot_of(l);
-    if seen[slot] == number {
-        return p;
-    }
-    let other = literal::slot_of(literal::complement(l));
-    let dropped = p.dropped || seen[other] == number;
-    let end = p.end;
-    literals[end] = l;
-    seen[slot] = number;
-    Progress {
-        clauses: p.clauses,
-        start: p.start,
-        end: end + 1,
-        dropped,
-        mark: p.mark,
-    }
-}
-
-// The clauses of a text that was judged to fit, from `body` on. `seen` holds 0 at first, which is no clause's number.
+// The n clauses in the numbers of a text that was judged to fit. No mark is set between two clauses.
 fn lay_clauses(
-    text: &[u8],
-    body: usize,
+    numbers: &[i32],
+    n: usize,
     clauses: &mut [u32],
     literals: &mut [i32],
-    seen: &mut [u32],
+    marks: &mut [u32],
 ) -> Progress
-    requires { ⌜ Accepted (now text) body (length (now clauses)) (length (now literals)) (now seen) ⌝ }
-    ensures { λ r. ⌜ LaidBy (now (text .entry)) body (now (clauses .entry)) (now (literals .entry)) (now (clauses .exit)) (now (literals .exit)) r ⌝ }
+    requires { ⌜ Layable n (now numbers) (length (now clauses)) (length (now literals)) × (now marks ≡ replicate 2048 0) ⌝ }
+    ensures { λ r. ⌜ LaidBy (clausesIn n (now (numbers .entry))) (now (clauses .entry)) (now (literals .entry)) (now (clauses .exit)) (now (literals .exit)) r ⌝ }
 {
-    let mut at = body;
     let mut p = Progress {
         clauses: 0,
         start: 0,
-        end: 0,
-        dropped: false,
+        at: 0,
         mark: false,
     };
-    loop {
-        match dimacs::token_from(text, at) {
-            Token::End => return p,
-            // no token of a text that fits is bad
-            Token::Bad(_) => return p,
-            Token::Zero { start: _, next } => {
-                p = end_clause(clauses, p);
-                at = next;
-            }
-            Token::Literal {
-                negative,
-                magnitude,
-                start: _,
-                next,
-            } => {
-                p = add_literal(literals, seen, p, literal_of(negative, magnitude));
-                at = next;
-            }
-        }
+    while p.clauses < n {
+        let c = lay_literals(numbers, p.at, literals, p.start, marks);
+        p = end_clause(clauses, p, c);
     }
+    p
 }
 
 // Zeros from `from` up to `end`.
@@ -190,22 +188,21 @@ fn lay_variables(variables: &mut [i32], v: u32)
     clear_literals(variables, 2 * n, 2048);
 }
 
-// The tables of a text that was judged to fit, and the state that goes with them.
+// The tables of the n clauses in the numbers, and the state that goes with them.
 fn lay(
-    text: &[u8],
+    numbers: &[i32],
     v: u32,
     n: u32,
-    body: usize,
     clauses: &mut [u32],
     literals: &mut [i32],
     variables: &mut [i32],
 ) -> Outcome
-    requires { ⌜ LayReady (now text) v n body (length (now clauses)) (length (now literals)) (length (now variables)) ⌝ }
-    ensures { λ r. ⌜ ((times : List ℕ) (links : List ℤ) (st : State) → after r (returned clauses literals variables (unlent times) (unlent links))
-        ≡ loadBy (Verdict.Fits v n body) (bodyOf (now (text .entry)) (Verdict.Fits v n body)) (lent clauses literals variables (unlent times) (unlent links)) st) ⌝ }
+    requires { ⌜ (v ≤ 1024) × (Layable n (now numbers) (length (now clauses)) (length (now literals)) × (2048 ≤ length (now variables))) ⌝ }
+    ensures { λ r. ⌜ ((times : List ℕ) (links : List ℤ) → after r (returned clauses literals variables (unlent times) (unlent links))
+        ≡ accept v n (clausesIn n (now (numbers .entry))) (lent clauses literals variables (unlent times) (unlent links))) ⌝ }
 {
-    let mut seen = [0u32; 2048];
-    let p = lay_clauses(text, body, clauses, literals, &mut seen);
+    let mut marks = [0u32; 2048];
+    let p = lay_clauses(numbers, n as usize, clauses, literals, &mut marks);
     clear_words(clauses, 3 * p.clauses, 12288);
     clear_literals(literals, p.start, 16384);
     lay_variables(variables, v);
@@ -215,21 +212,25 @@ fn lay(
     }
 }
 
-// The topmost refusal that applies, or V, N and where the clauses begin.
-fn ask_load(
+// A text into tables that are long enough. A text has at most 16,384 literals and 4,096 clause ends, so many numbers are kept.
+fn load_text(
     text: &[u8],
-    clauses: &[u32],
-    literals: &[i32],
-    variables: &[i32],
-    times: &[u32],
-    links: &[i32],
-) -> Verdict
-    ensures { λ r. ⌜ r ≡ askLoad (now (text .entry)) (lent clauses literals variables times links) ⌝ }
+    clauses: &mut [u32],
+    literals: &mut [i32],
+    variables: &mut [i32],
+    st: State,
+) -> Outcome
+    requires { ⌜ (12288 ≤ length (now clauses)) × ((16384 ≤ length (now literals)) × (2048 ≤ length (now variables))) ⌝ }
+    ensures { λ r. ⌜ ((times : List ℕ) (links : List ℤ) → after r (returned clauses literals variables (unlent times) (unlent links))
+        ≡ loadBy (judgeText (now (text .entry))) (textClauses (now (text .entry))) (lent clauses literals variables (unlent times) (unlent links)) st) ⌝ }
 {
-    if tables::long_ok(clauses, literals, variables, times, links) {
-        dimacs::judge_text(text)
-    } else {
-        Verdict::Refused(Refusal::Shape)
+    let mut numbers = [0i32; 20480];
+    match dimacs::judge_text(text, &mut numbers) {
+        Verdict::Refused(r) => Outcome {
+            answer: Answer::Refused(r),
+            state: st,
+        },
+        Verdict::Fits { v, n, body: _ } => lay(&numbers, v, n, clauses, literals, variables),
     }
 }
 
@@ -247,11 +248,11 @@ pub fn load(
     ensures { λ r. ⌜ after r (returned clauses literals variables times links)
         ≡ loadCall (now (text .entry)) (lent clauses literals variables times links) st ⌝ }
 {
-    match ask_load(text, clauses, literals, variables, times, links) {
-        Verdict::Refused(r) => Outcome {
-            answer: Answer::Refused(r),
+    if !tables::long_ok(clauses, literals, variables, times, links) {
+        return Outcome {
+            answer: Answer::Refused(Refusal::Shape),
             state: st,
-        },
-        Verdict::Fits { v, n, body } => lay(text, v, n, body, clauses, literals, variables),
+        };
     }
+    load_text(text, clauses, literals, variables, st)
 }

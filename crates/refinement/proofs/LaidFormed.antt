@@ -17,7 +17,7 @@ use Rattle.visits.specs.Formed.{Formed, FitClause}
 use Rattle.visits.proofs.Fitting.{fit-none}
 use Rattle.repeats.proofs.Repeats.{All, distinct-short, distinct-none, distinct-all, distinct-once}
 use Rattle.merge_visits.proofs.Repeats.{Own, once-fits}
-use Rattle.write.specs.Writable.{InClause, InClauses, total}
+use Rattle.literal.specs.Ranged.{InClause, InClauses, total}
 use Rattle.roundtrip.proofs.Plain.{distinct-plain}
 use Rattle.load.specs.Load.{keptOf, clauseRecords, literalPlaces, variableRecords, filled, anyEmpty, laid}
 use Rattle.refinement.proofs.Laid.{nth, before, flagged, Recorded, record-at, place-at, before-rises, before-all, own-at}

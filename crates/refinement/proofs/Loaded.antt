@@ -25,8 +25,8 @@ use Rattle.visits.specs.Formed.{Formed}
 use Rattle.visits.proofs.Forming.{formed-shape}
 use Rattle.dimacs.specs.Text.{judgeText, textClauses}
 use Rattle.dimacs.specs.declared.Verdict.the-variants.{Fits}
-use Rattle.write.specs.Writable.{InClause, InClauses, total}
-use Rattle.roundtrip.proofs.Accepted.{text-within}
+use Rattle.literal.specs.Ranged.{InClause, InClauses, total}
+use Rattle.dimacs.proofs.Accepted.{text-within}
 use Rattle.roundtrip.proofs.Reread.{text-loads}
 use Rattle.load.specs.Load.{keptOf, literalPlaces, anyEmpty, laid, loadCall}
 use Rattle.merge.proofs.Truth.{some-distinct, tautology-true}

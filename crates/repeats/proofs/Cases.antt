@@ -6,7 +6,7 @@ use lib.IntN.{pos, negsuc}
 use Rattle.base.specs.Lists.{filter, numbers}
 use Rattle.literal.specs.Clauses.{distinct, tautology}
 use Rattle.repeats.specs.First.{firstPlaces}
-use Rattle.repeats.specs.Marks.{marked}
+use Rattle.repeats.specs.Marks.{withMark}
 
 -- 3 −1 3 2 −1
 repeats : (firstPlaces (pos 3 ∷ negsuc 0 ∷ pos 3 ∷ pos 2 ∷ negsuc 0 ∷ []) ≡ 0 ∷ 1 ∷ 3 ∷ [])
@@ -31,5 +31,5 @@ unfolding firstPlaces filter numbers
 nothing = (refl, refl)
 
 -- marks of 2 and −1, on four slots
-marks : marked 1 (pos 2 ∷ negsuc 0 ∷ []) (0 ∷ 0 ∷ 0 ∷ 0 ∷ []) ≡ 0 ∷ 1 ∷ 1 ∷ 0 ∷ []
+marks : withMark 1 (pos 2 ∷ negsuc 0 ∷ []) (0 ∷ 0 ∷ 0 ∷ 0 ∷ []) ≡ 0 ∷ 1 ∷ 1 ∷ 0 ∷ []
 marks = refl

@@ -15,16 +15,16 @@ use Rattle.literal.specs.Literals.{Literal, slotOf, litAt, eqZ}
 use Rattle.literal.specs.Clauses.{has}
 use Rattle.literal.proofs.Signed.{eq-eqZ, ne-eqZ}
 use Rattle.literal.proofs.Laws.{slot-lit, lit-slot, slot-below}
-use Rattle.repeats.specs.Marks.{marked}
+use Rattle.repeats.specs.Marks.{withMark}
 use Rattle.repeats.proofs.Repeats.{All}
 
-pub marked-length : (m : ℕ) (xs : List ℤ) (marks : List ℕ) → length (marked m xs marks) ≡ length marks
-marked-length m [] marks = refl
-marked-length m (x ∷ xs) marks = marked-length m xs (set marks (slotOf x) m) ∙ length-set marks (slotOf x) m
+pub withMark-length : (m : ℕ) (xs : List ℤ) (marks : List ℕ) → length (withMark m xs marks) ≡ length marks
+withMark-length m [] marks = refl
+withMark-length m (x ∷ xs) marks = withMark-length m xs (set marks (slotOf x) m) ∙ length-set marks (slotOf x) m
 
-pub marked-snoc : (m : ℕ) (xs : List ℤ) (x : ℤ) (marks : List ℕ) → marked m (xs ++ (x ∷ [])) marks ≡ set (marked m xs marks) (slotOf x) m
-marked-snoc m [] x marks = refl
-marked-snoc m (y ∷ xs) x marks = marked-snoc m xs x (set marks (slotOf y) m)
+pub withMark-snoc : (m : ℕ) (xs : List ℤ) (x : ℤ) (marks : List ℕ) → withMark m (xs ++ (x ∷ [])) marks ≡ set (withMark m xs marks) (slotOf x) m
+withMark-snoc m [] x marks = refl
+withMark-snoc m (y ∷ xs) x marks = withMark-snoc m xs x (set marks (slotOf y) m)
 
 -- the mark of a slot: m if its literal is in the list, and what it was if not
 abbrev markBy : Bool → ℕ → ℕ → ℕ
@@ -35,10 +35,10 @@ markBy false m old = old
 pub slot-inside : {x : ℤ} (marks : List ℕ) → Literal 1024 x → length marks ≡ 2048 → slotOf x < length marks
 slot-inside {x} marks X e = omega (arith, slot-below x 1024 (X .above) (X .within), e)
 
-marked-at : (m s : ℕ) (xs : List ℤ) (marks : List ℕ) → All (Literal 1024) xs → length marks ≡ 2048 → getD (marked m xs marks) s 0 ≡ markBy (has (litAt s) xs) m (getD marks s 0)
-marked-at m s [] marks A e = refl
-marked-at m s (y ∷ ys) marks A e =
-    marked-at m s ys (set marks (slotOf y) m) (A .1) (length-set marks (slotOf y) m ∙ e)
+withMark-at : (m s : ℕ) (xs : List ℤ) (marks : List ℕ) → All (Literal 1024) xs → length marks ≡ 2048 → getD (withMark m xs marks) s 0 ≡ markBy (has (litAt s) xs) m (getD marks s 0)
+withMark-at m s [] marks A e = refl
+withMark-at m s (y ∷ ys) marks A e =
+    withMark-at m s ys (set marks (slotOf y) m) (A .1) (length-set marks (slotOf y) m ∙ e)
     ∙ ⊎-elim
     (λ (q : slotOf y ≡ s).
     let here : getD (set marks (slotOf y) m) s 0 ≡ m = ap (λ (j : ℕ). getD (set marks (slotOf y) m) j 0) (sym q) ∙ getD-set-same marks (slotOf y) m 0 (slot-inside marks (A .0) e) in
@@ -57,27 +57,27 @@ marked-at m s (y ∷ ys) marks A e =
 -- ---- the marks of a clause, on marks that were 0
 
 module _ (xs : List ℤ) (A : All (Literal 1024) xs) where
-  mark-is : (x : ℤ) → 0 < natAbs x → getD (marked 1 xs (replicate 2048 0)) (slotOf x) 0 ≡ markBy (has x xs) 1 0
+  mark-is : (x : ℤ) → 0 < natAbs x → getD (withMark 1 xs (replicate 2048 0)) (slotOf x) 0 ≡ markBy (has x xs) 1 0
   mark-is x above =
-      marked-at 1 (slotOf x) xs (replicate 2048 0) A (length-replicate {A = ℕ} 2048 0)
+      withMark-at 1 (slotOf x) xs (replicate 2048 0) A (length-replicate {A = ℕ} 2048 0)
       ∙ ap (markBy (has (litAt (slotOf x)) xs) 1) (getD-zeros 2048 (slotOf x))
       ∙ ap (λ (l : ℤ). markBy (has l xs) 1 0) (lit-slot x above)
 
-  pub unmarked-absent : (x : ℤ) → 0 < natAbs x → getD (marked 1 xs (replicate 2048 0)) (slotOf x) 0 ≡ 0 → has x xs ≡ false
+  pub unmarked-absent : (x : ℤ) → 0 < natAbs x → getD (withMark 1 xs (replicate 2048 0)) (slotOf x) 0 ≡ 0 → has x xs ≡ false
   unmarked-absent x above e = go (has x xs) (sym (mark-is x above) ∙ e)
     where
       go : (b : Bool) → markBy b 1 0 ≡ 0 → b ≡ false
       go true q = absurd (omega (arith, q))
       go false q = refl
 
-  pub marked-there : (x : ℤ) → 0 < natAbs x → (getD (marked 1 xs (replicate 2048 0)) (slotOf x) 0 ≡ 0 → ⊥) → has x xs ≡ true
-  marked-there x above d = go (has x xs) (λ q. d (mark-is x above ∙ q))
+  pub withMark-there : (x : ℤ) → 0 < natAbs x → (getD (withMark 1 xs (replicate 2048 0)) (slotOf x) 0 ≡ 0 → ⊥) → has x xs ≡ true
+  withMark-there x above d = go (has x xs) (λ q. d (mark-is x above ∙ q))
     where
       go : (b : Bool) → (markBy b 1 0 ≡ 0 → ⊥) → b ≡ true
       go true n = refl
       go false n = absurd (n refl)
 
-  pub mark-tested : (x : ℤ) → 0 < natAbs x → eqb (getD (marked 1 xs (replicate 2048 0)) (slotOf x) 0) 1 ≡ has x xs
+  pub mark-tested : (x : ℤ) → 0 < natAbs x → eqb (getD (withMark 1 xs (replicate 2048 0)) (slotOf x) 0) 1 ≡ has x xs
   mark-tested x above = ap (λ (m : ℕ). eqb m 1) (mark-is x above) ∙ go (has x xs)
     where
       go : (b : Bool) → eqb (markBy b 1 0) 1 ≡ b
@@ -85,13 +85,13 @@ module _ (xs : List ℤ) (A : All (Literal 1024) xs) where
       go false = refl
 
   -- taken back, no mark is left
-  pub marks-back : marked 0 xs (marked 1 xs (replicate 2048 0)) ≡ replicate 2048 0
+  pub marks-back : withMark 0 xs (withMark 1 xs (replicate 2048 0)) ≡ replicate 2048 0
   marks-back =
-      ext-getD 0 (marked 0 xs (marked 1 xs (replicate 2048 0))) (replicate 2048 0)
-      (marked-length 0 xs (marked 1 xs (replicate 2048 0)) ∙ marked-length 1 xs (replicate 2048 0))
+      ext-getD 0 (withMark 0 xs (withMark 1 xs (replicate 2048 0))) (replicate 2048 0)
+      (withMark-length 0 xs (withMark 1 xs (replicate 2048 0)) ∙ withMark-length 1 xs (replicate 2048 0))
       (λ i lt.
-      marked-at 0 i xs (marked 1 xs (replicate 2048 0)) A (marked-length 1 xs (replicate 2048 0) ∙ length-replicate {A = ℕ} 2048 0)
-      ∙ ap (markBy (has (litAt i) xs) 0) (marked-at 1 i xs (replicate 2048 0) A (length-replicate {A = ℕ} 2048 0) ∙ ap (markBy (has (litAt i) xs) 1) (getD-zeros 2048 i))
+      withMark-at 0 i xs (withMark 1 xs (replicate 2048 0)) A (withMark-length 1 xs (replicate 2048 0) ∙ length-replicate {A = ℕ} 2048 0)
+      ∙ ap (markBy (has (litAt i) xs) 0) (withMark-at 1 i xs (replicate 2048 0) A (length-replicate {A = ℕ} 2048 0) ∙ ap (markBy (has (litAt i) xs) 1) (getD-zeros 2048 i))
       ∙ gone (has (litAt i) xs)
       ∙ sym (getD-zeros 2048 i))
     where

@@ -9,12 +9,12 @@ use lib.IntN.{ℤ, pos}
 use Rattle.literal.specs.Literals.{Literal}
 use Rattle.literal.specs.Clauses.{distinct}
 use Rattle.literal.specs.Holding.{holding}
-use Rattle.repeats.specs.Marks.{Markable, Unmarkable, FirstsKept, marked}
-use Rattle.repeats.specs.declared.Kept.{Kept}
+use Rattle.repeats.specs.Marks.{Markable, Unmarkable, FirstsKept, withMark}
+use Rattle.repeats.specs.declared.Distinct.{Distinct}
 use Rattle.repeats.proofs.Repeats.{All, all-of, all-at, distinct-all, distinct-short}
-use Rattle.repeats.proofs.Marks.{marked-length, marks-back}
+use Rattle.repeats.proofs.Marks.{withMark-length, marks-back}
 
-module _ {p : List ℤ} {m : List ℕ} {q : List ℤ} {m′ : List ℕ} {r : Kept} (M : Markable p m) (F : FirstsKept p m q m′ r) where
+module _ {p : List ℤ} {m : List ℕ} {q : List ℤ} {m′ : List ℕ} {r : Distinct} (M : Markable p m) (F : FirstsKept p m q m′ r) where
   same : length q ≡ length p
   same = ap length (F .front) ∙ length-append (distinct p) (drop (length (distinct p)) p) ∙ omega (arith, length-drop (length (distinct p)) p, distinct-short p)
 
@@ -27,17 +27,17 @@ module _ {p : List ℤ} {m : List ℕ} {q : List ℤ} {m′ : List ℕ} {r : Kep
   literals : All (Literal 1024) (distinct p)
   literals = distinct-all (Literal 1024) p (all-of (Literal 1024) p (M .literals))
 
-  marks-are : m′ ≡ marked 1 (distinct p) (replicate 2048 0)
-  marks-are = F .marks-set ∙ ap (marked 1 (distinct p)) (M .blank)
+  marks-are : m′ ≡ withMark 1 (distinct p) (replicate 2048 0)
+  marks-are = F .marks-set ∙ ap (withMark 1 (distinct p)) (M .blank)
 
   pub front-unmarkable : Unmarkable (take (r .count) q) m′
   front-unmarkable = record {
     literals = all-at (Literal 1024) (take (r .count) q) (subst (All (Literal 1024)) (sym front-is) literals);
-    slots = ap length marks-are ∙ marked-length 1 (distinct p) (replicate 2048 0) ∙ length-replicate {A = ℕ} 2048 0;
+    slots = ap length marks-are ∙ withMark-length 1 (distinct p) (replicate 2048 0) ∙ length-replicate {A = ℕ} 2048 0;
   }
 
-  pub marks-again : {m″ : List ℕ} → m″ ≡ marked 0 (take (r .count) q) m′ → m″ ≡ m
-  marks-again e = e ∙ (λ j. marked 0 (front-is j) (marks-are j)) ∙ marks-back (distinct p) literals ∙ sym (M .blank)
+  pub marks-again : {m″ : List ℕ} → m″ ≡ withMark 0 (take (r .count) q) m′ → m″ ≡ m
+  marks-again e = e ∙ (λ j. withMark 0 (front-is j) (marks-are j)) ∙ marks-back (distinct p) literals ∙ sym (M .blank)
 
   pub firsts-held : {q′ : List ℤ} → q′ ≡ take (r .count) q ++ replicate (length q - r .count) (pos 0) → q′ ≡ holding (distinct p) p
   firsts-held e = e ∙ (λ j. front-is j ++ replicate (same j - F .count j) (pos 0))

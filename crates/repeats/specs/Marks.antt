@@ -6,12 +6,12 @@ use lib.ListN.{length, drop, getD, set, replicate}
 use lib.IntN.{ℤ, pos}
 use Rattle.literal.specs.Literals.{Literal, slotOf}
 use Rattle.literal.specs.Clauses.{distinct, tautology}
-use Rattle.repeats.specs.declared.Kept.{Kept}
+use Rattle.repeats.specs.declared.Distinct.{Distinct}
 
 -- the marks once each literal of the list has mark m
-abbrev pub marked : ℕ → List ℤ → List ℕ → List ℕ
-marked m [] marks = marks
-marked m (l ∷ ls) marks = marked m ls (set marks (slotOf l) m)
+abbrev pub withMark : ℕ → List ℤ → List ℕ → List ℕ
+withMark m [] marks = marks
+withMark m (l ∷ ls) marks = withMark m ls (set marks (slotOf l) m)
 
 -- literals of at most 1,024 variables, and no mark
 pub record Markable (part : List ℤ) (marks : List ℕ) : Type 0 where
@@ -24,8 +24,8 @@ pub record Unmarkable (part : List ℤ) (marks : List ℕ) : Type 0 where
   pub slots : length marks ≡ 2048
 
 -- the first of each literal of `part` stands in front of q and is marked; nothing behind the kept ones is written
-pub record FirstsKept (part : List ℤ) (marks : List ℕ) (q : List ℤ) (marks′ : List ℕ) (r : Kept) : Type 0 where
+pub record FirstsKept (part : List ℤ) (marks : List ℕ) (q : List ℤ) (marks′ : List ℕ) (r : Distinct) : Type 0 where
   pub count : r .count ≡ length (distinct part)
   pub both : r .both ≡ tautology (distinct part)
   pub front : q ≡ distinct part ++ drop (length (distinct part)) part
-  pub marks-set : marks′ ≡ marked 1 (distinct part) marks
+  pub marks-set : marks′ ≡ withMark 1 (distinct part) marks

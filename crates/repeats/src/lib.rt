@@ -3,17 +3,17 @@ ghost use mathlib.Core.Path.{_≡_};
 ghost use lib.ListN.{length};
 ghost use Rattle.literal.specs.Clauses.{distinct, tautology};
 ghost use Rattle.literal.specs.Holding.{holding};
-ghost use Rattle.repeats.specs.Marks.{Markable, Unmarkable, marked, FirstsKept};
+ghost use Rattle.repeats.specs.Marks.{Markable, Unmarkable, withMark, FirstsKept};
 
 // What is left of a clause without repeats: how many literals, and whether some variable stands in it with both signs.
-pub struct Kept {
+pub struct Distinct {
     pub count: usize,
     pub both: bool,
 }
 
 // Moves the first of each literal to the front, in order, and marks it; what stands behind the kept ones is left as it was. A variable has
 // both signs if the complement of a new literal has a mark already.
-fn keep_first(part: &mut [i32], marks: &mut [u32]) -> Kept
+fn keep_first(part: &mut [i32], marks: &mut [u32]) -> Distinct
     requires { ⌜ Markable (now part) (now marks) ⌝ }
     ensures { λ r. ⌜ FirstsKept (now (part .entry)) (now (marks .entry)) (now (part .exit)) (now (marks .exit)) r ⌝ }
 {
@@ -32,13 +32,13 @@ fn keep_first(part: &mut [i32], marks: &mut [u32]) -> Kept
             n += 1;
         }
     }
-    Kept { count: n, both }
+    Distinct { count: n, both }
 }
 
 // Takes the marks of the literals back, so that the next clause finds none.
 fn unmark(part: &[i32], marks: &mut [u32])
     requires { ⌜ Unmarkable (now part) (now marks) ⌝ }
-    ensures { λ _. ⌜ now (marks .exit) ≡ marked 0 (now (part .entry)) (now (marks .entry)) ⌝ }
+    ensures { λ _. ⌜ now (marks .exit) ≡ withMark 0 (now (part .entry)) (now (marks .entry)) ⌝ }
 {
     let mut k = 0;
     while k < part.len() {
@@ -50,7 +50,7 @@ fn unmark(part: &[i32], marks: &mut [u32])
 
 // Keeps the first of each literal, in order at the front, with 0 behind. The marks, one for each slot, are 0 before and after: the caller
 // lends an array of 0. The literals are of at most 1,024 variables, as the shape rule or the judgement of a text has it.
-pub fn remove_repeats(part: &mut [i32], marks: &mut [u32]) -> Kept
+pub fn remove_repeats(part: &mut [i32], marks: &mut [u32]) -> Distinct
     requires { ⌜ Markable (now part) (now marks) ⌝ }
     ensures { λ r. ⌜ (r .count ≡ length (distinct (now (part .entry)))) × (r .both ≡ tautology (distinct (now (part .entry))))
         × (now (part .exit) ≡ holding (distinct (now (part .entry))) (now (part .entry))) × (now (marks .exit) ≡ now (marks .entry)) ⌝ }

@@ -3,5 +3,4 @@ pub mod ReadBack
 pub mod LoadBack
 pub mod Plain
 pub mod Written
-pub mod Accepted
 pub mod Reread

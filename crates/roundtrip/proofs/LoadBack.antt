@@ -12,7 +12,6 @@ use Rattle.base.specs.Decide.{says-yes, agrees}
 use Rattle.literal.specs.Clauses.{tautology}
 use Rattle.state.specs.States.{loadedState}
 use Rattle.state.specs.declared.State.{State}
-use Rattle.state.specs.declared.Pass.the-variants.{Idle}
 use Rattle.state.specs.declared.Answer.the-variants.{Loaded}
 use Rattle.tables.specs.Tables.{Tables, tables}
 use Rattle.tables.specs.Long.{Long, long?, longOk}

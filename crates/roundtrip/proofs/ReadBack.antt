@@ -21,7 +21,8 @@ use Rattle.dimacs.specs.declared.Verdict.the-variants.{Fits}
 use Rattle.dimacs.proofs.Scan.{words-front, words-sep}
 use Rattle.dimacs.proofs.Numerals.{unsigned-is, meaning-plain, digit-word}
 use Rattle.printing.specs.Printing.{digitsBy, digits, literalText, clauseText, clausesText, textOf}
-use Rattle.write.specs.Writable.{InClause, InClauses, total, Writable}
+use Rattle.literal.specs.Ranged.{InClause, InClauses, total}
+use Rattle.write.specs.Writable.{Writable}
 
 -- ---- each byte of a list
 Each : (ℕ → Bool) → List ℕ → Type 0

@@ -11,7 +11,6 @@ use lib.Dec.{eqb}
 use Rattle.literal.specs.Clauses.{has, distinctFrom, tautology}
 use Rattle.state.specs.States.{loadedState}
 use Rattle.state.specs.declared.State.{State}
-use Rattle.state.specs.declared.Pass.the-variants.{Idle}
 use Rattle.state.specs.declared.Answer.the-variants.{Loaded}
 use Rattle.tables.specs.Tables.{Tables}
 use Rattle.tables.specs.Long.{Long}
@@ -21,12 +20,13 @@ use Rattle.dimacs.specs.declared.Verdict.the-variants.{Fits}
 use Rattle.load.specs.Load.{anyEmpty, laid, loadBy, loadCall}
 use Rattle.literal.proofs.Distinct.{from-sized, distinct-empty}
 use Rattle.printing.specs.Printing.{textOf}
-use Rattle.write.specs.Writable.{InClause, InClauses, total, Writable}
+use Rattle.literal.specs.Ranged.{InClause, InClauses, total}
+use Rattle.write.specs.Writable.{Writable}
 use Rattle.write.specs.Write.{standingClauses, writtenClauses, writeText}
 use Rattle.roundtrip.specs.Plain.{EachPlain, keptClauses, readClauses}
 use Rattle.roundtrip.proofs.Plain.{distinct-plain}
 use Rattle.roundtrip.proofs.LoadBack.{kept-plain, laid-standing, laid-written, long-enough, loads}
-use Rattle.roundtrip.proofs.Accepted.{Within, in-snoc, text-within}
+use Rattle.dimacs.proofs.Accepted.{Within, in-snoc, text-within}
 
 -- ---- what is kept of a clause
 

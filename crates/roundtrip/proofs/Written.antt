@@ -16,7 +16,6 @@ use Rattle.literal.specs.Literals.{eqZ, litBy}
 use Rattle.literal.proofs.Signed.{abs-neg, eqZ-true, eq-eqZ}
 use Rattle.state.specs.States.{loadedState}
 use Rattle.state.specs.declared.State.{State}
-use Rattle.state.specs.declared.Pass.the-variants.{Idle}
 use Rattle.state.specs.declared.Answer.the-variants.{Loaded}
 use Rattle.tables.specs.Tables.{Tables, startOf, lengthOf, standing, classOf, valueOf}
 use Rattle.tables.specs.Clauses.{literalsOf}
@@ -27,7 +26,8 @@ use Rattle.dimacs.specs.Text.{judgeText, textClauses}
 use Rattle.dimacs.specs.declared.Verdict.the-variants.{Fits}
 use Rattle.load.specs.Load.{anyEmpty, laid, loadCall}
 use Rattle.printing.specs.Printing.{textOf}
-use Rattle.write.specs.Writable.{InClauses, InClause, total, Writable}
+use Rattle.literal.specs.Ranged.{InClauses, InClause, total}
+use Rattle.write.specs.Writable.{Writable}
 use Rattle.write.specs.Write.{standingClauses, writtenClauses, writeText}
 use Rattle.write.specs.Gathered.{unitFor, classFor, clauseFor, unitAt, classAt, writtenAt, formula}
 use Rattle.write.proofs.Gathering.{gathered-every}

@@ -2,7 +2,7 @@
 -- Assumes nothing.
 use Prim.Native.Nat.{ℕ, zero, suc, _+_, _*_, _^_, _≤_, _<_}
 use native.Mathlib.Omega.{arith}
-use mathlib.Core.Path.{_≡_, refl, ap}
+use mathlib.Core.Path.{_≡_, refl}
 use mathlib.Core.Bool.{Bool, true, false}
 use mathlib.Core.Logic.{⊎-elim}
 use mathlib.Core.List.{List, [], _∷_, _++_}
@@ -19,7 +19,7 @@ use Rattle.tables.specs.Clauses.{literalsOf}
 use Rattle.shape.specs.Shape.{Parts, Shape}
 use Rattle.printing.specs.Printing.{literalText, clauseText, clausesText, headerText, digits}
 use Rattle.printing.proofs.Storing.{digits-within, header-length}
-use Rattle.write.specs.Writable.{InClause, InClauses, total}
+use Rattle.literal.specs.Ranged.{InClause, InClauses, total}
 use Rattle.write.specs.Gathered.{gathered, unitFor, classFor, clauseFor, unitAt, classAt, writtenAt}
 use Rattle.write.specs.Printable.{Printable}
 use Rattle.write.proofs.Gathering.{gathered-every}

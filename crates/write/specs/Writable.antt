@@ -1,22 +1,9 @@
--- Formulas whose text a load accepts. Assumes nothing: these are definitions.
-use Prim.Native.Nat.{ℕ, _+_, _<_, _≤_}
-use mathlib.Core.List.{List, [], _∷_}
+-- Formulas whose text a load accepts. Assumes nothing: this is a definition.
+use Prim.Native.Nat.{ℕ, _≤_}
+use mathlib.Core.List.{List}
 use lib.ListN.{length}
-use lib.IntN.{ℤ, natAbs}
-
--- each literal is one of 1 to v or a complement
-unfoldable pub InClause : ℕ → List ℤ → Type 0
-InClause v [] = Unit
-InClause v (l ∷ ls) = (0 < natAbs l) × ((natAbs l ≤ v) × InClause v ls)
-
-unfoldable pub InClauses : ℕ → List (List ℤ) → Type 0
-InClauses v [] = Unit
-InClauses v (c ∷ cs) = InClause v c × InClauses v cs
-
--- how many literals they have
-unfoldable pub total : List (List ℤ) → ℕ
-total [] = 0
-total (c ∷ cs) = length c + total cs
+use lib.IntN.{ℤ}
+use Rattle.literal.specs.Ranged.{InClauses, total}
 
 pub record Writable (v : ℕ) (cs : List (List ℤ)) : Type 0 where
   pub variables : v ≤ 1024

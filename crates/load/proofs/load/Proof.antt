@@ -1,7 +1,8 @@
--- `load::load` meets its contract: a load is what was asked (`load-as`). Assumes nothing.
-use mathlib.Core.Path.{sym, _∙_}
+-- `load::load` meets its contract: the length test decides `Long`, and so is `longOk`. Assumes nothing.
+use mathlib.Core.Path.{_∙_}
 use Rattle.tables.specs.Tables.{Tables, tables}
-use Rattle.load.proofs.Fill.{ask-ready, load-as}
+use Rattle.load.proofs.Fill.{load-short, load-long, long-rooms}
+use borrow.Author.Tests.{not-true, not-false}
 use borrow.Author.Needs.{needs}
 use Rattle.load.proofs.load.Statement.{statement}
 use Rattle.load.proofs.load.Tie as tie
@@ -10,18 +11,8 @@ use Rattle.load.proofs.load.Tie as tie
 abbrev given : tie.Start → Tables
 given s = tables (s .args .clauses .now) (s .args .literals .now) (s .args .variables .now) (s .args .times .now) (s .args .links .now)
 
-ask-load-requires : tie.Need-ask-load-requires
-ask-load-requires c κs = search needs
-
-enum-known-r : tie.Need-enum-known-r
-enum-known-r c = search needs
-
-enum-known-v : tie.Need-enum-known-v
-enum-known-v c = search needs
-
-lay-requires : tie.Need-lay-requires
-lay-requires c κs = let s = c .before .before .before .before .before .before .before .before .before .before .before .before .before in
-    ask-ready (s .args .text .now) (given s) _ _ _ (sym (c .before .before .before .before .before .before .ask-load .ensures) ∙ c .before .before .before .before .v .given .1)
+long-ok-requires : tie.Need-long-ok-requires
+long-ok-requires c κs = search needs
 
 same-length : tie.Need-same-length
 same-length c = search needs
@@ -33,8 +24,10 @@ same-length-3 : tie.Need-same-length-3
 same-length-3 c = search needs
 
 returns : tie.Need-returns
-returns c = let s = c .before .before .before .before .before .before .before .before .before .before in
-    load-as (s .args .text .now) (given s) (s .args .st) _ (sym (c .before .before .before .ask-load .ensures) ∙ c .before .r .given .1)
+returns c = let s = c .before .before .before .before .before .before .before .before in load-short (s .args .text .now) (given s) (s .args .st) (c .before .long-ok .ensures) (not-true _ (c .if1 .taken))
+
+load-text-requires : tie.Need-load-text-requires
+load-text-requires c κs = long-rooms (given (c .before .before .before .before .before .before .before .before .before .before .before)) (c .before .before .before .before .long-ok .ensures) (not-false _ (c .before .before .before .if1 .left))
 
 same-length-4 : tie.Need-same-length-4
 same-length-4 c = search needs
@@ -46,22 +39,18 @@ same-length-6 : tie.Need-same-length-6
 same-length-6 c = search needs
 
 returns-2 : tie.Need-returns-2
-returns-2 c = let s = c .before .before .before .before .before .before .before .before .before .before .before .before .before .before .before .before .before .before in
-    c .before .before .before .before .lay .ensures (s .args .times .now) (s .args .links .now) (s .args .st)
-    ∙ load-as (s .args .text .now) (given s) (s .args .st) _ (sym (c .before .before .before .before .before .before .before .before .before .before .before .ask-load .ensures) ∙ c .before .before .before .before .before .before .before .before .before .v .given .1)
+returns-2 c = let s = c .before .before .before .before .before .before .before .before .before .before .before .before .before .before .before .before in c .before .before .before .before .load-text .ensures (s .args .times .now) (s .args .links .now) ∙ load-long (s .args .text .now) (given s) (s .args .st) (c .before .before .before .before .before .before .before .before .before .long-ok .ensures) (not-false _ (c .before .before .before .before .before .before .before .before .if1 .left))
 
 pub load-spec : {M : Type 1} → statement M
 load-spec =
     tie.close
     (tie.spec
-    ask-load-requires
-    enum-known-r
-    enum-known-v
-    lay-requires
+    long-ok-requires
     same-length
     same-length-2
     same-length-3
     returns
+    load-text-requires
     same-length-4
     same-length-5
     same-length-6

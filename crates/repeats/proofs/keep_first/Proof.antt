@@ -13,7 +13,7 @@ use Rattle.base.proofs.Booleans.{or-when-true, or-when-false}
 use Rattle.literal.specs.Literals.{Small, Literal, slotOf}
 use Rattle.literal.specs.Clauses.{tautology}
 use Rattle.literal.proofs.Signed.{read, back, small-neg, abs-neg}
-use Rattle.repeats.specs.Marks.{marked}
+use Rattle.repeats.specs.Marks.{withMark}
 use Rattle.repeats.proofs.Marks.{slot-inside}
 use Rattle.repeats.proofs.Keeping.{Keeping, keeping-none, behind, same-size, unread, marks-size, says-new, says-kept, says-either, keeping-repeat, keeping-new, all-kept}
 use borrow.Author.Needs.{needs}
@@ -143,7 +143,7 @@ returns c = let at = c .before .loop in
       count = at .inv .count ∙ ap length e;
       both = at .inv .both-is ∙ ap tautology e;
       front = at .inv .held ∙ (λ j. e j ++ drop ((at .inv .count ∙ ap length e) j) (c .before .before .before .args .part .now));
-      marks-set = at .inv .marks-are ∙ (λ j. marked 1 (e j) (sym (c .before .before .before .pre .blank) j));
+      marks-set = at .inv .marks-are ∙ (λ j. withMark 1 (e j) (sym (c .before .before .before .pre .blank) j));
     }
 
 pub keep-first-spec : {M : Type 1} → statement M

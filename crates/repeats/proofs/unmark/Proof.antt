@@ -11,14 +11,14 @@ use mir.Syntax.{w32}
 use mir.Val.{ofZ, toZ}
 use Rattle.literal.specs.Literals.{Small, Literal, slotOf}
 use Rattle.literal.proofs.Signed.{read}
-use Rattle.repeats.specs.Marks.{marked}
-use Rattle.repeats.proofs.Marks.{marked-length, marked-snoc, slot-inside}
+use Rattle.repeats.specs.Marks.{withMark}
+use Rattle.repeats.proofs.Marks.{withMark-length, withMark-snoc, slot-inside}
 use borrow.Author.Needs.{needs}
 use Rattle.repeats.proofs.unmark.Statement.{statement}
 use Rattle.repeats.proofs.unmark.Tie as tie
 
 abbrev Inv-loop : tie.InvT-loop
-Inv-loop part marks₀ k₀ marks k = (k ≤ length part) × (marks ≡ marked 0 (take k part) marks₀)
+Inv-loop part marks₀ k₀ marks k = (k ≤ length part) × (marks ≡ withMark 0 (take k part) marks₀)
 
 abbrev μ-loop : tie.MeasureT-loop
 μ-loop part marks₀ k₀ marks k = length part - k
@@ -38,7 +38,7 @@ module _ (c : tie.After-slot-of-arg Inv-loop μ-loop) where
   is-read = read (c .before .before .before .before .args .part .now) (c .before .before .loop .k) (c .slot-of-arg .given)
 
   size : length (c .before .before .loop .marks) ≡ 2048
-  size = ap length (c .before .before .loop .inv .1) ∙ marked-length 0 (take (c .before .before .loop .k) (c .before .before .before .before .args .part .now)) _ ∙ c .before .before .before .before .pre .slots
+  size = ap length (c .before .before .loop .inv .1) ∙ withMark-length 0 (take (c .before .before .loop .k) (c .before .before .before .before .args .part .now)) _ ∙ c .before .before .before .before .pre .slots
 
 slot-is : (c : tie.After-slot-of Inv-loop μ-loop) → c .slot-of .result ≡ slotOf (x (c .before))
 slot-is c = c .slot-of .ensures ∙ ap slotOf (is-read (c .before))
@@ -74,15 +74,15 @@ loop-again : tie.Need-loop-again Inv-loop μ-loop
 loop-again c = let at = c .before .before .before .loop in
     let s = c .before .before .before .before .before in (
       omega arith,
-      rw (add-one, take-suc (s .args .part .now) (at .k) (pos 0) (c .before .before .loop-test .taken), marked-snoc 0 (take (at .k) (s .args .part .now)) (x (c .before)) (s .args .marks .now))
+      rw (add-one, take-suc (s .args .part .now) (at .k) (pos 0) (c .before .before .loop-test .taken), withMark-snoc 0 (take (at .k) (s .args .part .now)) (x (c .before)) (s .args .marks .now))
           (λ j. set (at .inv .1 j) (slot-is c j) 0),
     )
 
 same-length : tie.Need-same-length Inv-loop μ-loop
-same-length c = ap length (c .before .loop .inv .1) ∙ marked-length 0 (take (c .before .loop .k) (c .before .before .before .args .part .now)) _
+same-length c = ap length (c .before .loop .inv .1) ∙ withMark-length 0 (take (c .before .loop .k) (c .before .before .before .args .part .now)) _
 
 returns : tie.Need-returns Inv-loop μ-loop
-returns c = c .before .loop .inv .1 ∙ ap (λ (l : List ℤ). marked 0 l (c .before .before .before .args .marks .now)) (take-all (c .before .loop .k) (c .before .before .before .args .part .now) (c .loop-test .left))
+returns c = c .before .loop .inv .1 ∙ ap (λ (l : List ℤ). withMark 0 l (c .before .before .before .args .marks .now)) (take-all (c .before .loop .k) (c .before .before .before .args .part .now) (c .loop-test .left))
 
 pub unmark-spec : {M : Type 1} → statement M
 unmark-spec =

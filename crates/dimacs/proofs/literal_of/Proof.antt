@@ -1,11 +1,11 @@
--- `load::literal_of` meets its contract: a magnitude of at most 1,024 and its complement are i32. Assumes nothing.
+-- `dimacs::literal_of` meets its contract: a magnitude of at most 1,024 and its complement are i32. Assumes nothing.
 use Rattle.literal.specs.Literals.{Small}
 use Rattle.literal.proofs.Signed.{neg-fits, neg-is, back}
 use lib.IntN.{pos}
 use native.Mathlib.Omega.{arith}
 use borrow.Author.Needs.{needs}
-use Rattle.load.proofs.literal_of.Statement.{statement}
-use Rattle.load.proofs.literal_of.Tie as tie
+use Rattle.dimacs.proofs.literal_of.Statement.{statement}
+use Rattle.dimacs.proofs.literal_of.Tie as tie
 
 small : (s : tie.Start) → Small (pos (s .args .magnitude))
 small s = record { small = omega (arith, s .pre) }
