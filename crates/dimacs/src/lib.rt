@@ -242,8 +242,8 @@ fn next_token<'a>(r: Reader<'a>) -> Token
     token_at(r.text, r.at)
 }
 
-// The token that a reader at `at` gives. Every token of a load, judged or laid, comes from here. The loops keep the reader's
-// offset and not the reader: a function with a local that holds a reference is proved by hand, and these loops are long.
+// The token that a reader at `at` gives. Every token of a load comes from here. The loop that judges a text keeps the reader's
+// offset and not the reader: a function with a local that holds a reference is proved by hand, and that loop is long.
 pub fn token_from(text: &[u8], at: usize) -> Token
     ensures { λ r. ⌜ r ≡ tokenOf (wordsAt (drop at (now (text .entry))) at) ⌝ }
 {

@@ -12,7 +12,8 @@ pub struct Distinct {
 }
 
 // Moves the first of each literal to the front, in order, and marks it; what stands behind the kept ones is left as it was. A variable has
-// both signs if the complement of a new literal has a mark already.
+// both signs if the complement of a new literal has a mark already; that is an `if` of its own, and not `both || ..`, of which the
+// compiler makes a jump over the load of the mark.
 fn keep_first(part: &mut [i32], marks: &mut [u32]) -> Distinct
     requires { ⌜ Markable (now part) (now marks) ⌝ }
     ensures { λ r. ⌜ FirstsKept (now (part .entry)) (now (marks .entry)) (now (part .exit)) (now (marks .exit)) r ⌝ }
@@ -26,7 +27,9 @@ fn keep_first(part: &mut [i32], marks: &mut [u32]) -> Distinct
         let slot = literal::slot_of(l);
         let other = literal::slot_of(literal::complement(l));
         if marks[slot] == 0 {
-            both = both || marks[other] == 1;
+            if marks[other] == 1 {
+                both = true;
+            }
             marks[slot] = 1;
             part[n] = l;
             n += 1;

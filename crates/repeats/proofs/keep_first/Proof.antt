@@ -2,14 +2,14 @@
 use Prim.Native.Nat.{ℕ, _-_, _<_}
 use native.Mathlib.Omega.{arith}
 use mathlib.Core.Path.{_≡_, sym, ap, _∙_}
-use mathlib.Core.Bool.{Bool, _||_}
+use mathlib.Core.Bool.{Bool, _||_, or-true, or-false}
 use mathlib.Core.Logic.{⊎-elim}
 use mathlib.Core.List.{_++_}
 use lib.ListN.{length, drop, getD, length-set, length-replicate}
 use lib.IntN.{ℤ, pos, negℤ}
 use mir.Syntax.{w32}
 use mir.Val.{ofZ, toZ}
-use Rattle.base.proofs.Booleans.{or-when-true, or-when-false}
+use borrow.Author.Tests.{eq-eqb, ne-eqb}
 use Rattle.literal.specs.Literals.{Small, Literal, slotOf}
 use Rattle.literal.specs.Clauses.{tautology}
 use Rattle.literal.proofs.Signed.{read, back, small-neg, abs-neg}
@@ -89,38 +89,41 @@ mul-if1 c = omega (arith, slot-has c, other-has c, marks-size (c .before .before
 slice-read-if1 : tie.Need-slice-read-if1 Inv-loop μ-loop
 slice-read-if1 c = omega (arith, slot-has (c .before), other-has (c .before))
 
-mul-both : tie.Need-mul-both Inv-loop μ-loop
-mul-both c = omega (arith, other-has (c .before .before .before), marks-size (c .before .before .before .before .before .before .before .before .loop .inv))
+mul-if2 : tie.Need-mul-if2 Inv-loop μ-loop
+mul-if2 c = omega (arith, other-has (c .before .before), marks-size (c .before .before .before .before .before .before .before .loop .inv))
 
-slice-read-both : tie.Need-slice-read-both Inv-loop μ-loop
-slice-read-both c = other-has (c .before .before .before .before)
+slice-read-if2 : tie.Need-slice-read-if2 Inv-loop μ-loop
+slice-read-if2 c = other-has (c .before .before .before)
 
 mul-marks : tie.Need-mul-marks Inv-loop μ-loop
-mul-marks c = omega (arith, slot-has (c .before .before .before), marks-size (c .before .before .before .before .before .before .before .before .loop .inv))
+mul-marks c = omega (arith, slot-has (c .before .before .before .before), marks-size (c .before .before .before .before .before .before .before .before .before .loop .inv))
 
 slice-write-marks : tie.Need-slice-write-marks Inv-loop μ-loop
-slice-write-marks c = slot-has (c .before .before .before)
+slice-write-marks c = slot-has (c .before .before .before .before)
 
 mul-l-2 : tie.Need-mul-l-2 Inv-loop μ-loop
-mul-l-2 c = omega (arith, behind (c .before .before .before .before .before .before .before .before .loop .inv))
+mul-l-2 c = omega (arith, behind (c .before .before .before .before .before .before .before .before .before .loop .inv))
 
 slice-set-from-l : tie.Need-slice-set-from-l Inv-loop μ-loop
-slice-set-from-l c = omega (arith, behind (c .before .before .before .before .before .before .before .before .loop .inv))
+slice-set-from-l c = omega (arith, behind (c .before .before .before .before .before .before .before .before .before .loop .inv))
 
 add-n : tie.Need-add-n Inv-loop μ-loop
-add-n c = omega (arith, behind (c .before .before .before .before .before .before .before .before .loop .inv))
+add-n c = omega (arith, behind (c .before .before .before .before .before .before .before .before .before .loop .inv))
 
 loop-less : tie.Need-loop-less Inv-loop μ-loop
 loop-less c = simp length-set (omega arith)
 
 loop-again : tie.Need-loop-again Inv-loop μ-loop
-loop-again c = let at = c .before .before .before .before .before .before .before .before .loop in
-    let l = c .before .before .before .before .before .before in
-    let s = l .before .before .before .before in
-    rw (slot-is (c .before .before .before .before .before), is-read l)
-    (keeping-new (at .inv) (inside l) (says-new (at .inv) (s .pre .literals) (literal l) (slot-is (c .before .before .before .before .before)) (c .before .if1 .taken))
-    (⊎-elim (λ w. w .1 ∙ or-when-true _ _ (w .0 .taken)) (λ w. w .2 ∙ or-when-false _ _ (w .0 .left)) (c .if2 .came)
-    ∙ ap (λ (b : Bool). at .both || b) (says-either (at .inv) (s .pre .literals) (turned l) (other-is (c .before .before .before)))))
+loop-again c = let at = c .before .before .before .before .before .before .before .before .before .loop in
+    let l = c .before .before .before .before .before .before .before in
+    let s = c .before .before .before .before .before .before .before .before .before .before .before in
+    rw (slot-is (c .before .before .before .before .before .before), is-read l)
+    (keeping-new (at .inv) (inside l) (says-new (at .inv) (s .pre .literals) (literal l) (slot-is (c .before .before .before .before .before .before)) (c .before .before .if1 .taken))
+    (⊎-elim
+    (λ w. w .1 ∙ sym (or-true (at .both)) ∙ ap (λ (b : Bool). at .both || b) (sym (eq-eqb _ 1 (w .0 .taken))))
+    (λ w. w .1 ∙ sym (or-false (at .both)) ∙ ap (λ (b : Bool). at .both || b) (sym (ne-eqb _ 1 (w .0 .left))))
+    (c .if2 .came)
+    ∙ ap (λ (b : Bool). at .both || b) (says-either (at .inv) (s .pre .literals) (turned l) (other-is (c .before .before .before .before)))))
 
 loop-less-2 : tie.Need-loop-less-2 Inv-loop μ-loop
 loop-less-2 c = search needs
@@ -161,8 +164,8 @@ keep-first-spec =
     slot-of-requires-2
     mul-if1
     slice-read-if1
-    mul-both
-    slice-read-both
+    mul-if2
+    slice-read-if2
     mul-marks
     slice-write-marks
     mul-l-2
