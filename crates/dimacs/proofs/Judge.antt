@@ -112,40 +112,6 @@ module _ (v : ℕ) (l : Budget) (end : ℕ) (ok : Verdict) {text : List ℕ} {at
   judge-zero s n = rw (s .words, s .means, judge, lt-ltb 0 (l .clauses) (omega (arith, n)))
 
   module _ {negative : Bool} {magnitude : ℕ} (s : SeenLiteral text at negative magnitude start next) (small : v < 65535) where
-    pub judge-past : l .clauses ≡ 0 → judge v l (wordsAt (drop at text) at) end ok ≡ Refused (Limit start)
-    unfolding judge
-    judge-past e = rw (s .seen .words, s .seen .means, judge, le-ltb 0 (l .clauses) (omega (arith, e)))
-
-    pub judge-beyond : (l .clauses ≡ 0 → ⊥) → v < magnitude → judge v l (wordsAt (drop at text) at) end ok ≡ Refused (Limit start)
-    unfolding judge
-    judge-beyond n h =
-        rw (s .seen .words, s .seen .means, judge, lt-ltb 0 (l .clauses) (omega (arith, n)), lt-leb (s .exact) v (omega (arith, s .known)))
-
-    pub judge-full : (l .clauses ≡ 0 → ⊥) → magnitude ≤ v → l .literals ≡ 0 → judge v l (wordsAt (drop at text) at) end ok ≡ Refused (Limit start)
-    unfolding judge
-    judge-full n h e =
-        rw (
-          s .seen .words,
-          s .seen .means,
-          judge,
-          lt-ltb 0 (l .clauses) (omega (arith, n)),
-          le-leb (s .exact) v (omega (arith, s .known)),
-          le-ltb 0 (l .literals) (omega (arith, e)),
-        )
-
-    pub judge-literal : (l .clauses ≡ 0 → ⊥) → magnitude ≤ v → (l .literals ≡ 0 → ⊥)
-        → judge v l (wordsAt (drop at text) at) end ok ≡ judge v (budget (l .clauses) (l .literals - 1) true) (wordsAt (drop next text) next) end ok
-    unfolding judge
-    judge-literal n h m =
-        rw (
-          s .seen .words,
-          s .seen .means,
-          judge,
-          lt-ltb 0 (l .clauses) (omega (arith, n)),
-          le-leb (s .exact) v (omega (arith, s .known)),
-          lt-ltb 0 (l .literals) (omega (arith, m)),
-        )
-
     -- the three tests at once, as the definition makes them: v is below the number at which a magnitude is cut
     leb-cut : leb magnitude v ≡ leb (s .exact) v
     leb-cut = go (leb (s .exact) v) refl

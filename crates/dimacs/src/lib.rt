@@ -14,7 +14,7 @@ use state::Refusal;
 
 // What stands at an offset of the text's body: `start` is its first byte, `next` the byte after it. A magnitude above 65,535
 // is given as 65,535.
-pub enum Token {
+enum Token {
     End,
     Zero {
         start: usize,
@@ -244,7 +244,7 @@ fn next_token<'a>(r: Reader<'a>) -> Token
 
 // The token that a reader at `at` gives. Every token of a load comes from here. The loop that judges a text keeps the reader's
 // offset and not the reader: a function with a local that holds a reference is proved by hand, and that loop is long.
-pub fn token_from(text: &[u8], at: usize) -> Token
+fn token_from(text: &[u8], at: usize) -> Token
     ensures { λ r. ⌜ r ≡ tokenOf (wordsAt (drop at (now (text .entry))) at) ⌝ }
 {
     next_token(reader_at(text, at))
