@@ -4,11 +4,12 @@
 ghost use mathlib.Core.Path.{_≡_};
 ghost use mathlib.Core.List.{List};
 ghost use Prim.Native.Nat.{ℕ, _+_, _*_, _≤_};
-ghost use lib.ListN.{length, drop, replicate};
+ghost use lib.ListN.{length, drop};
 ghost use lib.Seq.{sets};
 ghost use lib.IntN.{ℤ, pos};
 ghost use Rattle.literal.specs.Clauses.{distinct};
 ghost use Rattle.literal.specs.Holding.{holding};
+ghost use Rattle.repeats.specs.Marks.{noMarks};
 ghost use Rattle.dimacs.specs.Text.{judgeText, textClauses};
 ghost use Rattle.dimacs.specs.Numbers.{firstClause, clausesIn};
 ghost use Rattle.state.specs.declared.State.{State};
@@ -65,7 +66,7 @@ fn lay_literals(
     start: usize,
     marks: &mut [u32],
 ) -> Written
-    requires { ⌜ Collectable (now numbers) at start (length (now literals)) × (now marks ≡ replicate 2048 0) ⌝ }
+    requires { ⌜ Collectable (now numbers) at start (length (now literals)) × (now marks ≡ noMarks) ⌝ }
     ensures { λ r. ⌜ (r ≡ written (firstClause (drop at (now (numbers .entry)))))
         × ((now (literals .exit) ≡ sets (now (literals .entry)) start (holding (distinct (firstClause (drop at (now (numbers .entry))))) (firstClause (drop at (now (numbers .entry))))))
         × (now (marks .exit) ≡ now (marks .entry))) ⌝ }
@@ -132,7 +133,7 @@ fn lay_clauses(
     literals: &mut [i32],
     marks: &mut [u32],
 ) -> Progress
-    requires { ⌜ Layable n (now numbers) (length (now clauses)) (length (now literals)) × (now marks ≡ replicate 2048 0) ⌝ }
+    requires { ⌜ Layable n (now numbers) (length (now clauses)) (length (now literals)) × (now marks ≡ noMarks) ⌝ }
     ensures { λ r. ⌜ LaidBy (clausesIn n (now (numbers .entry))) (now (clauses .entry)) (now (literals .entry)) (now (clauses .exit)) (now (literals .exit)) r ⌝ }
 {
     let mut p = Progress {
@@ -201,7 +202,7 @@ fn lay(
     ensures { λ r. ⌜ ((times : List ℕ) (links : List ℤ) → after r (returned clauses literals variables (unlent times) (unlent links))
         ≡ accept v n (clausesIn n (now (numbers .entry))) (lent clauses literals variables (unlent times) (unlent links))) ⌝ }
 {
-    let mut marks = [0u32; 2048];
+    let mut marks = [0u32; 2049];
     let p = lay_clauses(numbers, n as usize, clauses, literals, &mut marks);
     clear_words(clauses, 3 * p.clauses, 12288);
     clear_literals(literals, p.start, 16384);

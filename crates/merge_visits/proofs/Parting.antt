@@ -10,7 +10,7 @@ use Rattle.literal.specs.Literals.{Literal}
 use Rattle.literal.specs.Clauses.{distinct, tautology}
 use Rattle.tables.specs.Values.{classLiteral}
 use Rattle.tables.specs.Fates.{left, dropped}
-use Rattle.repeats.specs.Marks.{Markable}
+use Rattle.repeats.specs.Marks.{Markable, noMarks}
 use Rattle.repeats.proofs.Repeats.{All, all-at, all-map, distinct-short}
 use Rattle.visits.specs.Formed.{Known, EachKnown}
 use Rattle.literal.specs.Holding.{holding}
@@ -21,7 +21,7 @@ use Rattle.merge_visits.specs.Clause.{mergeClause}
 use Rattle.merge_visits.specs.Visits.{substituted}
 
 -- class literals are literals of at most 1,024 variables
-pub part-markable : (w p : List ℤ) {marks : List ℕ} {classes : List ℤ} → EachKnown w p → marks ≡ replicate 2048 0 → classes ≡ map (classLiteral w) p → Markable classes marks
+pub part-markable : (w p : List ℤ) {marks : List ℕ} {classes : List ℤ} → EachKnown w p → marks ≡ noMarks → classes ≡ map (classLiteral w) p → Markable classes marks
 part-markable w p {marks} {classes} K blank e = record {
   literals = all-at (Literal 1024) classes (subst (All (Literal 1024)) (sym e) (all-map (Literal 1024) (classLiteral w) p (λ k h. ranged (known-class (K .each k h)))));
   blank = blank;

@@ -3,8 +3,9 @@ use visits::Visited;
 ghost use mathlib.Core.Path.{_≡_};
 ghost use mathlib.Core.List.{List, map};
 ghost use Prim.Native.Nat.{ℕ, _-_, _≤_};
-ghost use lib.ListN.{length, replicate};
+ghost use lib.ListN.{length};
 ghost use lib.IntN.{ℤ};
+ghost use Rattle.repeats.specs.Marks.{noMarks};
 ghost use Rattle.tables.specs.Lent.{lent, returned, unlent};
 ghost use Rattle.tables.specs.Values.{classLiteral};
 ghost use Rattle.tables.specs.Fates.{visits};
@@ -28,9 +29,9 @@ fn substitute(part: &mut [i32], variables: &[i32])
 
 // A visit to the part of a standing clause. Repeats go first, so that both signs are looked for in what would stay.
 fn visit_part(part: &mut [i32], variables: &[i32], marks: &mut [u32]) -> Visited
-    requires { ⌜ EachKnown (now variables) (now part) × (length (now part) ≤ 16384) × (now marks ≡ replicate 2048 0) ⌝ }
+    requires { ⌜ EachKnown (now variables) (now part) × (length (now part) ≤ 16384) × (now marks ≡ noMarks) ⌝ }
     ensures { λ r. ⌜ (partOf r (now (part .exit)) ≡ partAfter (mergeClause (now (variables .entry)) (now (part .entry))) (now (part .entry)))
-        × (now (marks .exit) ≡ replicate 2048 0) ⌝ }
+        × (now (marks .exit) ≡ noMarks) ⌝ }
 {
     substitute(part, variables);
     let kept = repeats::remove_repeats(part, marks);
@@ -49,9 +50,9 @@ fn visit_clause(
     marks: &mut [u32],
     k: usize,
 ) -> Visited
-    requires { ⌜ Visitable k (now clauses) (now literals) (now variables) × (now marks ≡ replicate 2048 0) ⌝ }
+    requires { ⌜ Visitable k (now clauses) (now literals) (now variables) × (now marks ≡ noMarks) ⌝ }
     ensures { λ r. ⌜ ((times : List ℕ) (links : List ℤ) → visitOf r (returned clauses literals variables (unlent times) (unlent links))
-        ≡ visitAt (mergeClause (now (variables .entry))) k (lent clauses literals variables (unlent times) (unlent links))) × (now (marks .exit) ≡ replicate 2048 0) ⌝ }
+        ≡ visitAt (mergeClause (now (variables .entry))) k (lent clauses literals variables (unlent times) (unlent links))) × (now (marks .exit) ≡ noMarks) ⌝ }
 {
     let flag = visits::flag_of(clauses, k);
     if flag == 0 {
@@ -70,7 +71,7 @@ pub fn visit_some(clauses: &mut [u32], literals: &mut [i32], variables: &[i32], 
     ensures { λ _. ⌜ ((times : List ℕ) (links : List ℤ) → returned clauses literals variables (unlent times) (unlent links)
         ≡ visits (mergeClause (now (variables .entry))) (end - k) k (lent clauses literals variables (unlent times) (unlent links))) ⌝ }
 {
-    let mut marks = [0u32; 2048];
+    let mut marks = [0u32; 2049];
     let mut i = k;
     while i < end {
         visit_clause(clauses, literals, variables, &mut marks, i as usize);

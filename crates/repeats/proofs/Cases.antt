@@ -6,7 +6,7 @@ use lib.IntN.{pos, negsuc}
 use Rattle.base.specs.Lists.{filter, numbers}
 use Rattle.literal.specs.Clauses.{distinct, tautology}
 use Rattle.repeats.specs.First.{firstPlaces}
-use Rattle.repeats.specs.Marks.{withMark}
+use Rattle.repeats.specs.Marks.{markOf, withMark}
 
 -- 3 −1 3 2 −1
 repeats : (firstPlaces (pos 3 ∷ negsuc 0 ∷ pos 3 ∷ pos 2 ∷ negsuc 0 ∷ []) ≡ 0 ∷ 1 ∷ 3 ∷ [])
@@ -30,6 +30,10 @@ nothing : (firstPlaces [] ≡ []) × (distinct [] ≡ [])
 unfolding firstPlaces filter numbers
 nothing = (refl, refl)
 
--- marks of 2 and −1, on four slots
-marks : withMark 1 (pos 2 ∷ negsuc 0 ∷ []) (0 ∷ 0 ∷ 0 ∷ 0 ∷ []) ≡ 0 ∷ 1 ∷ 1 ∷ 0 ∷ []
+-- the marks of 2 and −1, and of the ends of the range
+places : (markOf (pos 2) ≡ 1026) × (markOf (negsuc 0) ≡ 1023) × (markOf (pos 1024) ≡ 2048) × (markOf (negsuc 1023) ≡ 0)
+places = (refl, refl, refl, refl)
+
+-- the mark of −1,024 alone
+marks : withMark 1 (negsuc 1023 ∷ []) (0 ∷ 0 ∷ []) ≡ 1 ∷ 0 ∷ []
 marks = refl

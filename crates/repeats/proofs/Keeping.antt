@@ -6,15 +6,15 @@ use mathlib.Core.Path.{_≡_, refl, sym, ap, subst, _∙_}
 use mathlib.Core.Bool.{Bool, true, false, _||_}
 use mathlib.Core.List.{List, [], _∷_, _++_}
 use lib.Dec.{eqb}
-use lib.ListN.{length, take, drop, getD, set, replicate, length-append, length-drop, length-replicate}
+use lib.ListN.{length, take, drop, getD, set, length-append, length-drop, length-replicate}
 use lib.Seq.{take-suc, take-all, length-take-le, drop-cons, getD-append-add, getD-drop, set-at, append-snoc}
 use lib.IntN.{ℤ, pos, negℤ}
-use Rattle.literal.specs.Literals.{Literal, slotOf}
+use Rattle.literal.specs.Literals.{Literal}
 use Rattle.literal.specs.Clauses.{has, distinct, tautology}
 use Rattle.literal.proofs.Distinct.{has-distinct, distinct-repeat, distinct-new, tautology-snoc}
-use Rattle.repeats.specs.Marks.{withMark}
+use Rattle.repeats.specs.Marks.{markOf, withMark, noMarks}
 use Rattle.repeats.proofs.Repeats.{All, all-of, all-take, distinct-all, distinct-short}
-use Rattle.repeats.proofs.Marks.{withMark-length, withMark-snoc, unmarked-absent, withMark-there, mark-tested}
+use Rattle.repeats.proofs.Marks.{withMark-length, withMark-snoc, unmarked-absent, marked-there, mark-tested}
 
 pub record Keeping (p₀ p : List ℤ) (marks : List ℕ) (n : ℕ) (both : Bool) (i : ℕ) : Type 0 where
   pub within : i ≤ length p₀
@@ -23,9 +23,9 @@ pub record Keeping (p₀ p : List ℤ) (marks : List ℕ) (n : ℕ) (both : Bool
   pub count : n ≡ length kept
   pub both-is : both ≡ tautology kept
   pub held : p ≡ kept ++ drop n p₀
-  pub marks-are : marks ≡ withMark 1 kept (replicate 2048 0)
+  pub marks-are : marks ≡ withMark 1 kept noMarks
 
-pub keeping-none : {p : List ℤ} {marks : List ℕ} → marks ≡ replicate 2048 0 → Keeping p p marks 0 false 0
+pub keeping-none : {p : List ℤ} {marks : List ℕ} → marks ≡ noMarks → Keeping p p marks 0 false 0
 keeping-none blank = record { within = omega arith; kept = []; kept-is = refl; count = refl; both-is = refl; held = refl; marks-are = blank }
 
 module _ {p₀ p : List ℤ} {marks : List ℕ} {n : ℕ} {both : Bool} {i : ℕ} (K : Keeping p₀ p marks n both i) where
@@ -52,22 +52,22 @@ module _ {p₀ p : List ℤ} {marks : List ℕ} {n : ℕ} {both : Bool} {i : ℕ
   pub kept-literals : ((k : ℕ) → k < length p₀ → Literal 1024 (getD p₀ k (pos 0))) → All (Literal 1024) D
   kept-literals L = subst (All (Literal 1024)) (sym (K .kept-is)) (distinct-all (Literal 1024) (take i p₀) (all-take (Literal 1024) i p₀ (all-of (Literal 1024) p₀ L)))
 
-  pub marks-size : length marks ≡ 2048
-  marks-size = ap length (K .marks-are) ∙ withMark-length 1 D (replicate 2048 0) ∙ length-replicate {A = ℕ} 2048 0
+  pub marks-size : length marks ≡ 2049
+  marks-size = ap length (K .marks-are) ∙ withMark-length 1 D noMarks ∙ length-replicate {A = ℕ} 2049 0
 
-  -- what the mark of a slot says of the kept literals
-  module _ (L : (k : ℕ) → k < length p₀ → Literal 1024 (getD p₀ k (pos 0))) {z : ℤ} {slot : ℕ} (Z : Literal 1024 z) (e : slot ≡ slotOf z) where
-    mark-of : getD marks slot 0 ≡ getD (withMark 1 D (replicate 2048 0)) (slotOf z) 0
+  -- what a mark says of the kept literals
+  module _ (L : (k : ℕ) → k < length p₀ → Literal 1024 (getD p₀ k (pos 0))) {z : ℤ} {place : ℕ} (Z : Literal 1024 z) (e : place ≡ markOf z) where
+    mark-of : getD marks place 0 ≡ getD (withMark 1 D noMarks) (markOf z) 0
     mark-of = λ j. getD (K .marks-are j) (e j) 0
 
-    pub says-new : getD marks slot 0 ≡ 0 → has z D ≡ false
-    says-new q = unmarked-absent D (kept-literals L) z (Z .above) (sym mark-of ∙ q)
+    pub says-new : getD marks place 0 ≡ 0 → has z D ≡ false
+    says-new q = unmarked-absent D (kept-literals L) z Z (sym mark-of ∙ q)
 
-    pub says-kept : (getD marks slot 0 ≡ 0 → ⊥) → has z D ≡ true
-    says-kept d = withMark-there D (kept-literals L) z (Z .above) (λ q. d (mark-of ∙ q))
+    pub says-kept : (getD marks place 0 ≡ 0 → ⊥) → has z D ≡ true
+    says-kept d = marked-there D (kept-literals L) z Z (λ q. d (mark-of ∙ q))
 
-    pub says-either : eqb (getD marks slot 0) 1 ≡ has z D
-    says-either = ap (λ (m : ℕ). eqb m 1) mark-of ∙ mark-tested D (kept-literals L) z (Z .above)
+    pub says-either : eqb (getD marks place 0) 1 ≡ has z D
+    says-either = ap (λ (m : ℕ). eqb m 1) mark-of ∙ mark-tested D (kept-literals L) z Z
 
   module _ (lt : i < length p₀) where
     abbrev x : ℤ
@@ -92,7 +92,7 @@ module _ {p₀ p : List ℤ} {marks : List ℕ} {n : ℕ} {both : Bool} {i : ℕ
     }
 
     -- what is read at i is new
-    pub keeping-new : {b : Bool} → has x D ≡ false → b ≡ (both || has (negℤ x) D) → Keeping p₀ (set p n x) (set marks (slotOf x) 1) (n + 1) b (i + 1)
+    pub keeping-new : {b : Bool} → has x D ≡ false → b ≡ (both || has (negℤ x) D) → Keeping p₀ (set p n x) (set marks (markOf x) 1) (n + 1) b (i + 1)
     keeping-new {b} e t = record {
       within = omega arith;
       kept = D ++ (x ∷ []);
@@ -104,7 +104,7 @@ module _ {p₀ p : List ℤ} {marks : List ℕ} {n : ℕ} {both : Bool} {i : ℕ
           ∙ set-at D (getD p₀ n (pos 0)) (drop (suc n) p₀) x n (sym (K .count))
           ∙ sym (append-snoc D x (drop (suc n) p₀))
           ∙ ap (λ (k : ℕ). (D ++ (x ∷ [])) ++ drop k p₀) (sym (add-one n));
-      marks-are = ap (λ (l : List ℕ). set l (slotOf x) 1) (K .marks-are) ∙ sym (withMark-snoc 1 D x (replicate 2048 0));
+      marks-are = ap (λ (l : List ℕ). set l (markOf x) 1) (K .marks-are) ∙ sym (withMark-snoc 1 D x noMarks);
     }
 
   -- all is read

@@ -9,7 +9,7 @@ use lib.IntN.{ℤ, pos}
 use Rattle.literal.specs.Literals.{Literal}
 use Rattle.literal.specs.Clauses.{distinct}
 use Rattle.literal.specs.Holding.{holding}
-use Rattle.repeats.specs.Marks.{Markable, Unmarkable, FirstsKept, withMark}
+use Rattle.repeats.specs.Marks.{Markable, Unmarkable, FirstsKept, withMark, noMarks}
 use Rattle.repeats.specs.declared.Distinct.{Distinct}
 use Rattle.repeats.proofs.Repeats.{All, all-of, all-at, distinct-all, distinct-short}
 use Rattle.repeats.proofs.Marks.{withMark-length, marks-back}
@@ -27,13 +27,13 @@ module _ {p : List ℤ} {m : List ℕ} {q : List ℤ} {m′ : List ℕ} {r : Dis
   literals : All (Literal 1024) (distinct p)
   literals = distinct-all (Literal 1024) p (all-of (Literal 1024) p (M .literals))
 
-  marks-are : m′ ≡ withMark 1 (distinct p) (replicate 2048 0)
+  marks-are : m′ ≡ withMark 1 (distinct p) noMarks
   marks-are = F .marks-set ∙ ap (withMark 1 (distinct p)) (M .blank)
 
   pub front-unmarkable : Unmarkable (take (r .count) q) m′
   front-unmarkable = record {
     literals = all-at (Literal 1024) (take (r .count) q) (subst (All (Literal 1024)) (sym front-is) literals);
-    slots = ap length marks-are ∙ withMark-length 1 (distinct p) (replicate 2048 0) ∙ length-replicate {A = ℕ} 2048 0;
+    places = ap length marks-are ∙ withMark-length 1 (distinct p) noMarks ∙ length-replicate {A = ℕ} 2049 0;
   }
 
   pub marks-again : {m″ : List ℕ} → m″ ≡ withMark 0 (take (r .count) q) m′ → m″ ≡ m

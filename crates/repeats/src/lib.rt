@@ -1,14 +1,23 @@
-// Repeated literals of one clause removed, in time linear in the clause: each slot has a mark, which tells whether its literal was kept.
+// Repeated literals of one clause removed, in time linear in the clause: each literal has a mark, which tells whether it was kept.
 ghost use mathlib.Core.Path.{_≡_};
 ghost use lib.ListN.{length};
+ghost use Rattle.literal.specs.Literals.{Literal};
 ghost use Rattle.literal.specs.Clauses.{distinct, tautology};
 ghost use Rattle.literal.specs.Holding.{holding};
-ghost use Rattle.repeats.specs.Marks.{Markable, Unmarkable, withMark, FirstsKept};
+ghost use Rattle.repeats.specs.Marks.{markOf, Markable, Unmarkable, withMark, FirstsKept};
 
 // What is left of a clause without repeats: how many literals, and whether some variable stands in it with both signs.
 pub struct Distinct {
     pub count: usize,
     pub both: bool,
+}
+
+// The place of a literal's mark: one addition, where a slot asks for the sign.
+fn mark_of(l: i32) -> usize
+    requires { ⌜ Literal 1024 l ⌝ }
+    ensures { λ r. ⌜ r ≡ markOf l ⌝ }
+{
+    (l + 1024) as usize
 }
 
 // Moves the first of each literal to the front, in order, and marks it; what stands behind the kept ones is left as it was. A variable has
@@ -24,13 +33,13 @@ fn keep_first(part: &mut [i32], marks: &mut [u32]) -> Distinct
     while i < part.len() {
         let l = part[i];
         i += 1;
-        let slot = literal::slot_of(l);
-        let other = literal::slot_of(literal::complement(l));
-        if marks[slot] == 0 {
+        let mark = mark_of(l);
+        let other = mark_of(literal::complement(l));
+        if marks[mark] == 0 {
             if marks[other] == 1 {
                 both = true;
             }
-            marks[slot] = 1;
+            marks[mark] = 1;
             part[n] = l;
             n += 1;
         }
@@ -45,13 +54,13 @@ fn unmark(part: &[i32], marks: &mut [u32])
 {
     let mut k = 0;
     while k < part.len() {
-        let slot = literal::slot_of(part[k]);
-        marks[slot] = 0;
+        let mark = mark_of(part[k]);
+        marks[mark] = 0;
         k += 1;
     }
 }
 
-// Keeps the first of each literal, in order at the front, with 0 behind. The marks, one for each slot, are 0 before and after: the caller
+// Keeps the first of each literal, in order at the front, with 0 behind. The marks, one for each literal, are 0 before and after: the caller
 // lends an array of 0. The literals are of at most 1,024 variables, as the shape rule or the judgement of a text has it.
 pub fn remove_repeats(part: &mut [i32], marks: &mut [u32]) -> Distinct
     requires { ⌜ Markable (now part) (now marks) ⌝ }

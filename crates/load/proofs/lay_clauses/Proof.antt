@@ -1,13 +1,14 @@
 -- `load::lay_clauses` meets its contract. The invariant is `Laying`, with no mark set. Assumes nothing.
 use Prim.Native.Nat.{_-_}
 use mathlib.Core.Path.{_≡_, ap, _∙_, sym}
-use lib.ListN.{length, replicate}
+use lib.ListN.{length}
+use Rattle.repeats.specs.Marks.{noMarks}
 use Rattle.load.proofs.Laying.{Laying, start-laying, collectable, ending-of, lay-next, lay-less, laid-all}
 use Rattle.load.proofs.lay_clauses.Statement.{statement}
 use Rattle.load.proofs.lay_clauses.Tie as tie
 
 abbrev Inv-loop : tie.InvT-loop
-Inv-loop numbers n clauses₀ literals₀ marks₀ p₀ clauses literals marks p = Laying n numbers clauses₀ literals₀ clauses literals p × (marks ≡ replicate 2048 0)
+Inv-loop numbers n clauses₀ literals₀ marks₀ p₀ clauses literals marks p = Laying n numbers clauses₀ literals₀ clauses literals p × (marks ≡ noMarks)
 
 abbrev μ-loop : tie.MeasureT-loop
 μ-loop numbers n clauses₀ literals₀ marks₀ p₀ clauses literals marks p = n - p .clauses

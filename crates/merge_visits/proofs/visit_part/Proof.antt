@@ -1,8 +1,8 @@
 -- `merge_visits::visit_part` meets its contract. Assumes nothing.
 use native.Mathlib.Omega.{arith}
 use mathlib.Core.Path.{_≡_, _∙_}
-use lib.ListN.{replicate}
 use Rattle.merge_visits.proofs.Parting.{Reduced, part-markable, part-count, part-dropped, part-left}
+use Rattle.repeats.specs.Marks.{noMarks}
 use borrow.Author.Needs.{needs}
 use Rattle.merge_visits.proofs.visit_part.Statement.{statement}
 use Rattle.merge_visits.proofs.visit_part.Tie as tie
@@ -12,7 +12,7 @@ module _ (c : tie.After-remove-repeats) where
   reduced : Reduced (c .before .before .before .before .before .before .before .args .variables .now) (c .before .before .before .before .before .before .before .args .part .now) (c .remove-repeats .last .0) (c .remove-repeats .result .count) (c .remove-repeats .result .both)
   reduced = record { classes = c .before .before .before .before .substitute .last .0; substitutes = c .before .before .before .before .substitute .ensures; count = c .remove-repeats .ensures .0; both = c .remove-repeats .ensures .1; held = c .remove-repeats .ensures .2 }
 
-  marks-blank : c .remove-repeats .last .1 .0 ≡ replicate 2048 0
+  marks-blank : c .remove-repeats .last .1 .0 ≡ noMarks
   marks-blank = c .remove-repeats .ensures .3 ∙ c .before .before .before .before .before .before .before .pre .2
 
 substitute-requires : tie.Need-substitute-requires

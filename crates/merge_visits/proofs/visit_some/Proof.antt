@@ -2,17 +2,17 @@
 use Prim.Native.Nat.{_-_}
 use native.Mathlib.Omega.{arith}
 use mathlib.Core.Path.{_≡_, refl}
-use lib.ListN.{replicate}
 use Rattle.tables.specs.Tables.{tables}
 use Rattle.visits.proofs.Composing.{visit-tables}
 use Rattle.merge_visits.specs.Clause.{mergeClause}
 use Rattle.merge_visits.proofs.Passing.{Passing, passing-none, passing-one, passing-next, passing-done}
+use Rattle.repeats.specs.Marks.{noMarks}
 use borrow.Author.Needs.{needs}
 use Rattle.merge_visits.proofs.visit_some.Statement.{statement}
 use Rattle.merge_visits.proofs.visit_some.Tie as tie
 
 abbrev Inv-loop : tie.InvT-loop
-Inv-loop clauses₀ literals₀ variables k end marks₀ i₀ clauses literals marks i = Passing i₀ end i variables clauses₀ literals₀ clauses literals × (marks ≡ replicate 2048 0)
+Inv-loop clauses₀ literals₀ variables k end marks₀ i₀ clauses literals marks i = Passing i₀ end i variables clauses₀ literals₀ clauses literals × (marks ≡ noMarks)
 
 abbrev μ-loop : tie.MeasureT-loop
 μ-loop clauses₀ literals₀ variables k end marks₀ i₀ clauses literals marks i = end - i

@@ -10,11 +10,11 @@ use lib.IntN.{ℤ, pos, negℤ}
 use mir.Syntax.{w32}
 use mir.Val.{ofZ, toZ}
 use borrow.Author.Tests.{eq-eqb, ne-eqb}
-use Rattle.literal.specs.Literals.{Small, Literal, slotOf}
+use Rattle.literal.specs.Literals.{Small, Literal}
 use Rattle.literal.specs.Clauses.{tautology}
 use Rattle.literal.proofs.Signed.{read, back, small-neg, abs-neg}
-use Rattle.repeats.specs.Marks.{withMark}
-use Rattle.repeats.proofs.Marks.{slot-inside}
+use Rattle.repeats.specs.Marks.{markOf, withMark}
+use Rattle.repeats.proofs.Marks.{mark-inside}
 use Rattle.repeats.proofs.Keeping.{Keeping, keeping-none, behind, same-size, unread, marks-size, says-new, says-kept, says-either, keeping-repeat, keeping-new, all-kept}
 use borrow.Author.Needs.{needs}
 use Rattle.repeats.proofs.keep_first.Statement.{statement}
@@ -46,21 +46,21 @@ module _ (c : tie.After-l Inv-loop μ-loop) where
   turned : Literal 1024 (negℤ x)
   turned = record { above = rw abs-neg (literal .above); within = rw abs-neg (literal .within) }
 
-slot-is : (c : tie.After-slot-of Inv-loop μ-loop) → c .slot-of .result ≡ slotOf (x (c .before))
-slot-is c = c .slot-of .ensures ∙ ap slotOf (is-read (c .before))
+mark-is : (c : tie.After-mark-of Inv-loop μ-loop) → c .mark-of .result ≡ markOf (x (c .before))
+mark-is c = c .mark-of .ensures ∙ ap markOf (is-read (c .before))
 
 complement-is : (c : tie.After-complement Inv-loop μ-loop) → toZ w32 (ofZ w32 (c .complement .result)) ≡ negℤ (x (c .before .before))
 complement-is c = ap (λ (z : ℤ). toZ w32 (ofZ w32 z)) (c .complement .ensures ∙ ap negℤ (is-read (c .before .before))) ∙ back (small-neg (small (c .before .before)))
 
-other-is : (c : tie.After-slot-of2 Inv-loop μ-loop) → c .slot-of2 .result ≡ slotOf (negℤ (x (c .before .before .before)))
-other-is c = c .slot-of2 .ensures ∙ ap slotOf (complement-is (c .before))
+other-is : (c : tie.After-mark-of2 Inv-loop μ-loop) → c .mark-of2 .result ≡ markOf (negℤ (x (c .before .before .before)))
+other-is c = c .mark-of2 .ensures ∙ ap markOf (complement-is (c .before))
 
--- both slots have a mark
-slot-has : (c : tie.After-slot-of2 Inv-loop μ-loop) → c .before .before .slot-of .result < length (c .before .before .before .before .before .loop .marks)
-slot-has c = rw (slot-is (c .before .before)) (slot-inside (c .before .before .before .before .before .loop .marks) (literal (c .before .before .before)) (marks-size (c .before .before .before .before .before .loop .inv)))
+-- both literals have a mark
+mark-has : (c : tie.After-mark-of2 Inv-loop μ-loop) → c .before .before .mark-of .result < length (c .before .before .before .before .before .loop .marks)
+mark-has c = rw (mark-is (c .before .before)) (mark-inside (c .before .before .before .before .before .loop .marks) (literal (c .before .before .before)) (marks-size (c .before .before .before .before .before .loop .inv)))
 
-other-has : (c : tie.After-slot-of2 Inv-loop μ-loop) → c .slot-of2 .result < length (c .before .before .before .before .before .loop .marks)
-other-has c = rw (other-is c) (slot-inside (c .before .before .before .before .before .loop .marks) (turned (c .before .before .before)) (marks-size (c .before .before .before .before .before .loop .inv)))
+other-has : (c : tie.After-mark-of2 Inv-loop μ-loop) → c .mark-of2 .result < length (c .before .before .before .before .before .loop .marks)
+other-has c = rw (other-is c) (mark-inside (c .before .before .before .before .before .loop .marks) (turned (c .before .before .before)) (marks-size (c .before .before .before .before .before .loop .inv)))
 
 loop-holds : tie.Need-loop-holds Inv-loop μ-loop
 loop-holds c = keeping-none (c .before .pre .blank)
@@ -74,20 +74,20 @@ slice-copy-out-l c = search needs
 add-i : tie.Need-add-i Inv-loop μ-loop
 add-i c = search needs
 
-slot-of-requires : tie.Need-slot-of-requires Inv-loop μ-loop
-slot-of-requires c κs = (rw (is-read c) (literal c .above), rw (is-read c) (small c))
+mark-of-requires : tie.Need-mark-of-requires Inv-loop μ-loop
+mark-of-requires c κs = rw (is-read c) (literal c)
 
 complement-requires : tie.Need-complement-requires Inv-loop μ-loop
 complement-requires c κs = rw (is-read (c .before)) (small (c .before))
 
-slot-of-requires-2 : tie.Need-slot-of-requires-2 Inv-loop μ-loop
-slot-of-requires-2 c κs = (rw (complement-is c) (turned (c .before .before) .above), rw (complement-is c) (small-neg (small (c .before .before))))
+mark-of-requires-2 : tie.Need-mark-of-requires-2 Inv-loop μ-loop
+mark-of-requires-2 c κs = rw (complement-is c) (turned (c .before .before))
 
 mul-if1 : tie.Need-mul-if1 Inv-loop μ-loop
-mul-if1 c = omega (arith, slot-has c, other-has c, marks-size (c .before .before .before .before .before .loop .inv))
+mul-if1 c = omega (arith, mark-has c, other-has c, marks-size (c .before .before .before .before .before .loop .inv))
 
 slice-read-if1 : tie.Need-slice-read-if1 Inv-loop μ-loop
-slice-read-if1 c = omega (arith, slot-has (c .before), other-has (c .before))
+slice-read-if1 c = omega (arith, mark-has (c .before), other-has (c .before))
 
 mul-if2 : tie.Need-mul-if2 Inv-loop μ-loop
 mul-if2 c = omega (arith, other-has (c .before .before), marks-size (c .before .before .before .before .before .before .before .loop .inv))
@@ -96,10 +96,10 @@ slice-read-if2 : tie.Need-slice-read-if2 Inv-loop μ-loop
 slice-read-if2 c = other-has (c .before .before .before)
 
 mul-marks : tie.Need-mul-marks Inv-loop μ-loop
-mul-marks c = omega (arith, slot-has (c .before .before .before .before), marks-size (c .before .before .before .before .before .before .before .before .before .loop .inv))
+mul-marks c = omega (arith, mark-has (c .before .before .before .before), marks-size (c .before .before .before .before .before .before .before .before .before .loop .inv))
 
 slice-write-marks : tie.Need-slice-write-marks Inv-loop μ-loop
-slice-write-marks c = slot-has (c .before .before .before .before)
+slice-write-marks c = mark-has (c .before .before .before .before)
 
 mul-l-2 : tie.Need-mul-l-2 Inv-loop μ-loop
 mul-l-2 c = omega (arith, behind (c .before .before .before .before .before .before .before .before .before .loop .inv))
@@ -117,8 +117,8 @@ loop-again : tie.Need-loop-again Inv-loop μ-loop
 loop-again c = let at = c .before .before .before .before .before .before .before .before .before .loop in
     let l = c .before .before .before .before .before .before .before in
     let s = c .before .before .before .before .before .before .before .before .before .before .before in
-    rw (slot-is (c .before .before .before .before .before .before), is-read l)
-    (keeping-new (at .inv) (inside l) (says-new (at .inv) (s .pre .literals) (literal l) (slot-is (c .before .before .before .before .before .before)) (c .before .before .if1 .taken))
+    rw (mark-is (c .before .before .before .before .before .before), is-read l)
+    (keeping-new (at .inv) (inside l) (says-new (at .inv) (s .pre .literals) (literal l) (mark-is (c .before .before .before .before .before .before)) (c .before .before .if1 .taken))
     (⊎-elim
     (λ w. w .1 ∙ sym (or-true (at .both)) ∙ ap (λ (b : Bool). at .both || b) (sym (eq-eqb _ 1 (w .0 .taken))))
     (λ w. w .1 ∙ sym (or-false (at .both)) ∙ ap (λ (b : Bool). at .both || b) (sym (ne-eqb _ 1 (w .0 .left))))
@@ -131,13 +131,13 @@ loop-less-2 c = search needs
 loop-again-2 : tie.Need-loop-again-2 Inv-loop μ-loop
 loop-again-2 c = let at = c .before .before .before .before .before .before .before .loop in
     let l = c .before .before .before .before .before in
-    keeping-repeat (at .inv) (inside l) (says-kept (at .inv) (l .before .before .before .before .pre .literals) (literal l) (slot-is (c .before .before .before .before)) (c .if1 .left))
+    keeping-repeat (at .inv) (inside l) (says-kept (at .inv) (l .before .before .before .before .pre .literals) (literal l) (mark-is (c .before .before .before .before)) (c .if1 .left))
 
 same-length : tie.Need-same-length Inv-loop μ-loop
 same-length c = same-size (c .before .loop .inv)
 
 same-length-2 : tie.Need-same-length-2 Inv-loop μ-loop
-same-length-2 c = marks-size (c .before .loop .inv) ∙ sym (ap length (c .before .before .before .pre .blank) ∙ length-replicate {A = ℕ} 2048 0)
+same-length-2 c = marks-size (c .before .loop .inv) ∙ sym (ap length (c .before .before .before .pre .blank) ∙ length-replicate {A = ℕ} 2049 0)
 
 returns : tie.Need-returns Inv-loop μ-loop
 returns c = let at = c .before .loop in
@@ -159,9 +159,9 @@ keep-first-spec =
     mul-l
     slice-copy-out-l
     add-i
-    slot-of-requires
+    mark-of-requires
     complement-requires
-    slot-of-requires-2
+    mark-of-requires-2
     mul-if1
     slice-read-if1
     mul-if2

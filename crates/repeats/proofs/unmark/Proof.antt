@@ -9,10 +9,10 @@ use lib.Seq.{take-suc, take-all}
 use lib.IntN.{ℤ, pos}
 use mir.Syntax.{w32}
 use mir.Val.{ofZ, toZ}
-use Rattle.literal.specs.Literals.{Small, Literal, slotOf}
+use Rattle.literal.specs.Literals.{Literal}
 use Rattle.literal.proofs.Signed.{read}
-use Rattle.repeats.specs.Marks.{withMark}
-use Rattle.repeats.proofs.Marks.{withMark-length, withMark-snoc, slot-inside}
+use Rattle.repeats.specs.Marks.{markOf, withMark}
+use Rattle.repeats.proofs.Marks.{withMark-length, withMark-snoc, mark-inside}
 use borrow.Author.Needs.{needs}
 use Rattle.repeats.proofs.unmark.Statement.{statement}
 use Rattle.repeats.proofs.unmark.Tie as tie
@@ -24,45 +24,42 @@ abbrev μ-loop : tie.MeasureT-loop
 μ-loop part marks₀ k₀ marks k = length part - k
 
 -- what is read is a literal
-module _ (c : tie.After-slot-of-arg Inv-loop μ-loop) where
+module _ (c : tie.After-mark-of-arg Inv-loop μ-loop) where
   abbrev x : ℤ
   x = getD (c .before .before .before .before .args .part .now) (c .before .before .loop .k) (pos 0)
 
   literal : Literal 1024 x
   literal = c .before .before .before .before .pre .literals (c .before .before .loop .k) (c .before .loop-test .taken)
 
-  small : Small x
-  small = record { small = omega (arith, literal .within) }
-
   is-read : toZ w32 (ofZ w32 x) ≡ x
-  is-read = read (c .before .before .before .before .args .part .now) (c .before .before .loop .k) (c .slot-of-arg .given)
+  is-read = read (c .before .before .before .before .args .part .now) (c .before .before .loop .k) (c .mark-of-arg .given)
 
-  size : length (c .before .before .loop .marks) ≡ 2048
-  size = ap length (c .before .before .loop .inv .1) ∙ withMark-length 0 (take (c .before .before .loop .k) (c .before .before .before .before .args .part .now)) _ ∙ c .before .before .before .before .pre .slots
+  size : length (c .before .before .loop .marks) ≡ 2049
+  size = ap length (c .before .before .loop .inv .1) ∙ withMark-length 0 (take (c .before .before .loop .k) (c .before .before .before .before .args .part .now)) _ ∙ c .before .before .before .before .pre .places
 
-slot-is : (c : tie.After-slot-of Inv-loop μ-loop) → c .slot-of .result ≡ slotOf (x (c .before))
-slot-is c = c .slot-of .ensures ∙ ap slotOf (is-read (c .before))
+mark-is : (c : tie.After-mark-of Inv-loop μ-loop) → c .mark-of .result ≡ markOf (x (c .before))
+mark-is c = c .mark-of .ensures ∙ ap markOf (is-read (c .before))
 
-slot-has : (c : tie.After-slot-of Inv-loop μ-loop) → c .slot-of .result < length (c .before .before .before .loop .marks)
-slot-has c = rw (slot-is c) (slot-inside (c .before .before .before .loop .marks) (literal (c .before)) (size (c .before)))
+mark-has : (c : tie.After-mark-of Inv-loop μ-loop) → c .mark-of .result < length (c .before .before .before .loop .marks)
+mark-has c = rw (mark-is c) (mark-inside (c .before .before .before .loop .marks) (literal (c .before)) (size (c .before)))
 
 loop-holds : tie.Need-loop-holds Inv-loop μ-loop
 loop-holds c = (omega arith, refl)
 
-mul-slot-of : tie.Need-mul-slot-of Inv-loop μ-loop
-mul-slot-of c = search needs
+mul-mark-of : tie.Need-mul-mark-of Inv-loop μ-loop
+mul-mark-of c = search needs
 
-shared-slice-copy-out-slot-of : tie.Need-shared-slice-copy-out-slot-of Inv-loop μ-loop
-shared-slice-copy-out-slot-of c = search needs
+shared-slice-copy-out-mark-of : tie.Need-shared-slice-copy-out-mark-of Inv-loop μ-loop
+shared-slice-copy-out-mark-of c = search needs
 
-slot-of-requires : tie.Need-slot-of-requires Inv-loop μ-loop
-slot-of-requires c κs = (rw (is-read c) (literal c .above), rw (is-read c) (small c))
+mark-of-requires : tie.Need-mark-of-requires Inv-loop μ-loop
+mark-of-requires c κs = rw (is-read c) (literal c)
 
 mul-marks : tie.Need-mul-marks Inv-loop μ-loop
-mul-marks c = omega (arith, slot-has c, size (c .before))
+mul-marks c = omega (arith, mark-has c, size (c .before))
 
 slice-write-marks : tie.Need-slice-write-marks Inv-loop μ-loop
-slice-write-marks c = slot-has c
+slice-write-marks c = mark-has c
 
 add-k : tie.Need-add-k Inv-loop μ-loop
 add-k c = search needs
@@ -75,7 +72,7 @@ loop-again c = let at = c .before .before .before .loop in
     let s = c .before .before .before .before .before in (
       omega arith,
       rw (add-one, take-suc (s .args .part .now) (at .k) (pos 0) (c .before .before .loop-test .taken), withMark-snoc 0 (take (at .k) (s .args .part .now)) (x (c .before)) (s .args .marks .now))
-          (λ j. set (at .inv .1 j) (slot-is c j) 0),
+          (λ j. set (at .inv .1 j) (mark-is c j) 0),
     )
 
 same-length : tie.Need-same-length Inv-loop μ-loop
@@ -91,9 +88,9 @@ unmark-spec =
     Inv-loop
     μ-loop
     loop-holds
-    mul-slot-of
-    shared-slice-copy-out-slot-of
-    slot-of-requires
+    mul-mark-of
+    shared-slice-copy-out-mark-of
+    mark-of-requires
     mul-marks
     slice-write-marks
     add-k
