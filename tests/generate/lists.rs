@@ -3,13 +3,15 @@
 use crate::random::Random;
 use crate::run::order;
 
-/// All 2V literals in some order.
+/// All 2V literals: mostly in any order, else in that of a round, often the
+/// first round, or in its reverse.
 pub fn permutation(random: &mut Random, variables: usize) -> Vec<i32> {
-    let turn = random.below(10) as u32;
+    let turned = random.below(10) as u32;
+    let turn = random.pick(&[0, turned]);
     let mut list = order(variables, turn);
     match random.below(8) {
-        0 => {}
-        1 => list.reverse(),
+        0 | 1 => {}
+        2 => list.reverse(),
         _ => random.shuffle(&mut list),
     }
     list

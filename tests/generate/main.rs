@@ -7,6 +7,7 @@ mod damage;
 mod far;
 mod forest;
 mod formulas;
+mod implied;
 mod limits;
 mod lists;
 mod near;

@@ -4,6 +4,7 @@ use crate::calls::{any, fitting, line, Call};
 use crate::damage;
 use crate::far;
 use crate::formulas::{draft, odd_text, plain_text, Draft};
+use crate::implied;
 use crate::limits;
 use crate::lists;
 use crate::random::Random;
@@ -259,6 +260,13 @@ impl Script {
         let random = &mut self.random;
         if random.once_in(4) {
             return far::draft(random);
+        }
+        if random.once_in(4) {
+            let variables = match random.below(40) {
+                0 => random.between(13, 60),
+                _ => random.between(3, 12),
+            };
+            return implied::draft(random, variables);
         }
         let variables = match random.below(200) {
             0 => random.between(100, 400),

@@ -6,7 +6,12 @@ use crate::unhide::unhide;
 
 /// Prints `ok` or what differs for each case; the result is the exit status.
 pub fn cases() -> i32 {
-    let mut status = i32::from(!told("unhide", unhidden(), UNHIDDEN));
+    let mut status = 0;
+    for (name, input, prints) in UNHIDDEN {
+        if !told(name, unhide(input), prints) {
+            status = 1;
+        }
+    }
     for case in named::cases() {
         let mut replay = Replay::new();
         replay.take(&case.script());
@@ -29,9 +34,22 @@ fn told(name: &str, found: Vec<u8>, wanted: &str) -> bool {
     same
 }
 
-/// What the program prints for P2.
-fn unhidden() -> Vec<u8> {
-    unhide(b"p cnf 4 3\n-1 2 0\n-2 3 0\n1 3 4 0\n")
-}
-
-const UNHIDDEN: &str = "p cnf 4 3\n-1 2 0\n-2 3 0\n3 4 0\n";
+/// An input of the program `unhide`, and what it prints. In the second and the
+/// third a chain from -1, which fails, implies the pairs that are gone.
+const UNHIDDEN: &[(&str, &[u8], &str)] = &[
+    (
+        "unhide-P2",
+        b"p cnf 4 3\n-1 2 0\n-2 3 0\n1 3 4 0\n",
+        "p cnf 4 3\n-1 2 0\n-2 3 0\n3 4 0\n",
+    ),
+    (
+        "unhide-implied-pair",
+        b"p cnf 3 4\n1 2 0\n1 -2 0\n1 3 0\n2 3 0\n",
+        "p cnf 3 4\n1 0\n1 0\n1 0\n2 3 0\n",
+    ),
+    (
+        "unhide-two-implied-pairs",
+        b"p cnf 5 7\n1 2 0\n-2 1 0\n1 3 0\n-3 4 0\n-4 5 0\n1 4 0\n5 1 0\n",
+        "p cnf 5 6\n1 0\n1 0\n1 0\n1 3 0\n-3 4 0\n-4 5 0\n",
+    ),
+];

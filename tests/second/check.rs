@@ -10,6 +10,7 @@ use crate::compare_walks::{groups_agree, is_subsequence, stamps_agree};
 use crate::failed::failed;
 use crate::forest::forest;
 use crate::formulas::{draft, odd_text, plain_text};
+use crate::implied;
 use crate::load::{load, without_repeats};
 use crate::merge::merge;
 use crate::propagate::propagate;
@@ -87,8 +88,13 @@ const OLD_STAMP: StampRecord = StampRecord {
 impl<'a> Check<'a> {
     /// Loads a random formula into tables that are not empty.
     fn start(random: &mut Random, truth: &'a Truth) -> Check<'a> {
-        let variables = random.below(MOST_TRIED + 1);
-        let draft = draft(random, variables);
+        let draft = if random.once_in(3) {
+            let variables = random.between(3, MOST_TRIED);
+            implied::draft(random, variables)
+        } else {
+            let variables = random.below(MOST_TRIED + 1);
+            draft(random, variables)
+        };
         let plain = plain_text(&draft);
         let text = if random.once_in(2) {
             odd_text(random, &draft)
@@ -285,8 +291,8 @@ impl<'a> Check<'a> {
         Ok(())
     }
 
-    /// The answer fits the tables, and two calls that make the same visits
-    /// have the same result.
+    /// The answer fits the tables, the assignments are the same after each of
+    /// the visits, and two calls that make the same visits have the same result.
     fn steps_agree(
         &self,
         random: &mut Random,
@@ -306,10 +312,29 @@ impl<'a> Check<'a> {
         if !fits {
             return Err(format!("the answer {answer:?} does not fit the tables"));
         }
+        self.every_stop_agrees(before, pass, answer.visits)?;
         let first_steps = random.between(0, steps as usize) as u32;
         let two_calls = in_two_calls(before, pass, first_steps, steps - first_steps);
         if two_calls != Ok((after.clone(), answer)) {
             return Err("two calls differ from one of the same visits".to_string());
+        }
+        Ok(())
+    }
+
+    /// The visits made one by one: what stands after each has the same
+    /// satisfying assignments.
+    fn every_stop_agrees(
+        &self,
+        before: &Formula,
+        pass: fn(&mut Formula, u32) -> Result<Answer, Refusal>,
+        visits: u32,
+    ) -> Result<(), String> {
+        let mut formula = before.clone();
+        for visit in 1..=visits {
+            pass(&mut formula, 1).map_err(|r| format!("at visit {visit}: {r:?}"))?;
+            if self.truth.standing(&formula) != self.wanted {
+                return Err(format!("other satisfying assignments after visit {visit}"));
+            }
         }
         Ok(())
     }

@@ -1,22 +1,67 @@
-//! Figures 5 and 6, walked step by step, compared with the rules for what
-//! they give.
+//! Sweep's rules, compared with the figures that they describe: figures 5 and
+//! 6, walked step by step. Figure 6 passes over pairs that the rule drops, so
+//! pairs are compared with the parents instead.
 
-use crate::sweep::{is_hidden_tautology, scan, without_hidden_literals};
-use crate::tables::Formula;
+use crate::sweep::{is_hidden_tautology, without_hidden_literals};
+use crate::tables::{slot, Formula};
 
 pub fn figures_agree(formula: &Formula) -> Result<(), String> {
     for record in 0..formula.n() {
         let clause = formula.part(record);
-        if clause.len() >= 3 && scan(formula, clause) != is_hidden_tautology(formula, clause) {
+        if clause.len() < 2 {
+            continue;
+        }
+        let is_dropped = is_hidden_tautology(formula, clause);
+        if let [a, b] = *clause {
+            if is_dropped != (is_far_above(formula, -a, b) || is_far_above(formula, -b, a)) {
+                return Err(format!("the parents differ on clause {}", record + 1));
+            }
+        } else if is_dropped != figure_6(formula, clause) {
             return Err(format!("figure 6 differs on clause {}", record + 1));
         }
-        if clause.len() >= 2
-            && figure_5(formula, clause) != without_hidden_literals(formula, clause)
-        {
+        if figure_5(formula, clause) != without_hidden_literals(formula, clause) {
             return Err(format!("figure 5 differs on clause {}", record + 1));
         }
     }
     Ok(())
+}
+
+/// The climb from q over the parents comes to p, in two steps or more.
+fn is_far_above(formula: &Formula, p: i32, q: i32) -> bool {
+    let mut steps = 0;
+    let mut literal = q;
+    while literal != p {
+        let parent = formula.stamps[slot(literal)].parent;
+        if parent == literal {
+            return false;
+        }
+        literal = parent;
+        steps += 1;
+    }
+    steps >= 2
+}
+
+/// The literals and their complements, each sorted by discovery, are walked
+/// together until a yes or until one list ends.
+fn figure_6(formula: &Formula, clause: &[i32]) -> bool {
+    let mut positives = clause.to_vec();
+    let mut negatives: Vec<i32> = clause.iter().map(|l| -l).collect();
+    positives.sort_by_key(|l| formula.interval(*l).discovery);
+    negatives.sort_by_key(|l| formula.interval(*l).discovery);
+    let mut next_positive = 0;
+    let mut next_negative = 0;
+    while next_positive < clause.len() && next_negative < clause.len() {
+        let positive = formula.interval(positives[next_positive]);
+        let negative = formula.interval(negatives[next_negative]);
+        if negative.discovery > positive.discovery {
+            next_positive += 1;
+        } else if negative.finish < positive.finish {
+            next_negative += 1;
+        } else {
+            return true;
+        }
+    }
+    false
 }
 
 fn figure_5(formula: &Formula, clause: &[i32]) -> Vec<i32> {

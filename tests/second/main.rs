@@ -41,6 +41,8 @@ mod calls;
 mod forest;
 #[path = "../generate/formulas.rs"]
 mod formulas;
+#[path = "../generate/implied.rs"]
+mod implied;
 #[path = "../generate/lists.rs"]
 mod lists;
 #[path = "../generate/random.rs"]

@@ -1,6 +1,6 @@
 //! Named cases: texts, good and bad, the pallet cases, refusals by call,
-//! repeated literals in loads and in Merge, and formulas at the limits; each
-//! with what a replay of it prints.
+//! repeated literals in loads and in Merge, pairs that a Sweep drops or keeps,
+//! and formulas at the limits; each with what a replay of it prints.
 
 /// The bytes of a load, the calls behind it, a line each, and what a replay of
 /// both prints.
@@ -55,7 +55,7 @@ fn short() -> Vec<Case> {
         },
         prints: prints.to_string(),
     });
-    let passes = CALLS.iter().chain(REPEATS);
+    let passes = CALLS.iter().chain(REPEATS).chain(PAIRS);
     let passes = passes.map(|&(name, text, calls, prints)| Case {
         name,
         text: text.as_bytes().to_vec(),
@@ -301,6 +301,13 @@ const CALLS: &[(&str, &str, &str, &str)] = &[
         "p cnf 4 5\n2 3 0\n-3 -1 0\n1 2 0\n-2 4 0\n-4 1 0\n",
         "stamp 1 -1 2 -2 3 -3 4 -4\nstamps\nfailed\nsweep 65535\nwrite 256\n",
         "loaded 4 5 0\nrefused 7 0\n0 0 0 0\n0 0 0 0\n0 0 0 0\n0 0 0 0\n0 0 0 0\n0 0 0 0\n0 0 0 0\n0 0 0 0\nrefused 9 0\nrefused 9 0\nwritten 44\np cnf 4 5\n2 3 0\n-3 -1 0\n1 2 0\n-2 4 0\n-4 1 0\n",
+    ),
+    // the order under which a stamping of this graph would drop the third clause through itself
+    (
+        "P9-stamp-minus-2-first",
+        "p cnf 4 5\n2 3 0\n-3 -1 0\n1 2 0\n-2 4 0\n-4 1 0\n",
+        "stamp -2 1 -1 2 3 -3 4 -4\nsweep 65535\nliterals\n",
+        "loaded 4 5 0\nrefused 7 0\nrefused 9 0\nliterals 2 3 -3 -1 1 2 -2 4 -4 1\n",
     ),
     (
         "P9",
@@ -550,6 +557,162 @@ const REPEATS: &[(&str, &str, &str, &str)] = &[
         "p cnf 4 5\n-2 3 0\n-3 2 0\n1 -2 -3 0\n-1 3 2 0\n3 1 4 2 0\n",
         "merge 65535\nvariables\nclauses\nliterals\nmerge 65535\nvariables\nclauses\nliterals\n",
         "loaded 4 5 0\ndone 5 2 7\n1 0\n2 0\n2 0\n4 0\n0 0 0\n2 0 0\n4 2 1\n7 2 1\n10 3 1\nliterals 0 0 0 0 1 -2 0 -1 2 0 2 1 4\ndone 5 2 5\n1 0\n1 0\n1 0\n4 0\n0 0 0\n2 0 0\n4 0 0\n7 0 0\n10 2 1\nliterals 0 0 0 0 0 0 0 0 0 0 1 4\n",
+    ),
+];
+
+/// Pairs, and the same for three literals: a text, the calls behind its load,
+/// and what all of them print. A pair is dropped if, for one of its edges
+/// p -> q, p holds q and is not its parent.
+const PAIRS: &[(&str, &str, &str, &str)] = &[
+    // -1 holds 3 by way of -2, so the third clause is dropped, though -1 holds 1 too; of the first two, figure 5 leaves 1
+    (
+        "implied-from-a-failing-literal",
+        "p cnf 3 4\n1 2 0\n1 -2 0\n1 3 0\n2 3 0\n",
+        "stamp 1 -1 2 -2 3 -3\nstamps\nsweep 4\nclauses\nliterals\n",
+        "loaded 3 4 0\nstamped\n3 4 2 -1\n1 10 -1 -1\n2 5 -1 -1\n6 9 -1 -1\n7 8 -2 -1\n11 12 -3 -3\ndone 4 1 4\n0 1 1\n2 1 1\n4 0 0\n6 2 1\nliterals 1 0 1 0 0 0 2 3\n",
+    ),
+    (
+        "implied-from-a-failing-literal-steps",
+        "p cnf 3 4\n1 2 0\n1 -2 0\n1 3 0\n2 3 0\n",
+        "stamp 1 -1 2 -2 3 -3\nsweep 3\nstate\nliterals\nsweep 1\nstate\nliterals\n",
+        "loaded 3 4 0\nstamped\nopen 3 1 4\nstate 3 4 3 3 0 1 0\nliterals 1 0 1 0 0 0 2 3\ndone 1 0 0\nstate 3 4 0 0 0 0 0\nliterals 1 0 1 0 0 0 2 3\n",
+    ),
+    (
+        "implied-from-a-failing-literal-one-visit",
+        "p cnf 3 4\n1 2 0\n1 -2 0\n1 3 0\n2 3 0\n",
+        "stamp 1 -1 2 -2 3 -3\nsweep 2\nliterals\nsweep 1\nwrite 256\nsweep 65535\n",
+        "loaded 3 4 0\nstamped\nopen 2 0 2\nliterals 1 0 1 0 1 3 2 3\nopen 1 1 2\nwritten 24\np cnf 3 3\n1 0\n1 0\n2 3 0\ndone 1 0 0\n",
+    ),
+    (
+        "implied-from-a-failing-literal-failed",
+        "p cnf 3 4\n1 2 0\n1 -2 0\n1 3 0\n2 3 0\n",
+        "stamp 1 -1 2 -2 3 -3\nfailed\nsweep 4\nvariables\nwrite 256\n",
+        "loaded 3 4 0\nstamped\nfailed 1\ndone 4 1 4\n1 1\n2 0\n3 0\nwritten 28\np cnf 3 4\n1 0\n1 0\n1 0\n2 3 0\n",
+    ),
+    (
+        "implied-from-a-failing-literal-run-1",
+        "p cnf 3 4\n1 2 0\n1 -2 0\n1 3 0\n2 3 0\n",
+        "run 1\nwrite 256\n",
+        "loaded 3 4 0\nran 1\nwritten 28\np cnf 3 4\n1 0\n1 0\n1 0\n2 3 0\n",
+    ),
+    (
+        "implied-from-a-failing-literal-run-2",
+        "p cnf 3 4\n1 2 0\n1 -2 0\n1 3 0\n2 3 0\n",
+        "run 2\nwrite 256\n",
+        "loaded 3 4 0\nran 2\nwritten 20\np cnf 3 2\n1 0\n2 3 0\n",
+    ),
+    // the same pairs, each with its literals in the other order
+    (
+        "implied-from-a-failing-literal-turned",
+        "p cnf 3 4\n2 1 0\n-2 1 0\n3 1 0\n3 2 0\n",
+        "stamp 1 -1 2 -2 3 -3\nstamps\nsweep 4\nliterals\n",
+        "loaded 3 4 0\nstamped\n3 4 2 -1\n1 10 -1 -1\n2 5 -1 -1\n6 9 -1 -1\n7 8 -2 -1\n11 12 -3 -3\ndone 4 1 4\nliterals 1 0 1 0 0 0 3 2\n",
+    ),
+    (
+        "implied-from-a-failing-literal-twice",
+        "p cnf 3 5\n1 2 0\n1 -2 0\n1 3 0\n2 3 0\n3 1 0\n",
+        "stamp 1 -1 2 -2 3 -3\nsweep 4\nliterals\nsweep 1\nliterals\n",
+        "loaded 3 5 0\nstamped\nopen 4 1 4\nliterals 1 0 1 0 0 0 2 3 3 1\ndone 1 1 2\nliterals 1 0 1 0 0 0 2 3\n",
+    ),
+    // -1 leads to 3, 4 and 5 in one line, so (1 4) and (5 1) are dropped and (1 3) stays
+    (
+        "two-implied-from-a-failing-literal",
+        "p cnf 5 7\n1 2 0\n-2 1 0\n1 3 0\n-3 4 0\n-4 5 0\n1 4 0\n5 1 0\n",
+        "stamp 1 -1 2 -2 3 -3 4 -4 5 -5\nstamps\nsweep 6\nliterals\nsweep 6\nliterals\n",
+        "loaded 5 7 0\nstamped\n3 4 2 -1\n1 14 -1 -1\n2 5 -1 -1\n6 7 -1 -1\n8 13 -1 -1\n17 18 -4 -5\n9 12 3 -1\n16 19 -5 -5\n10 11 4 -1\n15 20 -5 -5\nopen 6 1 4\nliterals 1 0 1 0 1 3 -3 4 -4 5 0 0 5 1\ndone 1 1 2\nliterals 1 0 1 0 1 3 -3 4 -4 5\n",
+    ),
+    // -1 holds 2 by way of -2 and 3, so (1 2) is dropped, though -2 is the parent of 1
+    (
+        "both-complements-fail",
+        "p cnf 3 4\n1 -2 0\n1 2 0\n2 3 0\n2 -3 0\n",
+        "stamp 1 -1 2 -2 3 -3\nstamps\nsweep 2\nliterals\nsweep 2\nliterals\n",
+        "loaded 3 4 0\nstamped\n3 4 -2 -1\n1 12 -1 -1\n6 7 3 -1\n2 11 -1 -1\n5 8 -2 -1\n9 10 -2 -1\nopen 2 1 3\nliterals 1 0 0 0 2 3 2 -3\ndone 2 0 2\nliterals 1 0 0 0 2 0 2\n",
+    ),
+    // -1 holds 1 and is the parent of 2 and of -2: no clause is dropped, and figure 5 leaves 1 of both
+    (
+        "walked-from-a-failing-literal",
+        "p cnf 2 2\n1 2 0\n1 -2 0\n",
+        "stamp 1 -1 2 -2\nstamps\nsweep 1\nliterals\nsweep 1\nliterals\n",
+        "loaded 2 2 0\nstamped\n3 4 2 -1\n1 8 -1 -1\n2 5 -1 -1\n6 7 -1 -1\nopen 1 0 1\nliterals 1 0 1 -2\ndone 1 0 1\nliterals 1 0 1\n",
+    ),
+    // -1 is the parent of 2, but -2 holds 1 by way of 3, so (1 2) is dropped
+    (
+        "implied-by-the-second-edge",
+        "p cnf 3 3\n2 3 0\n1 2 0\n-3 1 0\n",
+        "stamp 1 -1 2 -2 3 -3\nstamps\nsweep 65535\nliterals\n",
+        "loaded 3 3 0\nstamped\n9 10 3 -2\n1 6 -1 -1\n2 3 -1 -1\n7 12 -2 -2\n8 11 -2 -2\n4 5 -1 -1\ndone 3 1 2\nliterals 2 3 0 0 -3 1\n",
+    ),
+    (
+        "implied-by-the-first-edge",
+        "p cnf 3 3\n2 3 0\n2 1 0\n-3 1 0\n",
+        "stamp 1 -1 2 -2 3 -3\nsweep 65535\nliterals\n",
+        "loaded 3 3 0\nstamped\ndone 3 1 2\nliterals 2 3 0 0 -3 1\n",
+    ),
+    // -1 is the parent of 3, and -3 does not hold 1
+    (
+        "walked-one-way",
+        "p cnf 3 2\n1 2 0\n1 3 0\n",
+        "stamp 1 -1 2 -2 3 -3\nstamps\nsweep 65535\nliterals\n",
+        "loaded 3 2 0\nstamped\n8 9 -2 -2\n1 6 -1 -1\n2 3 -1 -1\n7 10 -2 -2\n4 5 -1 -1\n11 12 -3 -3\ndone 2 0 0\nliterals 1 2 1 3\n",
+    ),
+    (
+        "walked-one-way-turned",
+        "p cnf 3 2\n2 1 0\n3 1 0\n",
+        "stamp 1 -1 2 -2 3 -3\nsweep 65535\nliterals\n",
+        "loaded 3 2 0\nstamped\ndone 2 0 0\nliterals 2 1 3 1\n",
+    ),
+    // of the same pair neither is dropped for the other
+    (
+        "pair-twice",
+        "p cnf 2 2\n1 2 0\n1 2 0\n",
+        "stamp 1 -1 2 -2\nstamps\nsweep 65535\nliterals\n",
+        "loaded 2 2 0\nstamped\n6 7 -2 -2\n1 4 -1 -1\n2 3 -1 -1\n5 8 -2 -2\ndone 2 0 0\nliterals 1 2 1 2\n",
+    ),
+    (
+        "pair-twice-walked-one-way",
+        "p cnf 3 3\n1 2 0\n2 1 0\n1 3 0\n",
+        "stamp -3 3 1 -1 2 -2\nstamps\nsweep 65535\nliterals\n",
+        "loaded 3 3 0\nstamped\n2 3 -3 -3\n5 10 -1 -1\n6 7 -1 -1\n11 12 -2 -2\n8 9 -1 -1\n1 4 -3 -3\ndone 3 0 0\nliterals 1 2 2 1 1 3\n",
+    ),
+    (
+        "implied-pair-twice",
+        "p cnf 3 4\n-1 2 0\n-2 3 0\n-1 3 0\n3 -1 0\n",
+        "stamp 1 -1 2 -2 3 -3\nsweep 3\nliterals\nsweep 1\nliterals\n",
+        "loaded 3 4 0\nstamped\nopen 3 1 2\nliterals -1 2 -2 3 0 0 3 -1\ndone 1 1 2\nliterals -1 2 -2 3\n",
+    ),
+    (
+        "implied-pair-inside-and-behind-the-chain",
+        "p cnf 3 4\n-1 2 0\n-1 3 0\n-2 3 0\n-1 3 0\n",
+        "stamp 1 -1 2 -2 3 -3\nstamps\nsweep 65535\nliterals\n",
+        "loaded 3 4 0\nstamped\n1 6 1 1\n8 9 -3 -3\n2 5 1 1\n10 11 -3 -3\n3 4 2 1\n7 12 -3 -3\ndone 4 2 4\nliterals -1 2 0 0 -2 3\n",
+    ),
+    // 1 is the parent of 3, and -3 of -1, so the chain is not seen and both stay
+    (
+        "implied-pair-before-and-behind-the-chain",
+        "p cnf 3 4\n-1 3 0\n-1 2 0\n-2 3 0\n-1 3 0\n",
+        "stamp 1 -1 2 -2 3 -3\nstamps\nsweep 65535\nliterals\n",
+        "loaded 3 4 0\nstamped\n1 6 1 1\n8 9 -3 -3\n4 5 1 1\n10 11 -3 -3\n2 3 1 1\n7 12 -3 -3\ndone 4 0 0\nliterals -1 3 -1 2 -2 3 -1 3\n",
+    ),
+    // stamps that no walk gives: -1 comes before 2 under 1 and does not hold it, so the pair is not dropped; figure 5 takes out 1, which holds 2
+    (
+        "apart-in-one-tree",
+        "p cnf 2 1\n1 2 0\n",
+        "stamp 1 -1 2 -2\nset stamps 0 0 1\nset stamps 0 1 8\nset stamps 0 2 1\nset stamps 0 3 1\nset stamps 1 0 2\nset stamps 1 1 3\nset stamps 1 2 1\nset stamps 1 3 1\nset stamps 2 0 4\nset stamps 2 1 5\nset stamps 2 2 1\nset stamps 2 3 1\nset stamps 3 0 6\nset stamps 3 1 7\nset stamps 3 2 1\nset stamps 3 3 1\nsweep 1\nliterals\n",
+        "loaded 2 1 0\nstamped\ndone 1 0 1\nliterals 2\n",
+    ),
+    // for three literals it is enough that 1 holds 2, its parent or not
+    (
+        "three-literals-with-a-parent",
+        "p cnf 3 2\n-1 2 0\n-1 2 3 0\n",
+        "stamp 1 -1 2 -2 3 -3\nsweep 65535\nliterals\n",
+        "loaded 3 2 0\nstamped\ndone 2 1 3\nliterals -1 2\n",
+    ),
+    // for three literals it is enough that -1 holds 1
+    (
+        "three-literals-from-a-failing-literal",
+        "p cnf 4 3\n1 2 0\n1 -2 0\n1 3 4 0\n",
+        "stamp 1 -1 2 -2 3 -3 4 -4\nsweep 65535\nliterals\n",
+        "loaded 4 3 0\nstamped\ndone 3 1 5\nliterals 1 0 1\n",
     ),
 ];
 

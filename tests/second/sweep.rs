@@ -42,11 +42,11 @@ fn visit(formula: &mut Formula, record: usize) {
     }
 }
 
-/// For three or more literals: some literal's complement holds a literal of
-/// the clause. For two, what the scan says.
+/// For two literals, what the rule for pairs says; for three or more: some
+/// literal's complement holds a literal of the clause.
 pub fn is_hidden_tautology(formula: &Formula, clause: &[i32]) -> bool {
-    if clause.len() == 2 {
-        return scan(formula, clause);
+    if let [a, b] = *clause {
+        return is_implied_pair(formula, a, b);
     }
     clause.iter().any(|complemented| {
         let negative = formula.interval(-complemented);
@@ -54,31 +54,13 @@ pub fn is_hidden_tautology(formula: &Formula, clause: &[i32]) -> bool {
     })
 }
 
-/// Figure 6: the literals and their complements, each sorted by discovery,
-/// are walked together until a yes or until one list ends.
-pub fn scan(formula: &Formula, clause: &[i32]) -> bool {
-    let mut positives = clause.to_vec();
-    let mut negatives: Vec<i32> = clause.iter().map(|l| -l).collect();
-    positives.sort_by_key(|l| formula.interval(*l).discovery);
-    negatives.sort_by_key(|l| formula.interval(*l).discovery);
-    let mut next_positive = 0;
-    let mut next_negative = 0;
-    while next_positive < clause.len() && next_negative < clause.len() {
-        let positive = positives[next_positive];
-        let negative = negatives[next_negative];
-        let p = formula.interval(positive);
-        let n = formula.interval(negative);
-        let is_exception = clause.len() == 2
-            && (positive == -negative || formula.stamps[slot(positive)].parent == negative);
-        if n.discovery > p.discovery {
-            next_positive += 1;
-        } else if n.finish < p.finish || is_exception {
-            next_negative += 1;
-        } else {
-            return true;
-        }
-    }
-    false
+/// For one of the two edges p -> q of the pair, p holds q and p is not q's
+/// parent.
+fn is_implied_pair(formula: &Formula, a: i32, b: i32) -> bool {
+    let is_implied = |p: i32, q: i32| {
+        formula.interval(p).holds(formula.interval(q)) && formula.stamps[slot(q)].parent != p
+    };
+    is_implied(-a, b) || is_implied(-b, a)
 }
 
 /// Figure 5, by what it removes: first each literal that holds another

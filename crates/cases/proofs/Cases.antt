@@ -1,4 +1,4 @@
--- The pallet cases P1 to P11 of document 01 as a single lemma over a list of cases, by computation. Assumes nothing.
+-- The pallet cases P1 to P11 of document 01, and behind them the case of document 02's CR 2, as a single lemma over a list of cases, by computation. Assumes nothing.
 use Prim.Native.Nat.{ℕ}
 use native.Mathlib.Decide.{ℕ-discrete, decLe, decLt}
 use mathlib.Core.Path.{refl}
@@ -30,7 +30,7 @@ use Rattle.propagate.specs.Propagate.{propagateFrom, propagateCall}
 use Rattle.propagate_visits.specs.Visits.{propagateClause, propagateVisit, propagateVisits}
 use Rattle.merge.specs.Merge.{clashes, representative, regrouped, mergedClasses, mergeOpen, mergeSettled, mergeCall}
 use Rattle.merge_visits.specs.Clause.{mergeClause}
-use Rattle.hidden.specs.Hidden.{holds, insert, byDiscovery, passes, scanAt, scan, hiddenTautology, unhidden, shorten}
+use Rattle.hidden.specs.Hidden.{holds, insert, byDiscovery, scanAt, scan, figure6, transitive, hiddenPair, hiddenTautology, unhidden, shorten}
 use Rattle.hidden.specs.Failed.{sameStart, holdsBoth, lowest, failedSlot}
 use Rattle.stamp.specs.Stamp.{firstBad, stampsOf, stampedTables, stampAcyclic, stampSettled, stampOrdered, stampCall}
 use Rattle.failed.specs.Failed.{failedAt, failedFrom, failedFresh, failedCall}
@@ -142,8 +142,13 @@ cases =
     (bytes "p cnf 1024 0\n"))
     ∷
     calls "p cnf 1025 0\n" [] (refusedAt 3 6)
+    ∷
+    -- document 02, CR 2: −1 holds 3 and is not its parent, so the third is dropped
+    calls "p cnf 3 4\n1 2 0\n1 -2 0\n1 3 0\n2 3 0\n" (stamp order₃ ∷ sweep 4 ∷ [])
+    (sees (loaded ∷ stamped ∷ done 4 1 4 ∷ []) false (0 ∷ 1 ∷ 1 ∷ 2 ∷ 1 ∷ 1 ∷ 4 ∷ 0 ∷ 0 ∷ 6 ∷ 2 ∷ 1 ∷ []) (pos 1 ∷ pos 0 ∷ pos 1 ∷ pos 0 ∷ pos 0 ∷ pos 0 ∷ pos 2 ∷ pos 3 ∷ []) (pos 1 ∷ pos 0 ∷ pos 2 ∷ pos 0 ∷ pos 3 ∷ pos 0 ∷ []) (3 ∷ 4 ∷ 1 ∷ 10 ∷ 2 ∷ 5 ∷ 6 ∷ 9 ∷ 7 ∷ 8 ∷ 11 ∷ 12 ∷ []) (pos 2 ∷ negsuc 0 ∷ negsuc 0 ∷ negsuc 0 ∷ negsuc 0 ∷ negsuc 0 ∷ negsuc 0 ∷ negsuc 0 ∷ negsuc 1 ∷ negsuc 0 ∷ negsuc 2 ∷ negsuc 2 ∷ [])
+    (bytes "p cnf 3 3\n1 0\n1 0\n2 3 0\n"))
     ∷ []
 
 pub hold : All cases
-unfolding and? or? if? not? so? every? eqᵇ? eqℤ? any filter absent first anyBelow allBelow sameList numbers turned evens odds interleave twin arrive leave edge edges enters startWalk stampAll outs froms tos reaches connected cyclic leastMutual literal? holds? times? parent? start? nested? fresh? long? longOk slotsAt slotsFrom standingCount literalCount shortened droppedAt fateAt visits advance firstUnsettled parts? literals? variable? cursor? clauses? shape? shapeOk entryOf openingOf wordsAt header headerRest judge judgeText clausesOf clauseRecords literalPlaces variableRecords laid loadCall digits clauseText clausesText textOf writtenClauses writeText writeCall propagateClause propagateVisit propagateVisits propagateFrom propagateCall clashes representative regrouped mergedClasses mergeClause mergeOpen mergeSettled mergeCall holds insert byDiscovery passes scanAt scan hiddenTautology unhidden shorten sameStart holdsBoth lowest failedSlot firstBad stampsOf stampedTables stampAcyclic stampSettled stampOrdered stampCall failedAt failedFrom failedFresh failedCall sweepClause sweepCall settleFor settle orderOf follow round unchanged runFrom runCall simplifyText unhideText stepOn stepsOn ℕ-discrete decLe decLt
-hold = (refl, (refl, (refl, (refl, (refl, (refl, (refl, (refl, (refl, (refl, (refl, (refl, (refl, (refl, (refl, tt)))))))))))))))
+unfolding and? or? if? not? so? every? eqᵇ? eqℤ? any filter absent first anyBelow allBelow sameList numbers turned evens odds interleave twin arrive leave edge edges enters startWalk stampAll outs froms tos reaches connected cyclic leastMutual literal? holds? times? parent? start? nested? fresh? long? longOk slotsAt slotsFrom standingCount literalCount shortened droppedAt fateAt visits advance firstUnsettled parts? literals? variable? cursor? clauses? shape? shapeOk entryOf openingOf wordsAt header headerRest judge judgeText clausesOf clauseRecords literalPlaces variableRecords laid loadCall digits clauseText clausesText textOf writtenClauses writeText writeCall propagateClause propagateVisit propagateVisits propagateFrom propagateCall clashes representative regrouped mergedClasses mergeClause mergeOpen mergeSettled mergeCall holds insert byDiscovery scanAt scan figure6 transitive hiddenPair hiddenTautology unhidden shorten sameStart holdsBoth lowest failedSlot firstBad stampsOf stampedTables stampAcyclic stampSettled stampOrdered stampCall failedAt failedFrom failedFresh failedCall sweepClause sweepCall settleFor settle orderOf follow round unchanged runFrom runCall simplifyText unhideText stepOn stepsOn ℕ-discrete decLe decLt
+hold = (refl, (refl, (refl, (refl, (refl, (refl, (refl, (refl, (refl, (refl, (refl, (refl, (refl, (refl, (refl, (refl, tt))))))))))))))))

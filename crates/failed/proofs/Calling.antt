@@ -1,18 +1,16 @@
 -- The call: its answer by what it found, and each way of its entry is a way of `failedCall`. Assumes nothing.
 use Prim.Native.Nat.{_*_}
-use native.Mathlib.Omega.{arith}
-use mathlib.Core.Path.{_≡_, sym, ap, _∙_}
+use mathlib.Core.Path.{_≡_, sym, ap}
 use mathlib.Core.Bool.{Bool, true, false}
 use mathlib.Core.List.{List}
 use lib.IntN.{ℤ}
 use Rattle.stamp_columns.specs.Columns.{columns}
 use Rattle.state.specs.declared.State.{State}
-use Rattle.state.specs.declared.Pass.the-variants.{Idle}
 use Rattle.state.specs.declared.Refusal.{Refusal}
 use Rattle.state.specs.declared.Refusal.the-variants.{Stale}
 use Rattle.state.specs.declared.Answer.the-variants.{Failed}
 use Rattle.tables.specs.Tables.{Tables}
-use Rattle.tables.specs.Calls.{After, answered, refuse}
+use Rattle.tables.specs.Calls.{answered, refuse}
 use Rattle.shape.specs.Shape.{Shape}
 use Rattle.entry.specs.Entry.{openingOf}
 use Rattle.entry.specs.declared.Opening.{Opening}

@@ -4,18 +4,17 @@ use Prim.Native.Nat.{ℕ, zero, suc, _+_, _*_, _≤_, _<_}
 use native.Mathlib.Nat.{le-refl}
 use native.Mathlib.Omega.{arith}
 use mathlib.Core.Path.{_≡_, refl, sym, ap, subst, _∙_}
-use mathlib.Core.Bool.{Bool, true, false, false≢true, _&&_}
+use mathlib.Core.Bool.{Bool, true, false, false≢true}
 use mathlib.Core.Logic.{⊎-elim}
 use mathlib.Core.List.{List}
 use lib.ListN.{length}
 use lib.IntN.{ℤ}
-use lib.Dec.{leb}
-use borrow.Author.Tests.{eqb-true, le-leb, lt-leb}
+use borrow.Author.Tests.{eqb-true}
 use Rattle.literal.specs.Literals.{Literal, litAt, twin}
 use Rattle.literal.proofs.Laws.{lit-var}
 use Rattle.literal.proofs.Twins.{twin-below}
 use Rattle.walk.specs.Walk.{Stamps}
-use Rattle.walk.specs.Forest.{discoveryAt, finishAt, parentAt, startAt, Holds}
+use Rattle.walk.specs.Forest.{discoveryAt, parentAt, startAt, Holds}
 use Rattle.stamp_columns.specs.Columns.{columns}
 use Rattle.hidden.specs.Hidden.{holds}
 use Rattle.hidden.specs.Failed.{sameStart, failedSlot}
@@ -52,17 +51,6 @@ module _ {v : ℕ} {times : List ℕ} {links : List ℤ} (S : FullStamps v times
     -- and its complement is a literal of theirs
     pub slot-ranged : Literal v (litAt s)
     slot-ranged = record { above = omega (arith, lit-var s); within = omega (arith, lit-var s) }
-
--- ---- the test of two intervals, by the numbers that the code reads
-
-module _ (σ : Stamps) (a b : ℕ) {d e : ℕ} (p : d ≡ discoveryAt σ b) (q : e ≡ discoveryAt σ a) where
-  pub begins-later : d < e → false ≡ holds σ a b
-  unfolding holds
-  begins-later h = ap (λ (t : Bool). t && leb (finishAt σ b) (finishAt σ a)) (sym (lt-leb (discoveryAt σ a) (discoveryAt σ b) (omega arith)))
-
-  pub begins-first : e ≤ d → {f g : ℕ} → f ≡ finishAt σ b → g ≡ finishAt σ a → leb f g ≡ holds σ a b
-  unfolding holds
-  begins-first h {f} {g} i j = ap (λ (t : ℕ). leb t g) i ∙ ap (leb (finishAt σ b)) j ∙ ap (λ (t : Bool). t && leb (finishAt σ b) (finishAt σ a)) (sym (le-leb (discoveryAt σ a) (discoveryAt σ b) (omega arith)))
 
 -- ---- the climb
 

@@ -8,11 +8,9 @@ ghost use mathlib.Core.Path.{_≡_};
 ghost use mathlib.Core.Bool.{false};
 ghost use mathlib.Core.List.{List};
 ghost use Prim.Native.Nat.{ℕ, _+_, _*_, _≤_, _<_};
-ghost use lib.ListN.{length};
 ghost use lib.IntN.{ℤ};
 ghost use Rattle.literal.specs.Literals.{twin};
 ghost use Rattle.stamp_columns.specs.Columns.{columns};
-ghost use Rattle.hidden.specs.Hidden.{holds};
 ghost use Rattle.hidden.specs.Failed.{sameStart, failedSlot};
 ghost use Rattle.tables.specs.Lent.{lent, returned, unlent};
 ghost use Rattle.tables.specs.Calls.{after};
@@ -43,17 +41,6 @@ fn same_start(links: &[i32], s: u32) -> bool
     start_of(links, s) == start_of(links, t)
 }
 
-// Whether the interval of slot a holds that of slot b: it begins no later and ends no earlier.
-fn holds(times: &[u32], a: u32, b: u32) -> bool
-    requires { ⌜ (2 * a + 1 < length (now times)) × (2 * b + 1 < length (now times)) ⌝ }
-    ensures { λ r. ⌜ ((links : List ℤ) → r ≡ holds (columns (now (times .entry)) links) a b) ⌝ }
-{
-    if stamp_columns::discovery(times, b) < stamp_columns::discovery(times, a) {
-        return false;
-    }
-    stamp_columns::finish(times, b) <= stamp_columns::finish(times, a)
-}
-
 // The slot that has failed, where the literal of slot s and its complement have the same start: the first from s along the parents that holds the complement too.
 // It ends: the start holds both, and discovery falls from each slot to its parent.
 fn climb(times: &[u32], links: &[i32], s: u32) -> u32
@@ -62,7 +49,7 @@ fn climb(times: &[u32], links: &[i32], s: u32) -> u32
 {
     let t = literal::twin_of(s);
     let mut x = s;
-    while !holds(times, x, t) {
+    while !hidden::holds(times, x, t) {
         x = stamp_columns::parent(links, x);
     }
     x

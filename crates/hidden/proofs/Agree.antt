@@ -4,14 +4,13 @@ use native.Mathlib.Omega.{arith}
 use mathlib.Core.Path.{_≡_, refl, ap, subst, _∙_}
 use mathlib.Core.Bool.{Bool, true, false, not, _&&_, _||_}
 use mathlib.Core.List.{List, [], _∷_, map, List·Memᴰ, List·Memᴰ·head, List·Memᴰ·tail, Memᴰ·map, Memᴰ·of-map}
-use lib.ListN.{length}
 use lib.Dec.{leb, ltb, eqb}
 use Rattle.base.proofs.Lists.{filter-same, sub-mem, any-same}
 use Rattle.base.proofs.Searches.{anyBelow-same, first-same}
 use Rattle.literal.specs.Literals.{twin}
 use Rattle.walk.specs.Walk.{Stamps}
 use Rattle.walk.specs.Forest.{discoveryAt, finishAt, parentAt, startAt}
-use Rattle.hidden.specs.Hidden.{holds, insert, byDiscovery, excepted, passes, scanAt, scan, hiddenTautology, unhidden, shorten}
+use Rattle.hidden.specs.Hidden.{holds, insert, byDiscovery, scanAt, scan, figure6, transitive, hiddenPair, hiddenTautology, unhidden, shorten}
 use Rattle.hidden.specs.Failed.{sameStart, holdsBoth, lowest, failedSlot}
 use Rattle.hidden.proofs.Intervals.{Within, Below}
 use Rattle.hidden.proofs.Sorted.{sorted-out}
@@ -24,7 +23,7 @@ pub record Agree (size : ℕ) (σ ρ : Stamps) : Type 0 where
   pub parents : (q : ℕ) → q < size → parentAt σ q ≡ parentAt ρ q
   pub starts : (q : ℕ) → q < size → startAt σ q ≡ startAt ρ q
 
--- ---- figures 5 and 6
+-- ---- the rules for a clause
 
 module _ (size : ℕ) (σ ρ : Stamps) (A : Agree size σ ρ) where
   holds-agree : (a b : ℕ) → a < size → b < size → holds σ a b ≡ holds ρ a b
@@ -44,33 +43,42 @@ module _ (size : ℕ) (σ ρ : Stamps) (A : Agree size σ ρ) where
       let c : Below size xs = λ y m. b y (List·Memᴰ·tail m) in
       insert-agree x (byDiscovery σ xs) (b x (List·Memᴰ·head refl)) (λ y m. c y (sorted-out σ xs m)) ∙ ap (insert ρ x) (sorted-agree xs c)
 
-  passes-agree : (two : Bool) (n p : ℕ) → n < size → p < size → passes σ two n p ≡ passes ρ two n p
-  unfolding passes
-  passes-agree two n p ln lp = λ i. ltb (A .finishes n ln i) (A .finishes p lp i) || (two && excepted n p (A .parents p lp i))
-
-  scanAt-agree : (two : Bool) (next next′ : List ℕ → Bool) (p : ℕ) (ns : List ℕ) → ((ms : List ℕ) → Below size ms → next ms ≡ next′ ms) → p < size → Below size ns → scanAt σ two next p ns ≡ scanAt ρ two next′ p ns
+  scanAt-agree : (next next′ : List ℕ → Bool) (p : ℕ) (ns : List ℕ) → ((ms : List ℕ) → Below size ms → next ms ≡ next′ ms) → p < size → Below size ns → scanAt σ next p ns ≡ scanAt ρ next′ p ns
   unfolding scanAt
-  scanAt-agree two next next′ p [] same lp b = refl
-  scanAt-agree two next next′ p (n ∷ ns) same lp b =
+  scanAt-agree next next′ p [] same lp b = refl
+  scanAt-agree next next′ p (n ∷ ns) same lp b =
       let ln = b n (List·Memᴰ·head refl) in
       λ i. elim (ltb (A .discoveries p lp i) (A .discoveries n ln i)) [
         | true ↦ same (n ∷ ns) b i
-        | false ↦ elim (passes-agree two n p ln lp i) [ true ↦ scanAt-agree two next next′ p ns same lp (λ y m. b y (List·Memᴰ·tail m)) i | false ↦ true ]
+        | false ↦ elim (ltb (A .finishes n ln i) (A .finishes p lp i)) [ true ↦ scanAt-agree next next′ p ns same lp (λ y m. b y (List·Memᴰ·tail m)) i | false ↦ true ]
       ]
 
-  scan-agree : (two : Bool) (ps ns : List ℕ) → Below size ps → Below size ns → scan σ two ps ns ≡ scan ρ two ps ns
+  scan-agree : (ps ns : List ℕ) → Below size ps → Below size ns → scan σ ps ns ≡ scan ρ ps ns
   unfolding scan
-  scan-agree two [] ns bp bn = refl
-  scan-agree two (p ∷ ps) ns bp bn = scanAt-agree two (scan σ two ps) (scan ρ two ps) p ns (λ ms bm. scan-agree two ps ms (λ y m. bp y (List·Memᴰ·tail m)) bm) (bp p (List·Memᴰ·head refl)) bn
+  scan-agree [] ns bp bn = refl
+  scan-agree (p ∷ ps) ns bp bn = scanAt-agree (scan σ ps) (scan ρ ps) p ns (λ ms bm. scan-agree ps ms (λ y m. bp y (List·Memᴰ·tail m)) bm) (bp p (List·Memᴰ·head refl)) bn
+
+  figure6-agree : (C : List ℕ) → Within size C → figure6 σ C ≡ figure6 ρ C
+  unfolding figure6
+  figure6-agree C w =
+      let twins : Below size (map twin C) = λ x m. let r = Memᴰ·of-map twin C m in subst (λ (y : ℕ). y < size) (r .2) (w (r .0) (r .1) .1) in
+      scan-agree (byDiscovery σ C) (byDiscovery σ (map twin C)) (λ x m. w x (sorted-out σ C m) .0) (λ x m. twins x (sorted-out σ (map twin C) m))
+      ∙ ap (λ (l : List ℕ). scan ρ l (byDiscovery σ (map twin C))) (sorted-agree C (λ x m. w x m .0))
+      ∙ ap (scan ρ (byDiscovery ρ C)) (sorted-agree (map twin C) twins)
+
+  transitive-agree : (p q : ℕ) → p < size → q < size → transitive σ p q ≡ transitive ρ p q
+  unfolding transitive
+  transitive-agree p q lp lq = λ i. holds-agree p q lp lq i && not (eqb (A .parents q lq i) p)
 
   pub tautology-agree : (C : List ℕ) → Within size C → hiddenTautology σ C ≡ hiddenTautology ρ C
-  unfolding hiddenTautology
-  tautology-agree C w =
-      let two : Bool = eqb (length C) 2 in
-      let twins : Below size (map twin C) = λ x m. let r = Memᴰ·of-map twin C m in subst (λ (y : ℕ). y < size) (r .2) (w (r .0) (r .1) .1) in
-      scan-agree two (byDiscovery σ C) (byDiscovery σ (map twin C)) (λ x m. w x (sorted-out σ C m) .0) (λ x m. twins x (sorted-out σ (map twin C) m))
-      ∙ ap (λ (l : List ℕ). scan ρ two l (byDiscovery σ (map twin C))) (sorted-agree C (λ x m. w x m .0))
-      ∙ ap (scan ρ two (byDiscovery ρ C)) (sorted-agree (map twin C) twins)
+  unfolding hiddenTautology hiddenPair
+  tautology-agree [] w = refl
+  tautology-agree (a ∷ []) w = refl
+  tautology-agree (a ∷ b ∷ []) w =
+      let wa = w a (List·Memᴰ·head refl) in
+      let wb = w b (List·Memᴰ·tail (List·Memᴰ·head refl)) in
+      λ i. transitive-agree (twin a) b (wa .1) (wb .0) i || transitive-agree (twin b) a (wb .1) (wa .0) i
+  tautology-agree (a ∷ b ∷ c ∷ ls) w = figure6-agree (a ∷ b ∷ c ∷ ls) w
 
   unhidden-agree : {L : Type 0} (slot : L → ℕ) (f g : ℕ → ℕ → Bool) (C : List L) → ((a b : ℕ) → List·Memᴰ a (map slot C) → List·Memᴰ b (map slot C) → f a b ≡ g a b) → unhidden slot f C ≡ unhidden slot g C
   unfolding unhidden

@@ -2,16 +2,16 @@
 --     fresh-nested     fresh stamps are nested or apart
 --     fresh-linked     and their links are the narrowest and the widest
 -- Assumes nothing.
-use Prim.Native.Nat.{ℕ, _+_, _*_, _<_}
+use Prim.Native.Nat.{ℕ, _*_, _<_}
 use native.Mathlib.Omega.{arith}
-use mathlib.Core.Path.{_≡_, refl, sym, ap, subst, _∙_}
+use mathlib.Core.Path.{_≡_, sym, subst}
 use mathlib.Core.Logic.{_⊎_, inl, inr, ⊎-elim}
 use mathlib.Core.List.{List}
 use lib.IntN.{ℤ}
 use Rattle.literal.specs.Literals.{slotOf}
 use Rattle.literal.proofs.Laws.{slot-below}
 use Rattle.walk.specs.Walk.{Stamps}
-use Rattle.walk.specs.Forest.{discoveryAt, finishAt, parentAt, startAt, Holds, Parted}
+use Rattle.walk.specs.Forest.{Holds, Parted}
 use Rattle.stamps.specs.Fresh.{discoveryIn, finishIn, parentIn, startIn, NestedOrApart, FreshStamps}
 use Rattle.stamp_columns.specs.Columns.{columns}
 use Rattle.stamp_columns.proofs.Columns.{column-discovery, column-finishes, column-parents, column-starts, to-times, to-columns}

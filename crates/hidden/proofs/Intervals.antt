@@ -1,12 +1,12 @@
 -- Intervals of slots below a number: what the shape rule says of fresh stamps, and how two of them lie. Assumes nothing.
 use Prim.Native.Nat.{ℕ, _≤_, _<_}
 use native.Mathlib.Omega.{arith}
-use mathlib.Core.Path.{_≡_, sym, ap}
-use mathlib.Core.Bool.{true}
+use mathlib.Core.Path.{_≡_, sym, ap, _∙_}
+use mathlib.Core.Bool.{Bool, true, false, _&&_}
 use mathlib.Core.Logic.{_⊎_, inl, inr, ⊎-elim}
 use mathlib.Core.List.{List, List·Memᴰ}
 use lib.Dec.{leb}
-use borrow.Author.Tests.{leb-true, le-leb}
+use borrow.Author.Tests.{leb-true, le-leb, lt-leb}
 use Rattle.base.specs.Decide.{same-or}
 use Rattle.base.proofs.Booleans.{and-left, and-right, and-both}
 use Rattle.literal.specs.Literals.{twin}
@@ -36,6 +36,17 @@ holds-true σ a b h = (leb-true (discoveryAt σ a) (discoveryAt σ b) (and-left 
 pub true-holds : (σ : Stamps) (a b : ℕ) → Holds σ a b → holds σ a b ≡ true
 unfolding holds
 true-holds σ a b h = and-both _ _ (le-leb (discoveryAt σ a) (discoveryAt σ b) (h .0)) (le-leb (finishAt σ b) (finishAt σ a) (h .1))
+
+-- ---- the test of two intervals, by the numbers that the code reads
+
+module _ (σ : Stamps) (a b : ℕ) {d e : ℕ} (p : d ≡ discoveryAt σ b) (q : e ≡ discoveryAt σ a) where
+  pub begins-later : d < e → false ≡ holds σ a b
+  unfolding holds
+  begins-later h = ap (λ (t : Bool). t && leb (finishAt σ b) (finishAt σ a)) (sym (lt-leb (discoveryAt σ a) (discoveryAt σ b) (omega arith)))
+
+  pub begins-first : e ≤ d → {f g : ℕ} → f ≡ finishAt σ b → g ≡ finishAt σ a → leb f g ≡ holds σ a b
+  unfolding holds
+  begins-first h {f} {g} i j = ap (λ (t : ℕ). leb t g) i ∙ ap (leb (finishAt σ b)) j ∙ ap (λ (t : Bool). t && leb (finishAt σ b) (finishAt σ a)) (sym (le-leb (discoveryAt σ a) (discoveryAt σ b) (omega arith)))
 
 -- ---- two intervals
 

@@ -2,6 +2,7 @@ pub mod Cases
 pub mod Intervals
 pub mod Sorted
 pub mod Scan
+pub mod Pairs
 pub mod Shorten
 pub mod Figure5
 pub mod Failed

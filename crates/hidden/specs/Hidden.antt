@@ -1,10 +1,10 @@
--- Document 01, Sweep: "The figure 6 scan goes first and .. a yes drops the clause. .. For two, the yes is the scan's with its two exceptions: the positive literal is the complement of the negative one, or has it as parent.
--- Otherwise figure 5 shortens: first, each literal that holds another literal of the clause goes; then, of the rest, each whose complement is held by another's complement." "Interval p holds interval q when it begins no later and ends no earlier."
+-- Document 01, Sweep: "The figure 6 scan goes first and .. a yes drops the clause. .. Otherwise figure 5 shortens: first, each literal that holds another literal of the clause goes; then, of the rest, each whose complement is held by another's complement."
+-- "Interval p holds interval q when it begins no later and ends no earlier."
+-- Document 02, CR 2: "For two literals the rule becomes: drop if, for one of its two edges p → q, p holds q and p is not q's parent."
 -- The rules for one clause, on the slots of its literals, as functions of the stamps. Assumes nothing: these are definitions.
 use Prim.Native.Nat.{ℕ}
 use mathlib.Core.Bool.{Bool, true, false, not, _&&_, _||_}
 use mathlib.Core.List.{List, [], _∷_, map, reverse}
-use lib.ListN.{length}
 use lib.Dec.{leb, ltb, eqb}
 use Rattle.base.specs.Lists.{any, filter}
 use Rattle.literal.specs.Literals.{twin}
@@ -24,32 +24,42 @@ unfoldable pub byDiscovery : Stamps → List ℕ → List ℕ
 byDiscovery σ [] = []
 byDiscovery σ (x ∷ xs) = insert σ x (byDiscovery σ xs)
 
--- ---- figure 6: is the clause a hidden tautology?
-
--- the two exceptions, for a pos and its parent: pos is neg's complement, or neg is pos's parent
-abbrev pub excepted : ℕ → ℕ → ℕ → Bool
-excepted neg pos parent = eqb pos (twin neg) || eqb parent neg
-
--- line 7: neg ends before pos does; or the clause has two literals, and an exception holds
-unfoldable pub passes : Stamps → Bool → ℕ → ℕ → Bool
-passes σ two neg pos = ltb (finishAt σ neg) (finishAt σ pos) || (two && excepted neg pos (parentAt σ pos))
+-- ---- three and more literals: figure 6
 
 -- lines 4 to 10 at one pos: on to the next pos, on to the next neg, or yes
-unfoldable pub scanAt : Stamps → Bool → (List ℕ → Bool) → ℕ → List ℕ → Bool
-scanAt σ two next pos [] = false
-scanAt σ two next pos (neg ∷ negs) =
+unfoldable pub scanAt : Stamps → (List ℕ → Bool) → ℕ → List ℕ → Bool
+scanAt σ next pos [] = false
+scanAt σ next pos (neg ∷ negs) =
     elim (ltb (discoveryAt σ pos) (discoveryAt σ neg)) [
       | true ↦ next (neg ∷ negs)
-      | false ↦ elim (passes σ two neg pos) [ true ↦ scanAt σ two next pos negs | false ↦ true ]
+      | false ↦ elim (ltb (finishAt σ neg) (finishAt σ pos)) [ true ↦ scanAt σ next pos negs | false ↦ true ]
     ]
 
 -- the loop, over the sorted literals and the sorted complements
-unfoldable pub scan : Stamps → Bool → List ℕ → List ℕ → Bool
-scan σ two [] negs = false
-scan σ two (pos ∷ poss) negs = scanAt σ two (scan σ two poss) pos negs
+unfoldable pub scan : Stamps → List ℕ → List ℕ → Bool
+scan σ [] negs = false
+scan σ (pos ∷ poss) negs = scanAt σ (scan σ poss) pos negs
+
+unfoldable pub figure6 : Stamps → List ℕ → Bool
+figure6 σ C = scan σ (byDiscovery σ C) (byDiscovery σ (map twin C))
+
+-- ---- two literals
+
+-- the stamps show that the edge p → q is transitive: p holds q and p is not q's parent
+unfoldable pub transitive : Stamps → ℕ → ℕ → Bool
+transitive σ p q = holds σ p q && not (eqb (parentAt σ q) p)
+
+-- (a ∨ b) has the edges −a → b and −b → a
+unfoldable pub hiddenPair : Stamps → ℕ → ℕ → Bool
+hiddenPair σ a b = transitive σ (twin a) b || transitive σ (twin b) a
+
+-- ---- is the clause a hidden tautology?
 
 unfoldable pub hiddenTautology : Stamps → List ℕ → Bool
-hiddenTautology σ C = scan σ (eqb (length C) 2) (byDiscovery σ C) (byDiscovery σ (map twin C))
+hiddenTautology σ [] = false
+hiddenTautology σ (a ∷ []) = false
+hiddenTautology σ (a ∷ b ∷ []) = hiddenPair σ a b
+hiddenTautology σ (a ∷ b ∷ c ∷ ls) = figure6 σ (a ∷ b ∷ c ∷ ls)
 
 -- ---- figure 5: which literals are hidden?
 

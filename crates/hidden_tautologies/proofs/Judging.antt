@@ -1,23 +1,24 @@
--- What fresh stamps of a clause's literals give the calls of figures 5 and 6. Assumes nothing.
-use Prim.Native.Nat.{ℕ, _+_, _*_, _<_}
+-- What fresh stamps of a clause's literals give the functions on its slots, and what the verdict on them says of the clause. Assumes nothing.
+use Prim.Native.Nat.{ℕ, _+_, _*_, _≤_, _<_}
 use native.Mathlib.Omega.{arith}
-use mathlib.Core.Path.{_≡_, sym, ap, subst, _∙_}
+use mathlib.Core.Path.{_≡_, refl, sym, ap, subst, _∙_}
 use mathlib.Core.Bool.{Bool}
-use mathlib.Core.List.{List, [], map, List·Memᴰ, Memᴰ·of-map}
+use mathlib.Core.List.{List, [], _∷_, map, List·Memᴰ}
 use lib.ListN.{length, getD, length-map}
-use lib.Dec.{eqb}
 use lib.IntN.{ℤ}
+use Rattle.base.proofs.Lists.{getD-mem}
 use Rattle.literal.specs.Literals.{slotOf, twin}
+use Rattle.walk.specs.Walk.{Stamps}
 use Rattle.stamp_columns.specs.Columns.{columns}
-use Rattle.hidden.specs.Hidden.{byDiscovery, scan, hiddenTautology}
-use Rattle.hidden.proofs.Intervals.{Nested}
-use Rattle.stamp_columns.proofs.Columns.{column-finishes}
-use Rattle.hidden.proofs.FreshColumns.{fresh-nested}
-use Rattle.hidden.proofs.Sorted.{sorted-out}
 use Rattle.stamp_columns.specs.Slots.{Slots}
+use Rattle.stamp_columns.proofs.Columns.{column-finishes}
+use Rattle.hidden.specs.Hidden.{byDiscovery, figure6, hiddenPair, hiddenTautology}
+use Rattle.hidden.proofs.Intervals.{Nested}
+use Rattle.hidden.proofs.FreshColumns.{fresh-nested}
+use Rattle.hidden.proofs.Scan.{tautology-figure}
 use Rattle.clause_slots.specs.Stamped.{Lits, StampedSlots, StampedClause}
-use Rattle.hidden_tautologies.specs.Judged.{Both, Judged}
-use Rattle.clause_slots.proofs.Clause.{inside-small, inside-twins, clause-within, clause-lits}
+use Rattle.clause_slots.proofs.Clause.{inside-twins, clause-within, clause-lits}
+use Rattle.hidden_tautologies.specs.Judged.{Two, Judged}
 
 module _ {times : List ℕ} {links C : List ℤ} (J : Judged times links C) where
   -- only the times count for the intervals
@@ -37,37 +38,51 @@ module _ {times : List ℕ} {links C : List ℤ} (J : Judged times links C) wher
   pub judged-lits : Lits C
   judged-lits = clause-lits judged-clause
 
-  pub judged-below : (x : ℕ) → List·Memᴰ x (map slotOf C) → (x < 2 * J .vars) × (twin x < 2 * J .vars)
+  judged-below : (x : ℕ) → List·Memᴰ x (map slotOf C) → (x < 2 * J .vars) × (twin x < 2 * J .vars)
   unfolding judged-clause
   judged-below x m = clause-within judged-clause x m
 
   judged-inside : StampedSlots times (map slotOf C)
   judged-inside = record { vars = J .vars; few = J .stamped .few; long = J .long; each = λ x m. judged-below x m .0 }
 
-  module _ (s₁ t₁ : List ℕ) (slots : s₁ ≡ map slotOf C) (twins : t₁ ≡ map twin s₁) where
-    pub judged-small : (k : ℕ) → k < length s₁ → getD s₁ k 0 < 65536
-    judged-small = subst (λ (l : List ℕ). (k : ℕ) → k < length l → getD l k 0 < 65536) (sym slots) (inside-small judged-inside)
-
-    pub judged-slots : Slots times s₁
+  -- the slots of the part
+  module _ (s : List ℕ) (slots : s ≡ map slotOf C) where
+    pub judged-slots : Slots times s
     judged-slots = subst (Slots times) (sym slots) (record { size = 2 * J .vars; few = omega (arith, J .stamped .few); room = omega (arith, J .stamped .few, J .long); each = λ x m. judged-below x m .0 })
 
-    pub judged-twins : Slots times t₁
-    judged-twins = subst (Slots times) (sym (twins ∙ ap (map twin) slots)) (inside-twins judged-inside)
+    pub judged-twins : Slots times (map twin s)
+    judged-twins = subst (λ (l : List ℕ). Slots times (map twin l)) (sym slots) (inside-twins judged-inside)
 
-    module _ (s₂ t₂ : List ℕ) (sorted : (k : List ℤ) → s₂ ≡ byDiscovery (columns times k) s₁) (sorted′ : (k : List ℤ) → t₂ ≡ byDiscovery (columns times k) t₁) where
-      pub judged-both : Both times links s₂ t₂
-      judged-both = record {
-        vars = J .vars;
-        stamped = J .stamped;
-        ones = λ x m. judged-below x (subst (List·Memᴰ x) slots (sorted-out (columns times []) s₁ (subst (List·Memᴰ x) (sorted []) m))) .0;
-        others = λ x m.
-            let r = Memᴰ·of-map twin (map slotOf C) (subst (List·Memᴰ x) (twins ∙ ap (map twin) slots) (sorted-out (columns times []) t₁ (subst (List·Memᴰ x) (sorted′ []) m))) in
-            subst (λ (y : ℕ). y < 2 * J .vars) (r .2) (judged-below (r .0) (r .1) .1);
-      }
+    pub judged-two : length C ≡ 2 → Two times links (getD s 0 0) (getD s 1 0)
+    judged-two e = subst (λ (l : List ℕ). Two times links (getD l 0 0) (getD l 1 0)) (sym slots) (record {
+      vars = J .vars;
+      stamped = J .stamped;
+      one = judged-below _ (getD-mem (map slotOf C) 0 0 (omega (arith, length-map C slotOf, e))) .0;
+      other = judged-below _ (getD-mem (map slotOf C) 1 0 (omega (arith, length-map C slotOf, e))) .0;
+    })
 
-      pub judged-verdict : (r : Bool) → r ≡ scan (columns times links) (eqb (length C) 2) s₂ t₂ → (r ≡ hiddenTautology (columns times links) (map slotOf C)) × (s₂ ≡ byDiscovery (columns times []) (map slotOf C))
-      unfolding hiddenTautology
-      judged-verdict r e = (
-        e ∙ (λ i. scan (columns times links) (eqb (sym (length-map C slotOf) i) 2) ((sorted links ∙ ap (byDiscovery (columns times links)) slots) i) ((sorted′ links ∙ ap (byDiscovery (columns times links)) (twins ∙ ap (map twin) slots)) i)),
-        sorted [] ∙ ap (byDiscovery (columns times [])) slots,
-      )
+-- ---- the two returns
+
+-- of two literals the rule for pairs decides
+of-two : (σ : Stamps) (C : List ℕ) → length C ≡ 2 → hiddenTautology σ C ≡ hiddenPair σ (getD C 0 0) (getD C 1 0)
+unfolding hiddenTautology
+of-two σ [] e = absurd (omega arith)
+of-two σ (a ∷ []) e = absurd (omega arith)
+of-two σ (a ∷ b ∷ []) e = refl
+of-two σ (a ∷ b ∷ c ∷ ls) e = absurd (omega arith)
+
+module _ (times : List ℕ) (links C : List ℤ) (s : List ℕ) (slots : s ≡ map slotOf C) (r : Bool) (u : List ℕ) where
+  abbrev Verdict : Type 0
+  Verdict = (r ≡ hiddenTautology (columns times links) (map slotOf C)) × (u ≡ byDiscovery (columns times []) (map slotOf C))
+
+  pub verdict-long : 2 ≤ length C → (length C ≡ 2 → ⊥) → ((k : List ℤ) → (r ≡ figure6 (columns times k) s) × (u ≡ byDiscovery (columns times k) s)) → Verdict
+  verdict-long two more e = (
+    e links .0 ∙ ap (figure6 (columns times links)) slots ∙ sym (tautology-figure (columns times links) (map slotOf C) (omega (arith, two, more, length-map C slotOf))),
+    e [] .1 ∙ ap (byDiscovery (columns times [])) slots,
+  )
+
+  pub verdict-pair : length C ≡ 2 → r ≡ hiddenPair (columns times links) (getD s 0 0) (getD s 1 0) → u ≡ byDiscovery (columns times []) s → Verdict
+  verdict-pair e h v = (
+    h ∙ ap (λ (l : List ℕ). hiddenPair (columns times links) (getD l 0 0) (getD l 1 0)) slots ∙ sym (of-two (columns times links) (map slotOf C) (length-map C slotOf ∙ e)),
+    v ∙ ap (byDiscovery (columns times [])) slots,
+  )

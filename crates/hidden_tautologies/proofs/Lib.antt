@@ -1,2 +1,3 @@
 pub mod Scanning
+pub mod Pairs
 pub mod Judging

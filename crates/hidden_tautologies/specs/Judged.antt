@@ -1,6 +1,6 @@
--- What the functions of figure 6 ask of the stamp tables and of slots. Assumes nothing: these are definitions.
+-- What the functions on a clause ask of the stamp tables and of slots. Assumes nothing: these are definitions.
 use Prim.Native.Nat.{ℕ, _*_, _≤_, _<_}
-use mathlib.Core.List.{List, List·Memᴰ}
+use mathlib.Core.List.{List}
 use lib.ListN.{length, getD}
 use lib.IntN.{ℤ, pos}
 use Rattle.literal.specs.Literals.{Literal}
@@ -12,13 +12,6 @@ pub record Two (times : List ℕ) (links : List ℤ) (a b : ℕ) : Type 0 where
   pub stamped : Stamped vars times links
   pub one : a < 2 * vars
   pub other : b < 2 * vars
-
--- two lists of slots that have stamps
-pub record Both (times : List ℕ) (links : List ℤ) (xs ys : List ℕ) : Type 0 where
-  pub vars : ℕ
-  pub stamped : Stamped vars times links
-  pub ones : (x : ℕ) → List·Memᴰ x xs → x < 2 * vars
-  pub others : (y : ℕ) → List·Memᴰ y ys → y < 2 * vars
 
 -- literals of a clause, all with fresh stamps
 pub record Judged (times : List ℕ) (links C : List ℤ) : Type 0 where

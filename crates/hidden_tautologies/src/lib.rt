@@ -1,33 +1,41 @@
-// Hidden tautologies: figure 6 of 000 over the slots of one clause.
+// Hidden tautologies: the rule for two literals and figure 6 of 000 for more, over the slots of one clause.
 ghost use mathlib.Core.Path.{_≡_};
-ghost use mathlib.Core.List.{[], map};
+ghost use mathlib.Core.List.{List, [], map};
+ghost use Prim.Native.Nat.{_≤_};
 ghost use lib.ListN.{length};
-ghost use Rattle.literal.specs.Literals.{slotOf};
+ghost use lib.IntN.{ℤ};
+ghost use Rattle.literal.specs.Literals.{slotOf, twin};
 ghost use Rattle.stamp_columns.specs.Columns.{columns};
-ghost use Rattle.hidden.specs.Hidden.{byDiscovery, passes, scan, hiddenTautology};
-ghost use Rattle.hidden_tautologies.specs.Judged.{Two, Both, Judged};
+ghost use Rattle.stamp_columns.specs.Slots.{Slots};
+ghost use Rattle.hidden.specs.Hidden.{byDiscovery, scan, figure6, transitive, hiddenPair, hiddenTautology};
+ghost use Rattle.hidden_tautologies.specs.Judged.{Two, Judged};
 
-// Line 7: `neg` ends before `pos` does; or the clause has two literals, and `pos` is the complement of `neg` or has it as parent.
-fn passes(times: &[u32], links: &[i32], two: bool, neg: u32, pos: u32) -> bool
-    requires { ⌜ Two (now times) (now links) neg pos ⌝ }
-    ensures { λ r. ⌜ r ≡ passes (columns (now (times .entry)) (now (links .entry))) two neg pos ⌝ }
+// Whether the stamps show that the edge from slot p to slot q is transitive: p holds q and is not its parent.
+fn transitive(times: &[u32], links: &[i32], p: u32, q: u32) -> bool
+    requires { ⌜ Two (now times) (now links) p q ⌝ }
+    ensures { λ r. ⌜ r ≡ transitive (columns (now (times .entry)) (now (links .entry))) p q ⌝ }
 {
-    if stamp_columns::finish(times, neg) < stamp_columns::finish(times, pos) {
-        return true;
-    }
-    if !two {
+    if !hidden::holds(times, p, q) {
         return false;
     }
-    if pos == literal::twin_of(neg) {
+    stamp_columns::parent(links, q) != p
+}
+
+// Two literals, of slots a and b: whether one of the clause's two edges is transitive.
+fn hidden_pair(times: &[u32], links: &[i32], a: u32, b: u32) -> bool
+    requires { ⌜ Two (now times) (now links) a b ⌝ }
+    ensures { λ r. ⌜ r ≡ hiddenPair (columns (now (times .entry)) (now (links .entry))) a b ⌝ }
+{
+    if transitive(times, links, literal::twin_of(a), b) {
         return true;
     }
-    stamp_columns::parent(links, pos) == neg
+    transitive(times, links, literal::twin_of(b), a)
 }
 
 // The scan, over the sorted literals and the sorted complements: it stops with its verdict.
-fn scan(times: &[u32], links: &[i32], two: bool, pos: &[u32], neg: &[u32]) -> bool
-    requires { ⌜ Both (now times) (now links) (now pos) (now neg) ⌝ }
-    ensures { λ r. ⌜ r ≡ scan (columns (now (times .entry)) (now (links .entry))) two (now (pos .entry)) (now (neg .entry)) ⌝ }
+fn scan(times: &[u32], pos: &[u32], neg: &[u32]) -> bool
+    requires { ⌜ Slots (now times) (now pos) × Slots (now times) (now neg) ⌝ }
+    ensures { λ r. ⌜ ((links : List ℤ) → r ≡ scan (columns (now (times .entry)) links) (now (pos .entry)) (now (neg .entry))) ⌝ }
 {
     let mut i = 0;
     let mut j = 0;
@@ -43,7 +51,7 @@ fn scan(times: &[u32], links: &[i32], two: bool, pos: &[u32], neg: &[u32]) -> bo
         if stamp_columns::discovery(times, p) < stamp_columns::discovery(times, q) {
             i += 1;
         } else {
-            if !passes(times, links, two, q, p) {
+            if stamp_columns::finish(times, p) <= stamp_columns::finish(times, q) {
                 break true;
             }
             j += 1;
@@ -52,7 +60,18 @@ fn scan(times: &[u32], links: &[i32], two: bool, pos: &[u32], neg: &[u32]) -> bo
     verdict
 }
 
-// Whether the clause is a hidden tautology; its slots are left sorted in `slots`. `slots` and `twins` are as long as the part. All its literals have fresh stamps: `sweep_visits::visit_clause` has it from the shape rule.
+// Figure 6 over the slots of a clause, which are left sorted. `twins` is as long, and only worked in.
+fn figure_6(times: &[u32], slots: &mut [u32], twins: &mut [u32]) -> bool
+    requires { ⌜ Slots (now times) (now slots) × Slots (now times) (map twin (now slots)) × (length (now twins) ≡ length (now slots)) ⌝ }
+    ensures { λ r. ⌜ ((links : List ℤ) → (r ≡ figure6 (columns (now (times .entry)) links) (now (slots .entry))) × (now (slots .exit) ≡ byDiscovery (columns (now (times .entry)) links) (now (slots .entry)))) ⌝ }
+{
+    clause_slots::twins_of(slots, twins);
+    discovery_order::sort_slots(slots, times);
+    discovery_order::sort_slots(twins, times);
+    scan(times, slots, twins)
+}
+
+// Whether the clause, of two or more literals, is a hidden tautology; its slots are left sorted in `slots`. `slots` and `twins` are as long as the part. All its literals have fresh stamps: `sweep_visits::visit_clause` has it from the shape rule.
 pub fn hidden_tautology(
     part: &[i32],
     times: &[u32],
@@ -60,12 +79,14 @@ pub fn hidden_tautology(
     slots: &mut [u32],
     twins: &mut [u32],
 ) -> bool
-    requires { ⌜ Judged (now times) (now links) (now part) × (length (now slots) ≡ length (now part)) × (length (now twins) ≡ length (now part)) ⌝ }
+    requires { ⌜ Judged (now times) (now links) (now part) × (2 ≤ length (now part)) × (length (now slots) ≡ length (now part)) × (length (now twins) ≡ length (now part)) ⌝ }
     ensures { λ r. ⌜ (r ≡ hiddenTautology (columns (now (times .entry)) (now (links .entry))) (map slotOf (now (part .entry)))) × (now (slots .exit) ≡ byDiscovery (columns (now (times .entry)) []) (map slotOf (now (part .entry)))) ⌝ }
 {
     clause_slots::slots_of(part, slots);
-    clause_slots::twins_of(slots, twins);
+    if part.len() != 2 {
+        return figure_6(times, slots, twins);
+    }
+    let verdict = hidden_pair(times, links, slots[0], slots[1]);
     discovery_order::sort_slots(slots, times);
-    discovery_order::sort_slots(twins, times);
-    scan(times, links, part.len() == 2, slots, twins)
+    verdict
 }

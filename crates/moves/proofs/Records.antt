@@ -16,7 +16,6 @@ use Rattle.base.proofs.Lists.{map-self}
 use Rattle.literal.specs.Literals.{slotOf, litAt}
 use Rattle.literal.proofs.Laws.{slot-lit}
 use Rattle.walk.specs.Walk.{Stamps}
-use Rattle.walk.specs.Forest.{finishAt, parentAt}
 use Rattle.stamp_columns.specs.Columns.{columns}
 use Rattle.hidden.specs.Hidden.{hiddenTautology, shorten}
 use Rattle.hidden.proofs.Intervals.{Within}
@@ -29,7 +28,7 @@ use Rattle.tables.specs.Fates as fates
 use Rattle.stamp.specs.Stamp.{stampedTables}
 use Rattle.sweep_visits.specs.Clause.{sweepClause}
 use Rattle.sound.specs.Formula.{Clause, dropped, standing}
-use Rattle.sound.specs.Sweep.{judgeClause, sweepSlots}
+use Rattle.sound.specs.Sweep.{sweepSlots}
 
 -- ---- Stamp's records
 
@@ -79,7 +78,7 @@ stamped-agree v σ t hd hf hp hs =
 -- ---- Sweep's rule
 
 pub sweep-agree : (size : ℕ) (σ ρ : Stamps) → Agree size σ ρ → (C : List ℕ) → Within size C → sweepSlots σ C ≡ sweepSlots ρ C
-unfolding judgeClause
+unfolding sweepSlots
 sweep-agree size σ ρ A [] w = refl
 sweep-agree size σ ρ A (a ∷ []) w = refl
 sweep-agree size σ ρ A (a ∷ b ∷ ls) w =
@@ -97,7 +96,7 @@ shown C (unit l) = dropped
 shown C conflict = standing []
 
 pub sweep-fate : (σ : Stamps) (C : List ℤ) → shown C (sweepClause σ C) ≡ sweepSlots σ (map slotOf C)
-unfolding sweepClause judgeClause
+unfolding sweepClause sweepSlots
 sweep-fate σ [] = refl
 sweep-fate σ (a ∷ []) = refl
 sweep-fate σ (a ∷ b ∷ ls) = go (hiddenTautology σ (map slotOf (a ∷ b ∷ ls)))

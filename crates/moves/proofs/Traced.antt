@@ -8,8 +8,7 @@ use lib.ListN.{length, getD, set}
 use lib.Seq.{getD-set-same, getD-set-other, set-out}
 use Rattle.base.specs.Decide.{same-or, le-or}
 use Rattle.walk.specs.Forest.{Reach, here, on}
-use Rattle.hidden.specs.Hidden.{hiddenTautology}
-use Rattle.hidden.proofs.Scan.{by-reads}
+use Rattle.hidden.proofs.Pairs.{by-reads}
 use Rattle.sound.specs.Formula.{Clause, dropped, standing, graph}
 use Rattle.sound.proofs.Graph.{not-standing, standing-eq, edge-pair}
 use Rattle.sound.proofs.Sound.{from-sub}
@@ -92,7 +91,7 @@ move-traced f (sweep {k = k} {σ = σ} {c = c} n) T =
     record {
       once = T .once;
       part = λ i D e.
-          let r = from-sub (hiddenTautology σ) σ c n (k .clauses) i D e in
+          let r = from-sub σ c n (k .clauses) i D e in
           let o = T .part i (r .0) (r .1) in
           (o .0, o .1, Sublistᴰ·trans (map-sub (k .class) (r .2)) (o .2));
     }

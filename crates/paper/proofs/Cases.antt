@@ -1,21 +1,22 @@
--- Examples by computation, under 1, −1, 2, −2, ..: P2's interval of 1 holds that of 2, P3's third clause is hidden, and a pair that the scan passes by. Assumes nothing.
+-- Examples by computation, under 1, −1, 2, −2, ..: P2's interval of 1 holds that of 2, P3's third clause is hidden, and so is a pair that the figure 6 scan passed over. Assumes nothing.
 use Prim.Native.Nat.{ℕ}
 use native.Mathlib.Omega.{arith}
 use mathlib.Core.Path.{_≡_, refl}
-use mathlib.Core.List.{List, [], _∷_, List·Memᴰ·head, List·Memᴰ·tail}
+use mathlib.Core.List.{List, [], _∷_}
 use lib.IntN.{pos, negsuc}
-use Rattle.base.specs.Lists.{any, filter, absent, evens, odds, interleave}
+use Rattle.base.specs.Lists.{filter, absent, evens, odds, interleave}
 use Rattle.literal.specs.Literals.{twin}
 use Rattle.walk.specs.Walk.{arrive, leave, edge, edges, enters, startWalk, stampAll}
 use Rattle.implications.specs.Edges.{outs}
 use Rattle.implications.specs.Clauses.{froms, tos}
 use Rattle.stamp_columns.specs.Columns.{columns}
-use Rattle.hidden.specs.Hidden.{holds, insert, byDiscovery, passes, scanAt, scan, hiddenTautology, unhidden, shorten}
+use Rattle.hidden.specs.Hidden.{holds, transitive, hiddenPair, hiddenTautology}
 use Rattle.tables.specs.Tables.{Tables, tables}
-use Rattle.tables.specs.Fates.{left, dropped}
+use Rattle.tables.specs.Fates.{dropped}
 use Rattle.stamp.specs.Stamp.{stampsOf, stampedTables}
 use Rattle.sweep_visits.specs.Clause.{sweepClause}
 use Rattle.paper.specs.Records.{discovered, finished, parent, Holds, Ancestor, self, up}
+use Rattle.paper.specs.Edges.{first}
 use Rattle.paper.specs.Sweeping.{HiddenPair}
 
 -- the records of clauses on v variables
@@ -39,26 +40,23 @@ abbrev p3 : Tables
 p3 = stamped 3 ((1 ∷ 2 ∷ []) ∷ (3 ∷ 4 ∷ []) ∷ (1 ∷ 4 ∷ []) ∷ []) 6 (0 ∷ 1 ∷ 2 ∷ 3 ∷ 4 ∷ 5 ∷ [])
 
 third-dropped : sweepClause (columns (p3 .times) (p3 .links)) (negsuc 0 ∷ pos 3 ∷ []) ≡ dropped
-unfolding filter absent evens odds interleave twin arrive leave edge edges enters startWalk stampAll outs froms tos stampsOf stampedTables insert byDiscovery passes scanAt scan hiddenTautology sweepClause
+unfolding filter absent evens odds interleave twin arrive leave edge edges enters startWalk stampAll outs froms tos stampsOf stampedTables holds transitive hiddenPair hiddenTautology sweepClause
 third-dropped = refl
 
-third-hidden : HiddenPair p3 (negsuc 0 ∷ pos 3 ∷ [])
+third-hidden : HiddenPair p3 (negsuc 0) (pos 3)
 unfolding filter absent interleave twin arrive leave edge edges enters startWalk stampAll outs froms tos stampsOf stampedTables
 third-hidden = record {
-  l = negsuc 0;
-  m = pos 3;
-  l-in = List·Memᴰ·head refl;
-  m-in = List·Memᴰ·tail (List·Memᴰ·head refl);
+  p = pos 1;
+  q = pos 3;
+  edge = first refl refl;
   held = (omega arith, omega arith);
-  other = λ e. let z : _≡_ {A = ℕ} 0 1 = cc in omega arith;
   no-parent = λ e. let z : _≡_ {A = ℕ} 1 2 = cc in omega arith;
-  reached = λ h lt. omega (arith, h .1);
 }
 
--- (1 4)(−4 1)(1 3)(−3 2)(1 2): −1 holds 2 and is not its parent, but it holds 1 too, which was discovered before 2; there the scan passed −1 by, and (1 2) stays
-abbrev by : Tables
-by = stamped 4 ((0 ∷ 6 ∷ []) ∷ (7 ∷ 0 ∷ []) ∷ (0 ∷ 4 ∷ []) ∷ (5 ∷ 2 ∷ []) ∷ (0 ∷ 2 ∷ []) ∷ []) 8 (0 ∷ 1 ∷ 2 ∷ 3 ∷ 4 ∷ 5 ∷ 6 ∷ 7 ∷ [])
+-- document 02, CR 2: (1 2)(1 −2)(1 3)(2 3). −1 holds 3, whose parent is −2, so (1 3) is dropped; −1 holds 1 too, where the figure's scan passed it by
+abbrev over : Tables
+over = stamped 3 ((0 ∷ 2 ∷ []) ∷ (0 ∷ 3 ∷ []) ∷ (0 ∷ 4 ∷ []) ∷ (2 ∷ 4 ∷ []) ∷ []) 6 (0 ∷ 1 ∷ 2 ∷ 3 ∷ 4 ∷ 5 ∷ [])
 
-passed-by : Holds by (negsuc 0) (pos 2) × (parent by (pos 2) ≡ pos 3) × Holds by (negsuc 0) (pos 1) × (sweepClause (columns (by .times) (by .links)) (pos 1 ∷ pos 2 ∷ []) ≡ left (pos 1 ∷ pos 2 ∷ []))
-unfolding any filter absent evens odds interleave twin arrive leave edge edges enters startWalk stampAll outs froms tos stampsOf stampedTables holds insert byDiscovery passes scanAt scan hiddenTautology unhidden shorten sweepClause
-passed-by = ((omega arith, omega arith), refl, (omega arith, omega arith), refl)
+passed-over : Holds over (negsuc 0) (pos 3) × (parent over (pos 3) ≡ negsuc 1) × Holds over (negsuc 0) (pos 1) × (sweepClause (columns (over .times) (over .links)) (pos 1 ∷ pos 3 ∷ []) ≡ dropped)
+unfolding filter absent evens odds interleave twin arrive leave edge edges enters startWalk stampAll outs froms tos stampsOf stampedTables holds transitive hiddenPair hiddenTautology sweepClause
+passed-over = ((omega arith, omega arith), refl, (omega arith, omega arith), refl)

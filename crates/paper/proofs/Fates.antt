@@ -4,30 +4,31 @@ use native.Mathlib.Omega.{arith}
 use mathlib.Core.Path.{_≡_, refl, sym, ap, subst, subst₂, _∙_}
 use mathlib.Core.Bool.{Bool, true}
 use mathlib.Core.Logic.{_⊎_, _↔_, inl, inr, ⊎-elim}
-use mathlib.Core.List.{List, [], _∷_, map, List·Memᴰ, List·Memᴰ·head, List·Memᴰ·tail, List·Memᴰ·not-nil, List·Memᴰ·cases-cons, Memᴰ·map, Memᴰ·of-map}
+use mathlib.Core.List.{List, [], _∷_, map, List·Memᴰ, List·Memᴰ·head, List·Memᴰ·tail, Memᴰ·map, Memᴰ·of-map}
 use lib.ListN.{length, length-map}
-use lib.IntN.{ℤ, negℤ, natAbs}
+use lib.IntN.{ℤ, negℤ}
 use Rattle.base.proofs.Lists.{any-in, sub-mem}
 use Rattle.literal.specs.Literals.{Literal, slotOf, twin}
-use Rattle.literal.proofs.Laws.{slot-twin, slot-same}
+use Rattle.literal.proofs.Laws.{slot-twin, slot-same, slot-below}
 use Rattle.literal.proofs.Signed.{abs-neg}
 use Rattle.walk.specs.Walk.{Stamps}
 use Rattle.walk.specs.Forest as forest
 use Rattle.stamps.specs.Fresh.{FreshStamps}
 use Rattle.stamp_columns.specs.Columns.{columns}
-use Rattle.hidden.specs.Hidden.{holds, hiddenTautology, unhidden, shorten, figure5}
+use Rattle.hidden.specs.Hidden.{holds, figure6, hiddenTautology, unhidden, shorten, figure5}
 use Rattle.hidden.proofs.Intervals.{Nested, Within, holds-true, true-holds}
 use Rattle.stamp_columns.proofs.Columns.{column-discovery, column-finishes, column-parents}
 use Rattle.hidden.proofs.FreshColumns.{fresh-nested}
-use Rattle.hidden.proofs.Scan.{hidden-of, tautology-means}
+use Rattle.hidden.proofs.Scan.{tautology-figure, hidden-of, tautology-means}
+use Rattle.hidden.proofs.Pairs.{Reads, Transitive, pair-means}
 use Rattle.hidden.proofs.Shorten.{unhidden-sub, shorten-slots}
 use Rattle.hidden.proofs.Figure5.{figure5-means}
 use Rattle.tables.specs.Tables.{Tables}
 use Rattle.visits.specs.Formed.{FitClause}
-use Rattle.visits.proofs.Fitting.{fit-head, fit-member, fit-slots}
+use Rattle.visits.proofs.Fitting.{fit-member, fit-slots}
 use Rattle.paper.specs.Records.{discovered, parent, Holds}
+use Rattle.paper.specs.Edges.{EdgeOf, first, second}
 use Rattle.paper.specs.Sweeping.{Hidden, HiddenPair, Shortened}
-use Rattle.paper.proofs.Pairs.{Jump, pair-exact}
 use Rattle.paper.proofs.Filters.{unhidden-left}
 
 module _ (t : Tables) (v : ℕ) (F : FreshStamps v (t .times) (t .links)) where
@@ -75,15 +76,21 @@ module _ (t : Tables) (v : ℕ) (F : FreshStamps v (t .times) (t .links)) where
 
     -- ---- figure 6, for three or more literals
 
+    three-slots : 2 < length C → 2 < length (map slotOf C)
+    three-slots three = omega (arith, three, length-map C slotOf)
+
+    pub figure-exact : 2 < length C → hiddenTautology σ (map slotOf C) ≡ figure6 σ (map slotOf C)
+    figure-exact three = tautology-figure σ (map slotOf C) (three-slots three)
+
     pub long-exact : 2 < length C → (hiddenTautology σ (map slotOf C) ≡ true) ↔ Hidden t C
     long-exact three = (
       λ h.
-          let r = hidden-of σ (map slotOf C) h in
+          let r = hidden-of σ (map slotOf C) (three-slots three) h in
           let a = Memᴰ·of-map slotOf C (r .2) in
           let d = Memᴰ·of-map slotOf C (r .3) in
           record { l = a .0; m = d .0; l-in = a .1; m-in = d .1; held = from-twin (a .0) (d .0) (ranged (a .0) (a .1)) (subst₂ (λ (x y : ℕ). forest.Holds σ (twin x) y) (sym (a .2)) (sym (d .2)) (r .4)) },
       λ H.
-          tautology-means (2 * v) σ N (map slotOf C) within (omega (arith, three, length-map C slotOf))
+          tautology-means (2 * v) σ N (map slotOf C) within (three-slots three)
           ∙ any-in _ (map slotOf C) (Memᴰ·map slotOf (H .l-in)) (any-in _ (map slotOf C) (Memᴰ·map slotOf (H .m-in)) (true-holds σ (twin (slotOf (H .l))) (slotOf (H .m)) (to-twin (H .l) (H .m) (ranged (H .l) (H .l-in)) (H .held)))),
     )
 
@@ -103,62 +110,37 @@ module _ (t : Tables) (v : ℕ) (F : FreshStamps v (t .times) (t .links)) where
     pub shortened-printed : map slotOf (shorten slotOf σ C) ≡ figure5 σ (map slotOf C)
     shortened-printed = shorten-slots slotOf σ C ∙ sym (figure5-means (2 * v) σ N (map slotOf C) within)
 
-  -- ---- figure 6, for two literals
+  -- ---- two literals
 
   module _ {w : List ℤ} {b : Bool} {x y : ℤ} (fit : FitClause v w b (x ∷ y ∷ [])) where
-    abbrev C : List ℤ
-    C = x ∷ y ∷ []
-
     X : Literal v x
     X = fit-member fit (List·Memᴰ·head refl)
 
     Y : Literal v y
     Y = fit-member fit (List·Memᴰ·tail (List·Memᴰ·head refl))
 
-    apart : x ≡ y → ⊥
-    apart e = fit-head fit .apart 0 (omega arith) (ap natAbs e)
-
-    jump-pair : {l m : ℤ} → List·Memᴰ l C → List·Memᴰ m C → Literal v l → (m ≡ l → ⊥) → Jump σ (slotOf l) (slotOf m) → HiddenPair t C
-    jump-pair {l} {m} i j L d J = record {
-      l = l;
-      m = m;
-      l-in = i;
-      m-in = j;
-      held = from-twin l m L (J .held);
-      other = d;
-      no-parent = λ e. J .no-parent (column-parents (t .times) (t .links) (slotOf m) ∙ ap slotOf e ∙ slot-twin l (L .above));
-      reached = λ h lt. J .reached (to-twin l l L h) (omega (arith, lt, discoveries-is l, discoveries-is m));
-    }
-
-    pair-jump : (l m : ℤ) → Literal v l → Literal v (parent t m) → Holds t (negℤ l) m → (parent t m ≡ negℤ l → ⊥) → (Holds t (negℤ l) l → discovered t l < discovered t m → ⊥) → Jump σ (slotOf l) (slotOf m)
-    pair-jump l m L P h p r = record {
-      held = to-twin l m L h;
-      no-parent = λ e. p (slot-same (parent t m) (negℤ l) (P .above) (omega (arith, L .above, abs-neg l)) (sym (column-parents (t .times) (t .links) (slotOf m)) ∙ e ∙ sym (slot-twin l (L .above))));
-      reached = λ k lt. r (from-twin l l L k) (omega (arith, lt, discoveries-is l, discoveries-is m));
-    }
-
-    two : {l : ℤ} → List·Memᴰ l C → (l ≡ x) ⊎ (l ≡ y)
-    two m = ⊎-elim (λ e. inl e) (λ k. ⊎-elim (λ e. inr e) (λ z. absurd (List·Memᴰ·not-nil z)) (List·Memᴰ·cases-cons k)) (List·Memᴰ·cases-cons m)
-
-    parent-literal : {m : ℤ} → List·Memᴰ m C → Literal v (parent t m)
-    parent-literal {m} j = F .parent-literal (slotOf m) (fit-slots fit (slotOf m) (Memᴰ·map slotOf j) .0)
-
-    pub pair-hidden : (hiddenTautology σ (map slotOf C) ≡ true) ↔ HiddenPair t C
+    pub pair-hidden : (hiddenTautology σ (map slotOf (x ∷ y ∷ [])) ≡ true) ↔ HiddenPair t x y
     pair-hidden =
-        let a : ℕ = slotOf x in
-        let c : ℕ = slotOf y in
-        let wa = fit-slots fit a (List·Memᴰ·head refl) in
-        let wc = fit-slots fit c (List·Memᴰ·tail (List·Memᴰ·head refl)) in
-        let E = pair-exact (2 * v) σ N a c (wa .0) (wc .0) (wa .1) (wc .1) (λ e. apart (slot-same x y (X .above) (Y .above) e)) in (
-          λ h. ⊎-elim
-              (λ J. jump-pair (List·Memᴰ·head refl) (List·Memᴰ·tail (List·Memᴰ·head refl)) X (λ e. apart (sym e)) J)
-              (λ J. jump-pair (List·Memᴰ·tail (List·Memᴰ·head refl)) (List·Memᴰ·head refl) Y apart J)
-              (E .0 h),
-          λ H. E .1 (which H (two (H .l-in)) (two (H .m-in))),
+        let M = pair-means σ (slotOf x) (slotOf y) in (
+          λ h.
+              let r = M .0 h in
+              ⊎-elim
+              (λ e. to-pair x y X Y (first refl refl) (subst₂ (Transitive σ) (e .0) (e .1) (r .3)))
+              (λ e. to-pair y x Y X (second refl refl) (subst₂ (Transitive σ) (e .0) (e .1) (r .3)))
+              (r .2),
+          λ H. M .1 (from-pair (H .edge) (H .held) (H .no-parent)),
         )
       where
-        which : (H : HiddenPair t C) → (H .l ≡ x) ⊎ (H .l ≡ y) → (H .m ≡ x) ⊎ (H .m ≡ y) → Jump σ (slotOf x) (slotOf y) ⊎ Jump σ (slotOf y) (slotOf x)
-        which H (inl e) (inl f) = absurd (H .other (f ∙ sym e))
-        which H (inl e) (inr f) = inl (subst₂ (λ (l m : ℤ). Jump σ (slotOf l) (slotOf m)) e f (pair-jump (H .l) (H .m) (fit-member fit (H .l-in)) (parent-literal (H .m-in)) (H .held) (H .no-parent) (H .reached)))
-        which H (inr e) (inl f) = inr (subst₂ (λ (l m : ℤ). Jump σ (slotOf l) (slotOf m)) e f (pair-jump (H .l) (H .m) (fit-member fit (H .l-in)) (parent-literal (H .m-in)) (H .held) (H .no-parent) (H .reached)))
-        which H (inr e) (inr f) = absurd (H .other (f ∙ sym e))
+        to-pair : (l m : ℤ) → Literal v l → Literal v m → EdgeOf x y (negℤ l) m → Transitive σ (twin (slotOf l)) (slotOf m) → HiddenPair t x y
+        to-pair l m L K edge T = record { p = negℤ l; q = m; edge = edge; held = from-twin l m L (T .0); no-parent = λ e. T .1 (column-parents (t .times) (t .links) (slotOf m) ∙ ap slotOf e ∙ slot-twin l (L .above)) }
+
+        shown : (l m : ℤ) {p q : ℤ} → Literal v l → Literal v m → p ≡ negℤ l → q ≡ m → Holds t p q → (parent t q ≡ p → ⊥) → Transitive σ (twin (slotOf l)) (slotOf m)
+        shown l m {p} {q} L K e f h none =
+            let P = F .parent-literal (slotOf m) (slot-below m v (K .above) (K .within)) in (
+              to-twin l m L (subst₂ (Holds t) e f h),
+              λ i. none (ap (parent t) f ∙ slot-same (parent t m) (negℤ l) (P .above) (omega (arith, L .above, abs-neg l)) (sym (column-parents (t .times) (t .links) (slotOf m)) ∙ i ∙ sym (slot-twin l (L .above))) ∙ sym e),
+            )
+
+        from-pair : {p q : ℤ} → EdgeOf x y p q → Holds t p q → (parent t q ≡ p → ⊥) → (p′ : ℕ) × (q′ : ℕ) × Reads (slotOf x) (slotOf y) p′ q′ × Transitive σ p′ q′
+        from-pair (first e f) h none = (twin (slotOf x), slotOf y, inl (refl, refl), shown x y X Y e f h none)
+        from-pair (second e f) h none = (twin (slotOf y), slotOf x, inr (refl, refl), shown y x Y X e f h none)

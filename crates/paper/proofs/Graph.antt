@@ -6,7 +6,7 @@ use mathlib.Core.Bool.{true}
 use mathlib.Core.Logic.{_↔_, inl, inr, ⊎-elim}
 use mathlib.Core.List.{List, [], _∷_, map, List·Memᴰ, List·Memᴰ·head, List·Memᴰ·tail, Memᴰ·map}
 use lib.ListN.{length, replicate, length-replicate}
-use lib.IntN.{ℤ, negℤ}
+use lib.IntN.{ℤ, negℤ, natAbs}
 use Rattle.base.specs.Decide.{same-or}
 use Rattle.literal.specs.Literals.{Literal, slotOf, litAt, twin}
 use Rattle.literal.proofs.Laws.{slot-lit, slot-twin, slot-same, lit-above, lit-var}
@@ -14,7 +14,7 @@ use Rattle.literal.proofs.Signed.{abs-neg}
 use Rattle.implications.specs.Clauses.{froms, tos, implications}
 use Rattle.implications.proofs.Implications.{root-edges}
 use Rattle.scc.proofs.Forward.{edge-below}
-use Rattle.hidden.proofs.Scan.{Reads}
+use Rattle.hidden.proofs.Pairs.{Reads}
 use Rattle.state.specs.declared.State.{State}
 use Rattle.tables.specs.Tables.{Tables, standing}
 use Rattle.tables.specs.Clauses.{literalsOf, slotsAt, slotsFrom}
@@ -26,7 +26,7 @@ use Rattle.table_graph.proofs.Listing.{formed-listed, from-clauses, slots-in, f
 use Rattle.sound.specs.Formula.{literalsIn, graph}
 use Rattle.sound.specs.Formula as formula
 use Rattle.sound.proofs.Graph.{edge-pair, reads-edge}
-use Rattle.paper.specs.Edges.{Pair, Edge, first, second}
+use Rattle.paper.specs.Edges.{Pair, EdgeOf, Edge, first, second}
 use Rattle.paper.specs.Stamping.{slotClauses, edgesFrom, rootOf}
 
 -- ---- clauses of slots, as a formula
@@ -57,6 +57,11 @@ two-slots (a ∷ []) x y e = absurd (let n : length (map slotOf (a ∷ [])) ≡ 
 two-slots (a ∷ b ∷ []) x y e = (a, b, refl, (cc), (cc))
 two-slots (a ∷ b ∷ c ∷ C) x y e = absurd (let n : length (map slotOf (a ∷ b ∷ c ∷ C)) ≡ 2 = ap length e in omega arith)
 
+-- an edge of a clause of literals, on slots
+edge-reads : {a b p q : ℤ} → 0 < natAbs a → 0 < natAbs b → EdgeOf a b p q → Reads (slotOf a) (slotOf b) (slotOf p) (slotOf q)
+edge-reads {a} la lb (first e f) = inl (ap slotOf e ∙ slot-twin a la, ap slotOf f)
+edge-reads {a} {b} la lb (second e f) = inr (ap slotOf e ∙ slot-twin b lb, ap slotOf f)
+
 module _ (t : Tables) (st : State) (S : Shape t st) where
   abbrev cs : List (List ℕ)
   cs = slotClauses t st
@@ -77,8 +82,11 @@ module _ (t : Tables) (st : State) (S : Shape t st) where
 
   -- both ends of an edge are literals of the variables
   pub edge-literals : {p q : ℤ} → Edge t (st .n) p q → Literal (st .v) p × Literal (st .v) q
-  edge-literals {p} {q} (first P e f) = let L = pair-literals P in (subst (Literal (st .v)) (sym e) (complement (L .0)), subst (Literal (st .v)) (sym f) (L .1))
-  edge-literals {p} {q} (second P e f) = let L = pair-literals P in (subst (Literal (st .v)) (sym e) (complement (L .1)), subst (Literal (st .v)) (sym f) (L .0))
+  edge-literals E = ends (pair-literals (E .pair)) (E .edge)
+    where
+      ends : {a b p q : ℤ} → Literal (st .v) a × Literal (st .v) b → EdgeOf a b p q → Literal (st .v) p × Literal (st .v) q
+      ends L (first e f) = (subst (Literal (st .v)) (sym e) (complement (L .0)), subst (Literal (st .v)) (sym f) (L .1))
+      ends L (second e f) = (subst (Literal (st .v)) (sym e) (complement (L .1)), subst (Literal (st .v)) (sym f) (L .0))
 
   -- ---- an edge of clauses is one of slots
 
@@ -90,8 +98,7 @@ module _ (t : Tables) (st : State) (S : Shape t st) where
   read {a} {b} {x} {y} P r = subst (λ (adj : ℕ → List ℕ). List·Memᴰ y (adj x)) (same-graph cs) (reads-edge (map formula.standing cs) (slotOf a) (slotOf b) x y (Memᴰ·map formula.standing (pair-in P)) r)
 
   pub edge-slots : {p q : ℤ} → Edge t (st .n) p q → List·Memᴰ (slotOf q) (edgesFrom t st (slotOf p))
-  edge-slots (first {a} {b} P e f) = read P (inl (ap slotOf e ∙ slot-twin a (pair-literals P .0 .above), ap slotOf f))
-  edge-slots (second {a} {b} P e f) = read P (inr (ap slotOf e ∙ slot-twin b (pair-literals P .1 .above), ap slotOf f))
+  edge-slots E = let L = pair-literals (E .pair) in read (E .pair) (edge-reads (L .0 .above) (L .1 .above) (E .edge))
 
   -- ---- and an edge of slots is one of clauses
 
@@ -113,9 +120,9 @@ module _ (t : Tables) (st : State) (S : Shape t st) where
       let L = pair-literals P in
       ⊎-elim
       (λ (h : (slotOf p ≡ twin (r .0)) × (slotOf q ≡ r .1)).
-      first P (slot-same p (negℤ (w .0)) (Lp .above) (complement (L .0) .above) (h .0 ∙ ap twin (sym (w .3)) ∙ sym (slot-twin (w .0) (L .0 .above)))) (slot-same q (w .1) (Lq .above) (L .1 .above) (h .1 ∙ sym (w .4))))
+      record { a = w .0; b = w .1; pair = P; edge = first (slot-same p (negℤ (w .0)) (Lp .above) (complement (L .0) .above) (h .0 ∙ ap twin (sym (w .3)) ∙ sym (slot-twin (w .0) (L .0 .above)))) (slot-same q (w .1) (Lq .above) (L .1 .above) (h .1 ∙ sym (w .4))) })
       (λ (h : (slotOf p ≡ twin (r .1)) × (slotOf q ≡ r .0)).
-      second P (slot-same p (negℤ (w .1)) (Lp .above) (complement (L .1) .above) (h .0 ∙ ap twin (sym (w .4)) ∙ sym (slot-twin (w .1) (L .1 .above)))) (slot-same q (w .0) (Lq .above) (L .0 .above) (h .1 ∙ sym (w .3))))
+      record { a = w .0; b = w .1; pair = P; edge = second (slot-same p (negℤ (w .1)) (Lp .above) (complement (L .1) .above) (h .0 ∙ ap twin (sym (w .4)) ∙ sym (slot-twin (w .1) (L .1 .above)))) (slot-same q (w .0) (Lq .above) (L .0 .above) (h .1 ∙ sym (w .3))) })
       (r .3)
 
   -- ---- roots

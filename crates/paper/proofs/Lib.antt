@@ -3,7 +3,6 @@ pub mod Graph
 pub mod Walking
 pub mod Stamping
 pub mod StampAncestors
-pub mod Pairs
 pub mod Filters
 pub mod Fates
 pub mod Visits

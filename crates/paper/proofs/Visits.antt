@@ -28,7 +28,7 @@ use Rattle.sweep_visits.proofs.Parting.{fate-short, fate-hidden, fate-left, sho
 use Rattle.sweep_visits.proofs.VisitKeeps.{formed-visit}
 use Rattle.paper.specs.Clauses.{clauseAt, flagAt}
 use Rattle.paper.specs.Sweeping.{HiddenPair, Shortened, SweptAs}
-use Rattle.paper.proofs.Fates.{long-exact, shortened-exact, shortened-printed, pair-hidden}
+use Rattle.paper.proofs.Fates.{figure-exact, long-exact, shortened-exact, shortened-printed, pair-hidden}
 
 -- clause j is in the tables x as it is in u
 abbrev Stays : ℕ → Tables → Tables → Type 0
@@ -43,11 +43,8 @@ module _ (t : Tables) (v : ℕ) (S : FreshStamps v (t .times) (t .links)) where
   abbrev hidden : List ℤ → Bool
   hidden C = hiddenTautology σ (map slotOf C)
 
-  pair-any : {w : List ℤ} {b : Bool} (C : List ℤ) → FitClause v w b C → length C ≡ 2 → (hidden C ≡ true) ↔ HiddenPair t C
-  pair-any [] fit e = absurd (omega arith)
-  pair-any (x ∷ []) fit e = absurd (omega arith)
-  pair-any (x ∷ y ∷ []) fit e = pair-hidden t v S fit
-  pair-any (x ∷ y ∷ z ∷ C) fit e = absurd (omega arith)
+  pair-any : {w : List ℤ} {b : Bool} {C : List ℤ} → FitClause v w b C → (x y : ℤ) → C ≡ x ∷ y ∷ [] → (hidden C ≡ true) ↔ HiddenPair t x y
+  pair-any {w} {b} {C} fit x y e = subst (λ (D : List ℤ). (hidden D ≡ true) ↔ HiddenPair t x y) (sym e) (pair-hidden t v S (subst (FitClause v w b) e fit))
 
   module _ {w : List ℤ} {b : Bool} {C : List ℤ} (fit : FitClause v w b C) (flag : ℕ) (D : List ℤ) where
     swept-short : length C < 2 → flag ≡ 1 → D ≡ C → SweptAs t C flag D
@@ -57,7 +54,7 @@ module _ (t : Tables) (v : ℕ) (S : FreshStamps v (t .times) (t .links)) where
       figure-6 = λ h. absurd (omega arith);
       dropped = λ e. absurd (omega arith);
       long = λ h. absurd (omega arith);
-      pair = λ h. absurd (omega arith);
+      pair = λ x y e. absurd (omega (arith, ap length e));
       figure-5 = λ h e. absurd (omega arith);
       shortened = λ h e. absurd (omega arith);
     }
@@ -68,10 +65,10 @@ module _ (t : Tables) (v : ℕ) (S : FreshStamps v (t .times) (t .links)) where
         record {
           flags = inl gone;
           short = λ h. absurd (omega arith);
-          figure-6 = λ h. exact;
+          figure-6 = λ h. subst (λ (r : Bool). (flag ≡ 0) ↔ (r ≡ true)) (figure-exact t v S fit h) exact;
           dropped = λ e. none;
           long = λ h. Iff·trans exact (long-exact t v S fit h);
-          pair = λ h. Iff·trans exact (pair-any C fit h);
+          pair = λ x y e. Iff·trans exact (pair-any fit x y e);
           figure-5 = λ h e. absurd (omega arith);
           shortened = λ h e. absurd (omega arith);
         }
@@ -82,10 +79,10 @@ module _ (t : Tables) (v : ℕ) (S : FreshStamps v (t .times) (t .links)) where
         record {
           flags = inr stands;
           short = λ h. absurd (omega arith);
-          figure-6 = λ h. exact;
+          figure-6 = λ h. subst (λ (r : Bool). (flag ≡ 0) ↔ (r ≡ true)) (figure-exact t v S fit h) exact;
           dropped = λ e. absurd (omega arith);
           long = λ h. Iff·trans exact (long-exact t v S fit h);
-          pair = λ h. Iff·trans exact (pair-any C fit h);
+          pair = λ x y e. Iff·trans exact (pair-any fit x y e);
           figure-5 = λ h e. ap (map slotOf) left ∙ shortened-printed t v S fit;
           shortened = λ h e. subst (λ (X : List ℤ). Shortened t C X) (sym left) (shortened-exact t v S fit);
         }

@@ -14,7 +14,14 @@ pub record Pair (t : Tables) (n : ℕ) (a b : ℤ) : Type 0 where
   pub stands : flagAt t clause ≡ 1
   pub literals : clauseAt t clause ≡ a ∷ b ∷ []
 
--- the edge p → q
-pub data Edge (t : Tables) (n : ℕ) (p q : ℤ) : Type 0 where
-  first : {a b : ℤ} → Pair t n a b → p ≡ negℤ a → q ≡ b → Edge t n p q
-  second : {a b : ℤ} → Pair t n a b → p ≡ negℤ b → q ≡ a → Edge t n p q
+-- p → q is one of the two edges of (a ∨ b)
+pub data EdgeOf (a b p q : ℤ) : Type 0 where
+  first : p ≡ negℤ a → q ≡ b → EdgeOf a b p q
+  second : p ≡ negℤ b → q ≡ a → EdgeOf a b p q
+
+-- p → q is an edge of the graph
+pub record Edge (t : Tables) (n : ℕ) (p q : ℤ) : Type 0 where
+  pub a : ℤ
+  pub b : ℤ
+  pub pair : Pair t n a b
+  pub edge : EdgeOf a b p q

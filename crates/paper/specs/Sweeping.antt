@@ -1,4 +1,4 @@
--- What Sweep makes of a clause, on literals: document 01, "Sweep (000, figures 5 and 6)". Assumes nothing: these are definitions.
+-- What Sweep makes of a clause, on literals: document 01, "Sweep (000, figures 5 and 6)", and document 02, CR 2, for two literals. Assumes nothing: these are definitions.
 use Prim.Native.Nat.{ℕ, _+_, _-_, _≤_, _<_, min}
 use mathlib.Core.Path.{_≡_}
 use mathlib.Core.Bool.{true}
@@ -8,7 +8,7 @@ use lib.ListN.{length}
 use lib.IntN.{ℤ, negℤ}
 use Rattle.literal.specs.Literals.{slotOf}
 use Rattle.stamp_columns.specs.Columns.{columns}
-use Rattle.hidden.specs.Hidden.{hiddenTautology, figure5}
+use Rattle.hidden.specs.Hidden.{figure6, figure5}
 use Rattle.state.specs.declared.State.{State}
 use Rattle.state.specs.declared.Pass.{Pass}
 use Rattle.state.specs.declared.Pass.the-variants.{Idle, Propagate, Merge, Sweep}
@@ -16,9 +16,10 @@ use Rattle.tables.specs.Tables.{Tables}
 use Rattle.tables.specs.Fates.{visit}
 use Rattle.sweep_visits.specs.Clause.{sweepClause}
 use Rattle.paper.specs.Clauses.{clauseAt, flagAt}
-use Rattle.paper.specs.Records.{discovered, parent, Holds}
+use Rattle.paper.specs.Edges.{EdgeOf}
+use Rattle.paper.specs.Records.{parent, Holds}
 
--- ---- figure 6
+-- ---- hidden tautologies
 
 -- "some literal's complement holds a literal of the clause"
 pub record Hidden (t : Tables) (C : List ℤ) : Type 0 where
@@ -28,17 +29,13 @@ pub record Hidden (t : Tables) (C : List ℤ) : Type 0 where
   pub m-in : List·Memᴰ m C
   pub held : Holds t (negℤ l) m
 
--- "For two, the yes is the scan's with its two exceptions: the positive literal is the complement of the negative one, or has it as parent." Here the negative one is −l, and the positive one is m.
--- An exception moves the scan on to the next negative one; so where the first passed −l by at l, the scan does not come to an m that was discovered after l
-pub record HiddenPair (t : Tables) (C : List ℤ) : Type 0 where
-  pub l : ℤ
-  pub m : ℤ
-  pub l-in : List·Memᴰ l C
-  pub m-in : List·Memᴰ m C
-  pub held : Holds t (negℤ l) m
-  pub other : m ≡ l → ⊥
-  pub no-parent : parent t m ≡ negℤ l → ⊥
-  pub reached : Holds t (negℤ l) l → discovered t l < discovered t m → ⊥
+-- document 02, CR 2, of the clause (a ∨ b): "for one of its two edges p → q, p holds q and p is not q's parent"
+pub record HiddenPair (t : Tables) (a b : ℤ) : Type 0 where
+  pub p : ℤ
+  pub q : ℤ
+  pub edge : EdgeOf a b p q
+  pub held : Holds t p q
+  pub no-parent : parent t q ≡ p → ⊥
 
 -- ---- figure 5
 
@@ -66,13 +63,13 @@ pub record SweptAs (t : Tables) (C : List ℤ) (flag : ℕ) (D : List ℤ) : Typ
   pub flags : (flag ≡ 0) ⊎ (flag ≡ 1)
   -- "Clauses of 0 or 1 literals are left."
   pub short : length C < 2 → (flag ≡ 1) × (D ≡ C)
-  -- "The figure 6 scan goes first .. a yes drops the clause."
-  pub figure-6 : 2 ≤ length C → (flag ≡ 0) ↔ (hiddenTautology (columns (t .times) (t .links)) (map slotOf C) ≡ true)
   pub dropped : flag ≡ 0 → D ≡ []
+  -- "The figure 6 scan goes first .. a yes drops the clause", for three or more literals
+  pub figure-6 : 2 < length C → (flag ≡ 0) ↔ (figure6 (columns (t .times) (t .links)) (map slotOf C) ≡ true)
   -- "For three or more literals the yes is given exactly when some literal's complement holds a literal of the clause."
   pub long : 2 < length C → (flag ≡ 0) ↔ Hidden t C
-  -- "For two, the yes is the scan's with its two exceptions"
-  pub pair : length C ≡ 2 → (flag ≡ 0) ↔ HiddenPair t C
+  -- document 02, CR 2: "For two literals the rule becomes: drop if .."
+  pub pair : (a b : ℤ) → C ≡ a ∷ b ∷ [] → (flag ≡ 0) ↔ HiddenPair t a b
   -- "Otherwise figure 5 shortens"
   pub figure-5 : 2 ≤ length C → flag ≡ 1 → map slotOf D ≡ figure5 (columns (t .times) (t .links)) (map slotOf C)
   pub shortened : 2 ≤ length C → flag ≡ 1 → Shortened t C D

@@ -3,9 +3,9 @@ use Prim.Native.Nat.{ℕ, suc, _+_, _*_, _-_, _≤_, _<_}
 use native.Mathlib.Omega.{arith}
 use native.Mathlib.Numerals.{add-one}
 use mathlib.Core.Path.{_≡_, sym, ap, subst, _∙_}
-use mathlib.Core.Bool.{Bool, true, not, false≢true, Bool·not-not}
+use mathlib.Core.Bool.{true, not, false≢true, Bool·not-not}
 use mathlib.Core.Logic.{_⊎_, ⊎-elim}
-use mathlib.Core.List.{List, map, List·Memᴰ}
+use mathlib.Core.List.{map, List·Memᴰ}
 use lib.IntN.{ℤ, pos, negsuc, negℤ, natAbs}
 use Rattle.base.proofs.Lists.{mem-getD, getD-mem}
 use Rattle.base.specs.Decide.{le-or}

@@ -1,7 +1,6 @@
 -- The invariant of a list of calls after a load of the clauses f: what stands is reached by moves from f, the tables hold it and keep the shape rule, and fresh stamps are those of the last Stamp.
 -- Propagate and Merge keep it. Assumes nothing.
 use Prim.Native.Nat.{ℕ, _+_, _-_, _*_, _<_, min}
-use native.Mathlib.Omega.{arith}
 use mathlib.Core.Path.{_≡_, refl, sym, subst, subst₂}
 use mathlib.Core.Bool.{Bool, true, false}
 use mathlib.Core.List.{List, List·Memᴰ}

@@ -1,7 +1,6 @@
 -- Propagate's theorem, over the call as its user sees it: whatever the tables, the state and the step count, an assignment satisfies what stands after the call exactly if it satisfied what stood before; refused calls included.
 -- Assumes nothing.
 use Prim.Native.Nat.{ℕ, zero, suc}
-use native.Mathlib.Omega.{arith}
 use mathlib.Core.Path.{_≡_, refl, sym, subst}
 use mathlib.Core.Bool.{Bool, false}
 use mathlib.Core.Logic.{_↔_, Iff·rfl, Iff·trans, Iff·symm}

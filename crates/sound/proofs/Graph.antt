@@ -7,7 +7,7 @@ use mathlib.Core.List.{List, [], _∷_, map, List·Memᴰ, List·Memᴰ·head, L
 use Rattle.literal.specs.Literals.{twin}
 use Rattle.implications.specs.Clauses.{froms, tos, Once, empty}
 use Rattle.implications.proofs.Implications.{flip, no-self-edge}
-use Rattle.hidden.proofs.Scan.{Reads, by-reads}
+use Rattle.hidden.proofs.Pairs.{Reads, by-reads}
 use Rattle.sound.specs.Formula.{Clause, dropped, standing, literalsIn, graph}
 use Rattle.sound.specs.Kept.{Shaped}
 use Rattle.scc.proofs.Edges.{Edge, first, later, outs-edge, edge-outs}

@@ -5,6 +5,7 @@ pub mod Rule
 pub mod Stamped
 pub mod Visit
 pub mod Sound
+pub mod Chains
 pub mod Walked
 pub mod Fresh
 pub mod ReachKept

@@ -1,21 +1,20 @@
 -- Change request 13: reach is kept. Lemma R once more, with "p reaches it over the pairs that now stand" for the property. Assumes nothing.
 use Prim.Native.Nat.{ℕ, zero, suc}
-use native.Mathlib.Omega.{arith}
 use mathlib.Core.Path.{_≡_, sym, subst₂, _∙_}
 use mathlib.Core.Logic.{_⊎_, inl, inr, ⊎-elim, _↔_}
 use mathlib.Core.List.{List, [], _∷_}
 use lib.ListN.{getD}
 use Rattle.base.proofs.Lists.{mem-getD}
-use Rattle.literal.specs.Literals.{twin}
 use Rattle.walk.specs.Walk.{Stamps}
 use Rattle.walk.specs.Forest.{Reach, here, on}
 use Rattle.walk.proofs.Theorems.{reach-implies}
-use Rattle.hidden.proofs.Scan.{by-reads}
+use Rattle.hidden.proofs.Pairs.{by-reads}
 use Rattle.sound.specs.Formula.{Clause, dropped, standing, graph}
 use Rattle.sound.specs.Sweep.{sweepFirst}
-use Rattle.sound.specs.Kept.{Detour, Kept, same, round, implied, Since, none, each}
+use Rattle.sound.specs.Kept.{Detour, Kept, same, Since, none, each}
 use Rattle.sound.proofs.Graph.{not-standing, edge-pair, reads-edge}
 use Rattle.sound.proofs.Rule.{rule}
+use Rattle.sound.proofs.Chains.{dropped-round}
 use Rattle.sound.proofs.Sound.{StampedFormula, graph-below, sweep-since, nth-mem}
 
 -- ---- clauses by number
@@ -32,11 +31,6 @@ PairsWhole f g = (i a b : ℕ) → getD f i dropped ≡ standing (a ∷ b ∷ []
 -- no clause was shortened
 abbrev pub Whole : List Clause → List Clause → Type 0
 Whole f g = (i : ℕ) → (getD g i dropped ≡ getD f i dropped) ⊎ (getD g i dropped ≡ dropped)
-
--- a pair that is dropped has its two ways round
-dropped-round : {adj : ℕ → List ℕ} {a b : ℕ} → Kept adj (standing (a ∷ b ∷ [])) dropped → Detour adj (twin a) b × Detour adj (twin b) a
-dropped-round (round p q) = (p, q)
-dropped-round (implied long l m r) = absurd (omega (arith, long))
 
 module _ (vars : ℕ) (f : List Clause) (σ : Stamps) (R : StampedFormula vars f σ) (g : List Clause) (S : Since (graph f) f g) where
   reach-kept : PairsWhole f g → {p q : ℕ} → Reach (graph f) p q → Reach (graph g) p q

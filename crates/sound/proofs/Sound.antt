@@ -3,7 +3,6 @@
 --     models-same    under the invariant, the same assignments satisfy what stood at Stamp and what stands now
 --     first-since    visits that keep each clause keep the invariant, wherever they stop
 --     sweep-keeps    so a sweep that stopped after any number of visits has the same satisfying assignments
---     sweep2-keeps   and by the rule for pairs of change request 2
 --     learnt-kept    the same of a clause that is not in the formula (change request 1)
 --     first-sub, from-sub   every standing clause is a subsequence of what it was
 --     resumed        a pass that is resumed makes the visits of one that was not interrupted
@@ -25,19 +24,19 @@ use Rattle.walk.specs.Forest.{Reach}
 use Rattle.walk.proofs.Theorems.{Stamped, reach-implies}
 use Rattle.implications.specs.Clauses.{Once}
 use Rattle.scc.proofs.Kosaraju.{reach-trans}
-use Rattle.hidden.specs.Hidden.{shorten}
+use Rattle.hidden.specs.Hidden.{hiddenTautology, shorten}
 use Rattle.hidden.proofs.Intervals.{Within}
-use Rattle.hidden.proofs.Scan.{Reads, by-reads}
+use Rattle.hidden.proofs.Pairs.{Reads, by-reads}
 use Rattle.hidden.proofs.Shorten.{shorten-sub}
 use Rattle.sound.specs.Formula.{Clause, dropped, standing, literalsIn, True, Sat, Models, graph}
-use Rattle.sound.specs.Sweep.{judgeClause, sweepSlots, onStanding, sweepVisit, visitFirst, visitFrom, sweepFirst, tautology2, sweepFirst2}
+use Rattle.sound.specs.Sweep.{sweepSlots, onStanding, sweepVisit, visitFirst, visitFrom, sweepFirst}
 use Rattle.scc.specs.Forward.{Acyclic}
 use Rattle.sound.specs.Kept.{Detour, Kept, same, shorter, round, implied, Since, none, each, Shaped}
 use Rattle.sound.proofs.Truth.{true-or, not-both}
 use Rattle.sound.proofs.Graph.{standing-eq, not-standing, shaped-below, edge-pair}
 use Rattle.scc.proofs.Forward.{edge-below}
 use Rattle.sound.proofs.Rule.{rule}
-use Rattle.sound.proofs.Visit.{sweep-kept, sweep2-kept}
+use Rattle.sound.proofs.Visit.{sweep-kept}
 
 -- ---- the invariant, clause by clause
 
@@ -139,7 +138,7 @@ unfolding graph
 graph-below vars f shaped s t m = edge-below (map literalsIn f) vars (shaped-below vars f shaped) s t m
 
 -- literals in range, with their complements
-range-within : (vars : ℕ) (C : List ℕ) → ((l : ℕ) → List·Memᴰ l C → l < 2 * vars) → Within (2 * vars) C
+pub range-within : (vars : ℕ) (C : List ℕ) → ((l : ℕ) → List·Memᴰ l C → l < 2 * vars) → Within (2 * vars) C
 range-within vars C below l k = (below l k, twin-below vars l (below l k))
 
 module _ (vars : ℕ) (f : List Clause) (σ : Stamps) (R : StampedFormula vars f σ) where
@@ -197,48 +196,41 @@ module _ (vars : ℕ) (f : List Clause) (σ : Stamps) (R : StampedFormula vars f
   pub sweep-keeps : (k : ℕ) (τ : Assignment) → Models τ (sweepFirst k σ f) ↔ Models τ f
   sweep-keeps k τ = models-same (sweepFirst k σ f) (sweep-since k) τ
 
-  -- and by the rule for pairs of change request 2
-  pub sweep2-since : (k : ℕ) → Since (graph f) f (sweepFirst2 k σ f)
-  sweep2-since k = first-since (graph f) (onStanding (judgeClause (tautology2 σ) σ)) k f (keeps (judgeClause (tautology2 σ) σ) (sweep2-kept f (2 * vars) σ (R .stamped)))
-
-  pub sweep2-keeps : (k : ℕ) (τ : Assignment) → Models τ (sweepFirst2 k σ f) ↔ Models τ f
-  sweep2-keeps k τ = models-same (sweepFirst2 k σ f) (sweep2-since k) τ
-
   -- change request 1: a clause that is not in the formula, judged by Sweep's rules under the same stamps, at any time of the sweep
   pub learnt-kept : (k : ℕ) (τ : Assignment) → Models τ (sweepFirst k σ f) → (C : List ℕ) → ((l : ℕ) → List·Memᴰ l C → l < 2 * vars) → Once C
       → (sweepSlots σ C ≡ dropped → Sat τ C) × ((D : List ℕ) → sweepSlots σ C ≡ standing D → Sat τ C ↔ Sat τ D)
   learnt-kept k τ M C below once = outside-kept (sweepFirst k σ f) (sweep-since k) τ C (sweepSlots σ C) (sweep-kept f (2 * vars) σ (R .stamped) C (range-within vars C below) once) M
 
--- ---- subsequences, under any stamps and any test
+-- ---- subsequences, under any stamps
 
-judge-sub : (test : List ℕ → Bool) (σ : Stamps) (C D : List ℕ) → judgeClause test σ C ≡ standing D → Sublistᴰ D C
-unfolding judgeClause
-judge-sub test σ [] D e = subst (λ (x : List ℕ). Sublistᴰ x []) (standing-eq e) (Sublistᴰ·refl [])
-judge-sub test σ (a ∷ []) D e = subst (λ (x : List ℕ). Sublistᴰ x (a ∷ [])) (standing-eq e) (Sublistᴰ·refl (a ∷ []))
-judge-sub test σ (a ∷ b ∷ ls) D e = go (test (a ∷ b ∷ ls)) e
+sweep-sub : (σ : Stamps) (C D : List ℕ) → sweepSlots σ C ≡ standing D → Sublistᴰ D C
+unfolding sweepSlots
+sweep-sub σ [] D e = subst (λ (x : List ℕ). Sublistᴰ x []) (standing-eq e) (Sublistᴰ·refl [])
+sweep-sub σ (a ∷ []) D e = subst (λ (x : List ℕ). Sublistᴰ x (a ∷ [])) (standing-eq e) (Sublistᴰ·refl (a ∷ []))
+sweep-sub σ (a ∷ b ∷ ls) D e = go (hiddenTautology σ (a ∷ b ∷ ls)) e
   where
     go : (v : Bool) → _≡_ {A = Clause} (elim v [ true ↦ dropped | false ↦ standing (shorten (λ s. s) σ (a ∷ b ∷ ls)) ]) (standing D) → Sublistᴰ D (a ∷ b ∷ ls)
     go true k = absurd (not-standing k)
     go false k = subst (λ (x : List ℕ). Sublistᴰ x (a ∷ b ∷ ls)) (standing-eq k) (shorten-sub (λ s. s) σ (a ∷ b ∷ ls))
 
 -- every standing clause is a subsequence of what it was
-pub first-sub : (test : List ℕ → Bool) (σ : Stamps) (k : ℕ) (f : List Clause) (i : ℕ) (D : List ℕ) → getD (visitFirst (onStanding (judgeClause test σ)) k f) i dropped ≡ standing D
+pub first-sub : (σ : Stamps) (k : ℕ) (f : List Clause) (i : ℕ) (D : List ℕ) → getD (sweepFirst k σ f) i dropped ≡ standing D
     → (C : List ℕ) × (getD f i dropped ≡ standing C) × Sublistᴰ D C
 unfolding visitFirst onStanding
-first-sub test σ zero f i D e = (D, e, Sublistᴰ·refl D)
-first-sub test σ (suc k) [] i D e = (D, e, Sublistᴰ·refl D)
-first-sub test σ (suc k) (dropped ∷ f) zero D e = absurd (not-standing e)
-first-sub test σ (suc k) (standing C ∷ f) zero D e = (C, refl, judge-sub test σ C D e)
-first-sub test σ (suc k) (dropped ∷ f) (suc i) D e = first-sub test σ k f i D e
-first-sub test σ (suc k) (standing C ∷ f) (suc i) D e = first-sub test σ k f i D e
+first-sub σ zero f i D e = (D, e, Sublistᴰ·refl D)
+first-sub σ (suc k) [] i D e = (D, e, Sublistᴰ·refl D)
+first-sub σ (suc k) (dropped ∷ f) zero D e = absurd (not-standing e)
+first-sub σ (suc k) (standing C ∷ f) zero D e = (C, refl, sweep-sub σ C D e)
+first-sub σ (suc k) (dropped ∷ f) (suc i) D e = first-sub σ k f i D e
+first-sub σ (suc k) (standing C ∷ f) (suc i) D e = first-sub σ k f i D e
 
-pub from-sub : (test : List ℕ → Bool) (σ : Stamps) (c n : ℕ) (f : List Clause) (i : ℕ) (D : List ℕ) → getD (visitFrom (onStanding (judgeClause test σ)) c n f) i dropped ≡ standing D
+pub from-sub : (σ : Stamps) (c n : ℕ) (f : List Clause) (i : ℕ) (D : List ℕ) → getD (visitFrom (sweepVisit σ) c n f) i dropped ≡ standing D
     → (C : List ℕ) × (getD f i dropped ≡ standing C) × Sublistᴰ D C
 unfolding visitFrom
-from-sub test σ zero n f i D e = first-sub test σ n f i D e
-from-sub test σ (suc c) n [] i D e = (D, e, Sublistᴰ·refl D)
-from-sub test σ (suc c) n (x ∷ f) zero D e = (D, e, Sublistᴰ·refl D)
-from-sub test σ (suc c) n (x ∷ f) (suc i) D e = from-sub test σ c n f i D e
+from-sub σ zero n f i D e = first-sub σ n f i D e
+from-sub σ (suc c) n [] i D e = (D, e, Sublistᴰ·refl D)
+from-sub σ (suc c) n (x ∷ f) zero D e = (D, e, Sublistᴰ·refl D)
+from-sub σ (suc c) n (x ∷ f) (suc i) D e = from-sub σ c n f i D e
 
 -- ---- a pass that is resumed
 

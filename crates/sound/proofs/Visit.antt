@@ -1,12 +1,11 @@
 -- A visit of Sweep, under stamps of the formula's graph, keeps the clause in the sense of `Kept`. Assumes nothing.
-use Prim.Native.Nat.{ℕ, suc, _<_}
+use Prim.Native.Nat.{ℕ, _<_}
 use native.Mathlib.Omega.{arith}
 use mathlib.Core.Path.{_≡_, refl, sym, ap, subst, subst₂, _∙_}
 use mathlib.Core.Bool.{Bool, true, false}
-use mathlib.Core.Logic.{_⊎_, inl, inr, ⊎-elim}
+use mathlib.Core.Logic.{_⊎_, ⊎-elim}
 use mathlib.Core.List.{List, [], _∷_, List·Memᴰ, List·Memᴰ·head, List·Memᴰ·tail}
 use lib.ListN.{length}
-use Rattle.base.proofs.Booleans.{and-left, and-right, or-either, differ}
 use Rattle.literal.specs.Literals.{twin}
 use Rattle.literal.proofs.Twins.{twin-twice, twin-eq}
 use Rattle.walk.specs.Walk.{Stamps}
@@ -14,12 +13,13 @@ use Rattle.walk.specs.Forest.{discoveryAt, parentAt, Holds, Reach, here, on, To
 use Rattle.walk.proofs.Theorems.{Stamped, holds-reach, reach-mirror}
 use Rattle.implications.specs.Clauses.{Once}
 use Rattle.scc.proofs.Kosaraju.{reach-trans}
-use Rattle.hidden.specs.Hidden.{holds, hiddenTautology, shorten}
-use Rattle.hidden.proofs.Intervals.{Within, holds-true}
-use Rattle.hidden.proofs.Scan.{Reads, by-reads, Hidden, hidden-of, tautology-pair}
+use Rattle.hidden.specs.Hidden.{hiddenTautology, shorten}
+use Rattle.hidden.proofs.Intervals.{Within}
+use Rattle.hidden.proofs.Scan.{hidden-of}
+use Rattle.hidden.proofs.Pairs.{Reads, by-reads, pair-means}
 use Rattle.hidden.proofs.Shorten.{shorten-sub, shorten-leads}
 use Rattle.sound.specs.Formula.{Clause, dropped, standing, graph}
-use Rattle.sound.specs.Sweep.{judgeClause, sweepSlots, jumps, tautology2}
+use Rattle.sound.specs.Sweep.{sweepSlots}
 use Rattle.sound.specs.Kept.{Detour, Kept, same, shorter, round, implied}
 use Rattle.sound.proofs.Graph.{skew, reads-other}
 use Rattle.sound.proofs.Stamped.{stamped-nested}
@@ -66,51 +66,32 @@ module _ (f : List Clause) (size : ℕ) (σ : Stamps) (S : Stamped (graph f) siz
       turn : {s t : ℕ} → Detour (graph f) (twin s) t → Detour (graph f) (twin t) s
       turn {s} {t} k = subst (λ (x : ℕ). Detour (graph f) (twin t) x) (twin-twice s) (detour-mirror k)
 
-  -- the rule for pairs (also that of change request 2): one edge's tail holds its head and is not the head's parent
-  pair-kept : (a b p q : ℕ) → Within size (a ∷ b ∷ []) → Once (a ∷ b ∷ []) → Reads a b p q → Holds σ p q → (parentAt σ q ≡ p → ⊥) → Kept (graph f) (standing (a ∷ b ∷ [])) dropped
-  pair-kept a b p q w once r h o =
+  -- what the rule for two literals drops: an edge's tail holds its head and is not the head's parent
+  pair-kept : (a b : ℕ) → Within size (a ∷ b ∷ []) → Once (a ∷ b ∷ []) → hiddenTautology σ (a ∷ b ∷ []) ≡ true → Kept (graph f) (standing (a ∷ b ∷ [])) dropped
+  pair-kept a b w once h =
+      let r = pair-means σ a b .0 h in
+      let p = r .0 in
+      let q = r .1 in
       let wa = w a (List·Memᴰ·head refl) in
       let wb = w b (List·Memᴰ·tail (List·Memᴰ·head refl)) in
-      let ends = by-reads (λ x y. (x < size) × (y < size)) r (wa .1, wb .0) (wb .1, wa .0) in
-      pair-round a b p q r (holds-detour p q (ends .0) (ends .1) (reads-other a b p q once r) o h)
+      let ends = by-reads (λ x y. (x < size) × (y < size)) (r .2) (wa .1, wb .0) (wb .1, wa .0) in
+      pair-round a b p q (r .2) (holds-detour p q (ends .0) (ends .1) (reads-other a b p q once (r .2)) (r .3 .1) (r .3 .0))
 
-  -- a visit keeps the clause, whatever test for tautologies it uses, if the test's yes is a jump of a pair or a hidden tautology of a longer clause
-  judge-kept : (test : List ℕ → Bool) (C : List ℕ) → Within size C
-      → ((a b : ℕ) → C ≡ a ∷ b ∷ [] → test C ≡ true → Kept (graph f) (standing (a ∷ b ∷ [])) dropped)
-      → ((a b c : ℕ) (ls : List ℕ) → C ≡ a ∷ b ∷ c ∷ ls → test C ≡ true → Hidden σ C) → Kept (graph f) (standing C) (judgeClause test σ C)
-  unfolding judgeClause
-  judge-kept test [] w pair long = same
-  judge-kept test (a ∷ []) w pair long = same
-  judge-kept test (a ∷ b ∷ ls) w pair long = go (test (a ∷ b ∷ ls)) refl
-    where
-      yes-at : (ks : List ℕ) → ls ≡ ks → test (a ∷ b ∷ ls) ≡ true → Kept (graph f) (standing (a ∷ b ∷ ls)) dropped
-      yes-at [] e h = subst (λ (x : List ℕ). Kept (graph f) (standing (a ∷ b ∷ x)) dropped) (sym e) (pair a b (ap (λ (x : List ℕ). a ∷ b ∷ x) e) h)
-      yes-at (k ∷ ks) e h =
-          let r = long a b k ks (ap (λ (x : List ℕ). a ∷ b ∷ x) e) h in
-          let n : length ls ≡ suc (length ks) = ap length e in
-          implied {C = a ∷ b ∷ ls} (omega arith) (r .2) (r .3) (held (twin (r .0)) (r .1) (w (r .0) (r .2) .1) (w (r .1) (r .3) .0) (r .4))
-
-      go : (v : Bool) → test (a ∷ b ∷ ls) ≡ v → Kept (graph f) (standing (a ∷ b ∷ ls)) (elim v [ true ↦ dropped | false ↦ standing (shorten (λ s. s) σ (a ∷ b ∷ ls)) ])
-      go true e = yes-at ls refl e
-      go false e = shorter (shorten-sub (λ s. s) σ (a ∷ b ∷ ls)) (shorten-reach (a ∷ b ∷ ls) w)
+  drop-kept : (a b : ℕ) (ls : List ℕ) → Within size (a ∷ b ∷ ls) → Once (a ∷ b ∷ ls) → hiddenTautology σ (a ∷ b ∷ ls) ≡ true → Kept (graph f) (standing (a ∷ b ∷ ls)) dropped
+  drop-kept a b [] w once h = pair-kept a b w once h
+  drop-kept a b (c ∷ ls) w once h =
+      let C : List ℕ = a ∷ b ∷ c ∷ ls in
+      let long : 2 < length C = omega arith in
+      let r = hidden-of σ C long h in
+      implied long (r .2) (r .3) (held (twin (r .0)) (r .1) (w (r .0) (r .2) .1) (w (r .1) (r .3) .0) (r .4))
 
   -- a visit of Sweep keeps the clause
   pub sweep-kept : (C : List ℕ) → Within size C → Once C → Kept (graph f) (standing C) (sweepSlots σ C)
-  sweep-kept C w once =
-      judge-kept (hiddenTautology σ) C w
-      (λ a b e h.
-      let r = tautology-pair σ a b (subst (λ (x : List ℕ). hiddenTautology σ x ≡ true) e h) in
-      pair-kept a b (r .0) (r .1) (subst (Within size) e w) (subst Once e once) (r .2) (r .3) (r .4))
-      (λ a b c ls e h. hidden-of σ C h)
-
-  -- and so does one by the rule of change request 2
-  pub sweep2-kept : (C : List ℕ) → Within size C → Once C → Kept (graph f) (standing C) (judgeClause (tautology2 σ) σ C)
-  unfolding tautology2 jumps
-  sweep2-kept C w once =
-      judge-kept (tautology2 σ) C w
-      (λ a b e h.
-      let jump : (p q : ℕ) → Reads a b p q → jumps σ p q ≡ true → Kept (graph f) (standing (a ∷ b ∷ [])) dropped =
-      λ p q r j. pair-kept a b p q (subst (Within size) e w) (subst Once e once) r (holds-true σ p q (and-left (holds σ p q) _ j)) (differ (parentAt σ q) p (and-right (holds σ p q) _ j)) in
-      ⊎-elim (λ j. jump (twin a) b (inl (refl, refl)) j) (λ j. jump (twin b) a (inr (refl, refl)) j)
-      (or-either (jumps σ (twin a) b) (jumps σ (twin b) a) (subst (λ (x : List ℕ). tautology2 σ x ≡ true) e h)))
-      (λ a b c ls e h. subst (Hidden σ) (sym e) (hidden-of σ (a ∷ b ∷ c ∷ ls) (subst (λ (x : List ℕ). tautology2 σ x ≡ true) e h)))
+  unfolding sweepSlots
+  sweep-kept [] w once = same
+  sweep-kept (a ∷ []) w once = same
+  sweep-kept (a ∷ b ∷ ls) w once = go (hiddenTautology σ (a ∷ b ∷ ls)) refl
+    where
+      go : (v : Bool) → hiddenTautology σ (a ∷ b ∷ ls) ≡ v → Kept (graph f) (standing (a ∷ b ∷ ls)) (elim v [ true ↦ dropped | false ↦ standing (shorten (λ s. s) σ (a ∷ b ∷ ls)) ])
+      go true e = drop-kept a b ls w once e
+      go false e = shorter (shorten-sub (λ s. s) σ (a ∷ b ∷ ls)) (shorten-reach (a ∷ b ∷ ls) w)

@@ -6,7 +6,7 @@ use Rattle.base.specs.Lists.{any, filter, evens, odds}
 use Rattle.literal.specs.Literals.{twin}
 use Rattle.walk.specs.Walk.{Stamps}
 use Rattle.stamp_columns.specs.Columns.{columns}
-use Rattle.hidden.specs.Hidden.{holds, insert, byDiscovery, passes, scanAt, scan, hiddenTautology, unhidden, shorten}
+use Rattle.hidden.specs.Hidden.{holds, insert, byDiscovery, scanAt, scan, figure6, transitive, hiddenPair, hiddenTautology, unhidden, shorten}
 use Rattle.tables.specs.Fates.{kept, left, dropped}
 use Rattle.sweep_visits.specs.Clause.{sweepClause}
 
@@ -19,5 +19,5 @@ stamped =
 fates : (sweepClause stamped (negsuc 0 ∷ pos 2 ∷ []) ≡ left (negsuc 0 ∷ pos 2 ∷ [])) × (sweepClause stamped (pos 1 ∷ pos 3 ∷ pos 4 ∷ []) ≡ left (pos 3 ∷ pos 4 ∷ []))
     × (sweepClause stamped (negsuc 0 ∷ pos 3 ∷ []) ≡ dropped) × (sweepClause stamped (pos 4 ∷ pos 3 ∷ negsuc 0 ∷ []) ≡ dropped) × (sweepClause stamped (pos 4 ∷ []) ≡ kept)
     × (sweepClause stamped (negsuc 2 ∷ pos 4 ∷ negsuc 0 ∷ []) ≡ left (pos 4 ∷ negsuc 0 ∷ []))
-unfolding stamped any filter evens odds twin holds insert byDiscovery passes scanAt scan hiddenTautology unhidden shorten sweepClause
+unfolding stamped any filter evens odds twin holds insert byDiscovery scanAt scan figure6 transitive hiddenPair hiddenTautology unhidden shorten sweepClause
 fates = (refl, refl, refl, refl, refl, refl)

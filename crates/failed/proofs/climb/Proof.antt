@@ -9,7 +9,7 @@ use Rattle.failed.proofs.climb.Statement.{statement}
 use Rattle.failed.proofs.climb.Tie as tie
 use Rattle.failed.proofs.climb.Reads as reads
 use Rattle.failed.proofs.climb.Lts as lts
-use Rattle.failed.proofs.holds.Reads as holds-reads
+use Rattle.hidden.proofs.holds.Reads as holds-reads
 use Rattle.stamp_columns.proofs.parent.Reads as parent-reads
 use Rattle.literal.proofs.twin_of.Reads as twin-of-reads
 

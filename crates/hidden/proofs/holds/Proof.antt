@@ -1,11 +1,11 @@
--- `failed::holds` meets its contract. Assumes nothing.
+-- `hidden::holds` meets its contract. Assumes nothing.
 use Rattle.stamp_columns.specs.Columns.{columns}
-use Rattle.failed.proofs.Climbing.{begins-later, begins-first}
+use Rattle.hidden.proofs.Intervals.{begins-later, begins-first}
 use borrow.Author.Needs.{needs}
-use Rattle.failed.proofs.holds.Statement.{statement}
-use Rattle.failed.proofs.holds.Tie as tie
-use Rattle.failed.proofs.holds.Reads as reads
-use Rattle.failed.proofs.holds.Lts as lts
+use Rattle.hidden.proofs.holds.Statement.{statement}
+use Rattle.hidden.proofs.holds.Tie as tie
+use Rattle.hidden.proofs.holds.Reads as reads
+use Rattle.hidden.proofs.holds.Lts as lts
 use Rattle.stamp_columns.proofs.discovery.Reads as discovery-reads
 use Rattle.stamp_columns.proofs.finish.Reads as finish-reads
 

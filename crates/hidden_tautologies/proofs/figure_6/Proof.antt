@@ -1,0 +1,47 @@
+-- `hidden_tautologies::figure_6` meets its contract. Assumes nothing.
+use mathlib.Core.Path.{sym, ap, subst, _∙_}
+use Rattle.stamp_columns.specs.Columns.{columns}
+use Rattle.stamp_columns.specs.Slots.{Slots}
+use Rattle.hidden.specs.Hidden.{byDiscovery}
+use Rattle.hidden_tautologies.proofs.Scanning.{slots-small, figure6-slots, figure6-is}
+use borrow.Author.Needs.{needs}
+use Rattle.hidden_tautologies.proofs.figure_6.Statement.{statement}
+use Rattle.hidden_tautologies.proofs.figure_6.Tie as tie
+use Rattle.hidden_tautologies.proofs.figure_6.Reads as reads
+use Rattle.hidden_tautologies.proofs.figure_6.Lts as lts
+use Rattle.clause_slots.proofs.twins_of.Reads as twins-of-reads
+use Rattle.discovery_order.proofs.sort_slots.Reads as sort-slots-reads
+use Rattle.hidden_tautologies.proofs.scan.Reads as scan-reads
+
+twins-of-requires : tie.Need-twins-of-requires
+twins-of-requires c κs = (slots-small (c .before .before .before .before .before .pre .0), c .before .before .before .before .before .pre .2)
+
+sort-slots-requires : tie.Need-sort-slots-requires
+sort-slots-requires c κs = search needs
+
+sort-slots-requires-2 : tie.Need-sort-slots-requires-2
+sort-slots-requires-2 c κs = subst (Slots (c .before .before .before .before .before .before .before .before .before .before .before .before .before .args .times .now)) (sym (c .before .before .before .before .before .before .before .twins-of .ensures)) (c .before .before .before .before .before .before .before .before .before .before .before .before .before .pre .1)
+
+scan-requires : tie.Need-scan-requires
+scan-requires c κs = figure6-slots (c .before .before .before .before .before .before .before .before .before .before .before .before .before .before .before .before .before .before .args .times .now) (c .before .before .before .before .before .before .before .before .before .before .before .before .before .before .before .before .before .before .args .slots .now) (c .before .before .before .before .before .before .before .before .sort-slots .last .0) (c .before .before .before .before .sort-slots2 .last .0) (c .before .before .before .before .before .before .before .before .sort-slots .ensures) (λ links. c .before .before .before .before .sort-slots2 .ensures links ∙ ap (byDiscovery (columns (c .before .before .before .before .before .before .before .before .before .before .before .before .before .before .before .before .before .before .args .times .now) links)) (c .before .before .before .before .before .before .before .before .before .before .before .before .twins-of .ensures)) (c .before .before .before .before .before .before .before .before .before .before .before .before .before .before .before .before .before .before .pre .0) (c .before .before .before .before .before .before .before .before .before .before .before .before .before .before .before .before .before .before .pre .1)
+
+same-length : tie.Need-same-length
+same-length c = search needs
+
+same-length-2 : tie.Need-same-length-2
+same-length-2 c = search needs
+
+returns : tie.Need-returns
+returns c = figure6-is (c .before .before .before .before .before .before .before .before .before .before .before .before .before .before .before .before .before .before .before .args .times .now) (c .before .before .before .before .before .before .before .before .before .before .before .before .before .before .before .before .before .before .before .args .slots .now) (c .before .before .before .before .before .before .before .before .before .sort-slots .last .0) (c .before .before .before .before .before .sort-slots2 .last .0) (c .before .before .before .before .before .before .before .before .before .sort-slots .ensures) (λ links. c .before .before .before .before .before .sort-slots2 .ensures links ∙ ap (byDiscovery (columns (c .before .before .before .before .before .before .before .before .before .before .before .before .before .before .before .before .before .before .before .args .times .now) links)) (c .before .before .before .before .before .before .before .before .before .before .before .before .before .twins-of .ensures)) (c .scan .result) (c .scan .ensures)
+
+pub figure-6-spec : {M : Type 1} → statement M
+figure-6-spec =
+    tie.close
+    (tie.spec
+    twins-of-requires
+    sort-slots-requires
+    sort-slots-requires-2
+    scan-requires
+    same-length
+    same-length-2
+    returns)
