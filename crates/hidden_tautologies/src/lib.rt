@@ -87,6 +87,6 @@ pub fn hidden_tautology(
         return figure_6(times, slots, twins);
     }
     let verdict = hidden_pair(times, links, slots[0], slots[1]);
-    discovery_order::sort_slots(slots, times);
+    discovery_order::sort_pair(slots, times);
     verdict
 }

@@ -36,11 +36,11 @@ unfolding literalsIn
 all-standing [] = refl
 all-standing (c ∷ cs) = ap (λ (ds : List (List ℕ)). c ∷ ds) (all-standing cs)
 
-standing-mem : (cs : List (List ℕ)) {c : List ℕ} → List·Memᴰ (formula.standing c) (map formula.standing cs) → List·Memᴰ c cs
+pub standing-mem : (cs : List (List ℕ)) {c : List ℕ} → List·Memᴰ (formula.standing c) (map formula.standing cs) → List·Memᴰ c cs
 unfolding literalsIn
 standing-mem cs {c} m = subst (List·Memᴰ c) (all-standing cs) (Memᴰ·map literalsIn m)
 
-same-graph : (cs : List (List ℕ)) → graph (map formula.standing cs) ≡ implications cs
+pub same-graph : (cs : List (List ℕ)) → graph (map formula.standing cs) ≡ implications cs
 unfolding graph
 same-graph cs = ap implications (all-standing cs)
 
@@ -56,6 +56,9 @@ two-slots [] x y e = absurd (let z : _≡_ {A = ℕ} 0 1 = cc in omega arith)
 two-slots (a ∷ []) x y e = absurd (let n : length (map slotOf (a ∷ [])) ≡ 2 = ap length e in omega arith)
 two-slots (a ∷ b ∷ []) x y e = (a, b, refl, (cc), (cc))
 two-slots (a ∷ b ∷ c ∷ C) x y e = absurd (let n : length (map slotOf (a ∷ b ∷ c ∷ C)) ≡ 2 = ap length e in omega arith)
+
+pub literal-at : (v s : ℕ) → s < 2 * v → Literal v (litAt s)
+literal-at v s lt = record { above = lit-above s; within = omega (arith, lit-var s, lt) }
 
 -- an edge of a clause of literals, on slots
 edge-reads : {a b p q : ℤ} → 0 < natAbs a → 0 < natAbs b → EdgeOf a b p q → Reads (slotOf a) (slotOf b) (slotOf p) (slotOf q)
@@ -77,7 +80,7 @@ module _ (t : Tables) (st : State) (S : Shape t st) where
         fit-member fit (subst (List·Memᴰ b) (sym (P .literals)) (List·Memᴰ·tail (List·Memᴰ·head refl))),
       )
 
-  complement : {a : ℤ} → Literal (st .v) a → Literal (st .v) (negℤ a)
+  pub complement : {a : ℤ} → Literal (st .v) a → Literal (st .v) (negℤ a)
   complement {a} L = record { above = omega (arith, L .above, abs-neg a); within = omega (arith, L .within, abs-neg a) }
 
   -- both ends of an edge are literals of the variables
@@ -102,14 +105,11 @@ module _ (t : Tables) (st : State) (S : Shape t st) where
 
   -- ---- and an edge of slots is one of clauses
 
-  pub slots-edge : {p q : ℤ} → Literal (st .v) p → Literal (st .v) q → List·Memᴰ (slotOf q) (edgesFrom t st (slotOf p)) → Edge t (st .n) p q
+  -- the edge that clause i gives
+  pub clause-edge : (i : ℕ) → i < st .n → (x y : ℕ) → slotsAt (t .clauses) (t .literals) i ≡ x ∷ y ∷ [] → {p q : ℤ} → Literal (st .v) p → Literal (st .v) q → Reads x y (slotOf p) (slotOf q) → (E : Edge t (st .n) p q) × (E .pair .clause ≡ i)
   unfolding slotsAt
-  slots-edge {p} {q} Lp Lq m =
-      let r = edge-pair (map formula.standing cs) (slotOf p) (slotOf q) (subst (λ (adj : ℕ → List ℕ). List·Memᴰ (slotOf q) (adj (slotOf p))) (sym (same-graph cs)) m) in
-      let k = from-clauses (t .clauses) (t .literals) (st .n) 0 (standing-mem cs (r .2)) in
-      let i : ℕ = k .0 in
-      let lt : i < st .n = omega (arith, k .1) in
-      let w = two-slots (literalsOf (t .clauses) (t .literals) i) (r .0) (r .1) (sym (k .2)) in
+  clause-edge i lt x y is {p} {q} Lp Lq r =
+      let w = two-slots (literalsOf (t .clauses) (t .literals) i) x y is in
       let F = shape-formed S in
       let P : Pair t (st .n) (w .0) (w .1) = record {
         clause = i;
@@ -119,11 +119,17 @@ module _ (t : Tables) (st : State) (S : Shape t st) where
       } in
       let L = pair-literals P in
       ⊎-elim
-      (λ (h : (slotOf p ≡ twin (r .0)) × (slotOf q ≡ r .1)).
-      record { a = w .0; b = w .1; pair = P; edge = first (slot-same p (negℤ (w .0)) (Lp .above) (complement (L .0) .above) (h .0 ∙ ap twin (sym (w .3)) ∙ sym (slot-twin (w .0) (L .0 .above)))) (slot-same q (w .1) (Lq .above) (L .1 .above) (h .1 ∙ sym (w .4))) })
-      (λ (h : (slotOf p ≡ twin (r .1)) × (slotOf q ≡ r .0)).
-      record { a = w .0; b = w .1; pair = P; edge = second (slot-same p (negℤ (w .1)) (Lp .above) (complement (L .1) .above) (h .0 ∙ ap twin (sym (w .4)) ∙ sym (slot-twin (w .1) (L .1 .above)))) (slot-same q (w .0) (Lq .above) (L .0 .above) (h .1 ∙ sym (w .3))) })
-      (r .3)
+      (λ (h : (slotOf p ≡ twin x) × (slotOf q ≡ y)).
+      (record { a = w .0; b = w .1; pair = P; edge = first (slot-same p (negℤ (w .0)) (Lp .above) (complement (L .0) .above) (h .0 ∙ ap twin (sym (w .3)) ∙ sym (slot-twin (w .0) (L .0 .above)))) (slot-same q (w .1) (Lq .above) (L .1 .above) (h .1 ∙ sym (w .4))) }, refl))
+      (λ (h : (slotOf p ≡ twin y) × (slotOf q ≡ x)).
+      (record { a = w .0; b = w .1; pair = P; edge = second (slot-same p (negℤ (w .1)) (Lp .above) (complement (L .1) .above) (h .0 ∙ ap twin (sym (w .4)) ∙ sym (slot-twin (w .1) (L .1 .above)))) (slot-same q (w .0) (Lq .above) (L .0 .above) (h .1 ∙ sym (w .3))) }, refl))
+      r
+
+  pub slots-edge : {p q : ℤ} → Literal (st .v) p → Literal (st .v) q → List·Memᴰ (slotOf q) (edgesFrom t st (slotOf p)) → Edge t (st .n) p q
+  slots-edge {p} {q} Lp Lq m =
+      let r = edge-pair (map formula.standing cs) (slotOf p) (slotOf q) (subst (λ (adj : ℕ → List ℕ). List·Memᴰ (slotOf q) (adj (slotOf p))) (sym (same-graph cs)) m) in
+      let k = from-clauses (t .clauses) (t .literals) (st .n) 0 (standing-mem cs (r .2)) in
+      clause-edge (k .0) (omega (arith, k .1)) (r .0) (r .1) (sym (k .2)) Lp Lq (r .3) .0
 
   -- ---- roots
 
@@ -134,13 +140,10 @@ module _ (t : Tables) (st : State) (S : Shape t st) where
         λ e p k. r .0 e (slotOf p) (edge-slots k),
         λ none. r .1 (λ s m.
             let lt = edge-below cs (st .v) below s (slotOf q) m .0 in
-            none (litAt s) (slots-edge (literal-at s lt) Lq (subst (λ (x : ℕ). List·Memᴰ (slotOf q) (edgesFrom t st x)) (sym (slot-lit s)) m))),
+            none (litAt s) (slots-edge (literal-at (st .v) s lt) Lq (subst (λ (x : ℕ). List·Memᴰ (slotOf q) (edgesFrom t st x)) (sym (slot-lit s)) m))),
       )
     where
       room : EdgeRoom (st .v) (st .n) (t .clauses) (t .literals) (replicate (2 * st .n) 0) (replicate (2 * st .n) 0) (replicate (2 * st .v + 1) 0) (replicate (2 * st .n) 0)
       room =
           let enough : 2 * st .n ≤ length {A = ℕ} (replicate (2 * st .n) 0) = omega (arith, length-replicate {A = ℕ} (2 * st .n) 0) in
           record { listed = formed-listed (shape-formed S); froms = enough; tos = enough; heads = enough; marks = length-replicate (2 * st .v + 1) 0 }
-
-      literal-at : (s : ℕ) → s < 2 * st .v → Literal (st .v) (litAt s)
-      literal-at s lt = record { above = lit-above s; within = omega (arith, lit-var s, lt) }

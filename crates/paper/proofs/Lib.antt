@@ -8,4 +8,5 @@ pub mod Fates
 pub mod Visits
 pub mod SweepVisit
 pub mod SweepCall
+pub mod SweepBeside
 pub mod Cases

@@ -66,20 +66,20 @@ module _ {order : List ℤ} {t : Tables} {st : State} (K : Known order t st) (un
 
   -- ---- the records
 
-  agree : Agree (2 * st .v) (columns (t′ .times) (t′ .links)) σ
-  agree = stamped-agree (st .v) σ t (discoveries-size P (K .full)) (finishes-size P (K .full)) (parents-size P (K .full)) (starts-size P (K .full))
+  pub columns-agree : Agree (2 * st .v) (columns (t′ .times) (t′ .links)) σ
+  columns-agree = stamped-agree (st .v) σ t (discoveries-size P (K .full)) (finishes-size P (K .full)) (parents-size P (K .full)) (starts-size P (K .full))
 
   discoveries-is : (p : ℤ) → Literal (st .v) p → discovered t′ p ≡ discoveryAt σ (slotOf p)
-  discoveries-is p L = sym (column-discovery (t′ .times) (t′ .links) (slotOf p)) ∙ agree .discoveries (slotOf p) (slot L)
+  discoveries-is p L = sym (column-discovery (t′ .times) (t′ .links) (slotOf p)) ∙ columns-agree .discoveries (slotOf p) (slot L)
 
   finishes-is : (p : ℤ) → Literal (st .v) p → finished t′ p ≡ finishAt σ (slotOf p)
-  finishes-is p L = sym (column-finishes (t′ .times) (t′ .links) (slotOf p)) ∙ agree .finishes (slotOf p) (slot L)
+  finishes-is p L = sym (column-finishes (t′ .times) (t′ .links) (slotOf p)) ∙ columns-agree .finishes (slotOf p) (slot L)
 
   parent-slot : (p : ℤ) → Literal (st .v) p → slotOf (parent t′ p) ≡ parentAt σ (slotOf p)
-  parent-slot p L = sym (column-parents (t′ .times) (t′ .links) (slotOf p)) ∙ agree .parents (slotOf p) (slot L)
+  parent-slot p L = sym (column-parents (t′ .times) (t′ .links) (slotOf p)) ∙ columns-agree .parents (slotOf p) (slot L)
 
   start-slot : (p : ℤ) → Literal (st .v) p → slotOf (start t′ p) ≡ startAt σ (slotOf p)
-  start-slot p L = sym (column-starts (t′ .times) (t′ .links) (slotOf p)) ∙ agree .starts (slotOf p) (slot L)
+  start-slot p L = sym (column-starts (t′ .times) (t′ .links) (slotOf p)) ∙ columns-agree .starts (slotOf p) (slot L)
 
   parent-literal : (p : ℤ) → Literal (st .v) p → Literal (st .v) (parent t′ p)
   parent-literal p L = F .parent-literal (slotOf p) (slot L)

@@ -4,3 +4,4 @@ pub mod Edges
 pub mod Figure1
 pub mod Stamping
 pub mod Sweeping
+pub mod Chains

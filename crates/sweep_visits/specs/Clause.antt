@@ -1,4 +1,4 @@
--- What Sweep makes of a clause, by its literals and the stamps. Document 01: "Sweep (000, figures 5 and 6). Clauses of 0 or 1 literals are left. The figure 6 scan goes first .. a yes drops the clause. .. Otherwise figure 5 shortens".
+-- What Sweep makes of a clause, by its literals and the stamps. Document 01: "Sweep (000, figures 5 and 6). Clauses of 0 or 1 literals are left. The figure 6 scan goes first .. a yes drops the clause. .. Otherwise figure 5 shortens"; for two literals document 02, CR 2, gives the yes.
 -- Assumes nothing: these are definitions.
 use mathlib.Core.Bool.{true, false}
 use mathlib.Core.List.{List, [], _∷_, map}

@@ -8,7 +8,7 @@ use Rattle.hidden_tautologies.proofs.hidden_tautology.Tie as tie
 use Rattle.hidden_tautologies.proofs.hidden_tautology.Reads as reads
 use Rattle.hidden_tautologies.proofs.hidden_tautology.Lts as lts
 use Rattle.clause_slots.proofs.slots_of.Reads as slots-of-reads
-use Rattle.discovery_order.proofs.sort_slots.Reads as sort-slots-reads
+use Rattle.discovery_order.proofs.sort_pair.Reads as sort-pair-reads
 use Rattle.hidden_tautologies.proofs.figure_6.Reads as figure-6-reads
 use Rattle.hidden_tautologies.proofs.hidden_pair.Reads as hidden-pair-reads
 
@@ -36,14 +36,14 @@ slice-read-hidden-pair-2 c = search needs
 hidden-pair-requires : tie.Need-hidden-pair-requires
 hidden-pair-requires c κs = judged-two (c .before .before .before .before .before .before .before .before .before .before .pre .0) (c .before .before .before .before .before .slots-of .last .1 .0) (c .before .before .before .before .before .slots-of .ensures) (c .before .before .if1 .left)
 
-sort-slots-requires : tie.Need-sort-slots-requires
-sort-slots-requires c κs = judged-slots (c .before .before .before .before .before .before .before .before .before .before .before .before .pre .0) (c .before .before .before .before .before .before .before .slots-of .last .1 .0) (c .before .before .before .before .before .before .before .slots-of .ensures)
+sort-pair-requires : tie.Need-sort-pair-requires
+sort-pair-requires c κs = let s = c .before .before .before .before .before .before .before .slots-of in (judged-slots (c .before .before .before .before .before .before .before .before .before .before .before .before .pre .0) (s .last .1 .0) (s .ensures), s .kept .1 .0 ∙ c .before .before .before .before .before .before .before .before .before .before .before .before .pre .2 ∙ c .before .before .before .before .if1 .left)
 
 same-length-3 : tie.Need-same-length-3
 same-length-3 c = search needs
 
 returns-2 : tie.Need-returns-2
-returns-2 c = let a = c .before .before .before .before .before .before .before .before .before .before .before .before .before .before .before .args in verdict-pair (a .times .now) (a .links .now) (a .part .now) (c .before .before .before .before .before .before .before .before .before .before .slots-of .last .1 .0) (c .before .before .before .before .before .before .before .before .before .before .slots-of .ensures) (c .before .before .before .before .hidden-pair .result) (c .before .before .sort-slots .last .0) (c .before .before .before .before .before .before .before .if1 .left) (c .before .before .before .before .hidden-pair .ensures) (c .before .before .sort-slots .ensures [])
+returns-2 c = let a = c .before .before .before .before .before .before .before .before .before .before .before .before .before .before .before .args in verdict-pair (a .times .now) (a .links .now) (a .part .now) (c .before .before .before .before .before .before .before .before .before .before .slots-of .last .1 .0) (c .before .before .before .before .before .before .before .before .before .before .slots-of .ensures) (c .before .before .before .before .hidden-pair .result) (c .before .before .sort-pair .last .0) (c .before .before .before .before .before .before .before .if1 .left) (c .before .before .before .before .hidden-pair .ensures) (c .before .before .sort-pair .ensures [])
 
 pub hidden-tautology-spec : {M : Type 1} → statement M
 hidden-tautology-spec =
@@ -57,6 +57,6 @@ hidden-tautology-spec =
     slice-read-hidden-pair
     slice-read-hidden-pair-2
     hidden-pair-requires
-    sort-slots-requires
+    sort-pair-requires
     same-length-3
     returns-2)
