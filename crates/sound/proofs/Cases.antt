@@ -22,7 +22,7 @@ use Rattle.scc.specs.Forward.{forward}
 o2 : List ℕ
 o2 = 0 ∷ 1 ∷ 2 ∷ 3 ∷ []
 
-o3 : List ℕ
+unfoldable pub o3 : List ℕ
 o3 = 0 ∷ 1 ∷ 2 ∷ 3 ∷ 4 ∷ 5 ∷ []
 
 unfoldable pub o4 : List ℕ
@@ -73,7 +73,7 @@ unit = refl
 -- ---- document 02, CR 2: a pair that the figure 6 scan passed over
 
 -- (1 2)(1 -2)(1 3)(2 3): the chain -1 → -2 → 3 implies the third. The figure's scan passed -1 by at 1, which -1 holds too, and never compared it with 3
-f1 : List Clause
+unfoldable pub f1 : List Clause
 f1 = standing (0 ∷ 2 ∷ []) ∷ standing (0 ∷ 3 ∷ []) ∷ standing (0 ∷ 4 ∷ []) ∷ standing (2 ∷ 4 ∷ []) ∷ []
 
 passed-over-stamps : formulaStamps 3 o3 f1 ≡ columns1
