@@ -8,5 +8,6 @@ pub mod Fates
 pub mod Visits
 pub mod SweepVisit
 pub mod SweepCall
+pub mod Sweeps
 pub mod SweepBeside
 pub mod Cases

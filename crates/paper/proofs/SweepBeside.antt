@@ -1,4 +1,4 @@
--- THE THEOREM on a dropped pair: whatever pair a Sweep drops after a Stamp, a chain of the edges that Stamp walked implies it, and no edge of the chain is of that very clause.
+-- THE THEOREM on a dropped pair: whatever pair Sweep calls drop after a Stamp, a chain of the edges that Stamp walked implies it, and no edge of the chain is of that very clause.
 -- On slots, with the reason in words, it is `chain-of-others` (crate sound). Assumes nothing.
 use Prim.Native.Nat.{ℕ, zero, suc, _+_, _*_, _≤_, _<_}
 use native.Mathlib.Omega.{arith}
@@ -22,26 +22,29 @@ use Rattle.walk.proofs.Theorems.{Stamped}
 use Rattle.scc.specs.Groups.{cyclic}
 use Rattle.scc.specs.Forward.{Acyclic}
 use Rattle.scc.proofs.Forward.{cyclic-none}
+use Rattle.stamp_columns.specs.Columns.{columns}
 use Rattle.hidden.specs.Hidden.{hiddenTautology, shorten}
 use Rattle.hidden.proofs.Pairs.{Reads, by-reads}
 use Rattle.hidden.proofs.Agree.{tautology-agree}
-use Rattle.state.specs.States.{closed}
 use Rattle.state.specs.declared.State.{State}
+use Rattle.state.specs.declared.Pass.{Pass}
 use Rattle.tables.specs.Tables.{Tables}
 use Rattle.tables.specs.Clauses.{slotsAt, slotsFrom}
+use Rattle.tables.specs.Fates.{visits}
 use Rattle.tables.specs.Calls.{After}
 use Rattle.shape.specs.Shape.{settledTo}
 use Rattle.visits.proofs.Forming.{shape-formed, clause-fits, part-length, stands-one}
 use Rattle.visits.proofs.Fitting.{fit-member, fit-slots}
-use Rattle.visits.specs.Formed.{FitClause}
+use Rattle.visits.specs.Formed.{Formed, FitClause}
+use Rattle.visits.proofs.StoreKeeps.{FormedIn}
 use Rattle.table_graph.proofs.Listing.{slots-in}
 use Rattle.stamp_walk.specs.Stamping.{Proper}
-use Rattle.stamp.specs.Stamp.{stampedTables, stampCall}
+use Rattle.stamp.specs.Stamp.{stampedTables, stampFresh, stampCall}
 use Rattle.stamp.proofs.Asking.{Known, known-proper}
 use Rattle.stamp.proofs.Writing.{full-lists}
 use Rattle.stamp.proofs.Freshness.{stamps-sized, stamps-stamped}
 use Rattle.stamp.proofs.Shaped.{written-fresh}
-use Rattle.sweep.specs.Sweep.{sweepCall}
+use Rattle.sweep_visits.specs.Clause.{sweepClause}
 use Rattle.sound.specs.Formula.{Clause, dropped, standing, graph}
 use Rattle.sound.specs.Sweep.{sweepSlots}
 use Rattle.sound.proofs.Graph.{standing-eq, not-standing, edge-pair}
@@ -49,13 +52,14 @@ use Rattle.sound.proofs.Sound.{StampedFormula, nth-mem}
 use Rattle.sound.proofs.Chains.{chain-of-others}
 use Rattle.paper.specs.Clauses.{clauseAt, flagAt}
 use Rattle.paper.specs.Stamping.{slotClauses, edgesFrom, walkOf}
-use Rattle.paper.specs.Sweeping.{HiddenPair, sweptTo}
-use Rattle.paper.specs.Chains.{ChainBeside, here, on, DroppedBeside, sweptAfter}
+use Rattle.paper.specs.Sweeping.{HiddenPair, sweeps}
+use Rattle.paper.specs.Chains.{ChainBeside, here, on, DroppedBeside}
 use Rattle.paper.proofs.Accepted.{accepted}
 use Rattle.paper.proofs.Graph.{standing-mem, same-graph, literal-at, clause-edge, complement}
 use Rattle.paper.proofs.Stamping.{columns-agree}
 use Rattle.paper.proofs.Fates.{pair-hidden}
-use Rattle.paper.proofs.SweepCall.{sweep-call}
+use Rattle.paper.proofs.Visits.{visits-others, visits-swept}
+use Rattle.paper.proofs.Sweeps.{none-made, sweeps-made}
 
 -- ---- the clauses of the tables as a formula of slots
 
@@ -153,21 +157,30 @@ module _ {order : List ℤ} {t : Tables} {st : State} (K : Known order t st) (un
             others-chain (c .1) (negℤ b) a (complement t st (K .shape) B) A (slot-twin b (B .above)) refl,
           )
 
-  -- ---- and a Sweep
+  -- ---- and Sweep calls
 
-  pub sweep-beside : (steps : ℕ) → sweepCall steps t′ (closed true st) .reply .number ≡ 0 → DroppedBeside t st (sweepCall steps t′ (closed true st) .tables)
+  formed : FormedIn (st .v) (st .n) t
+  formed = subst₂ (λ (p : Pass) (m : Bool). Formed (st .v) (st .n) (settledTo p (st .n)) m (t .clauses) (t .literals) (t .variables)) (K .idle) (K .unmarked) (shape-formed (K .shape))
+
+  made-beside : (w : Tables) (k : ℕ) → k ≤ st .n → w ≡ visits (sweepClause (columns (t′ .times) (t′ .links))) k 0 t′ → DroppedBeside t st w
   unfolding stampedTables
-  sweep-beside steps swept i lt a b lits gone =
-      let W = sweep-call steps t′ (closed true st) swept in
+  made-beside w k le made i lt a b lits gone =
       let one = stands i lt a b lits in
+      let F = written-fresh K in
+      let flag = sym (ap (λ (x : Tables). flagAt x i) made) ∙ gone in
+      let far : 0 + k ≤ st .n = omega arith in
       ⊎-elim
-      (λ (h : sweptTo steps (closed true st) ≤ i). absurd (omega (arith, W .others i lt (inr (inl h)) .0, gone, one)))
-      (λ (h : i < sweptTo steps (closed true st)). hidden-beside i lt a b lits (W .visited i (omega arith) h one .pair a b lits .0 gone))
-      (le-or (sweptTo steps (closed true st)) i)
+      (λ (h : k ≤ i). absurd (omega (arith, visits-others t′ (st .v) F k 0 far t′ formed i lt (inr (inl (omega arith))) .0, flag, one)))
+      (λ (h : i < k). hidden-beside i lt a b lits (visits-swept t′ (st .v) F k 0 far t′ formed i (omega arith) (omega arith) one .pair a b lits .0 flag))
+      (le-or k i)
 
--- Stamp, then a Sweep of any number of steps
-pub swept-beside : (order : List ℤ) (t : Tables) (st : State) → stampCall order t st .reply .number ≡ 0 → (steps : ℕ) → sweptAfter order steps t st .reply .number ≡ 0 → DroppedBeside t st (sweptAfter order steps t st .tables)
-swept-beside order t st taken steps =
+-- Stamp, then Sweep calls of any numbers of steps, refused ones included
+pub sweeps-beside : (order : List ℤ) (t : Tables) (st : State) → stampCall order t st .reply .number ≡ 0 → (steps : List ℕ) → DroppedBeside t st (sweeps steps (stampCall order t st) .tables)
+sweeps-beside order t st taken steps =
     let A = accepted order t st taken in
-    subst (λ (s : After). sweepCall steps (s .tables) (s .state) .reply .number ≡ 0 → DroppedBeside t st (sweepCall steps (s .tables) (s .state) .tables)) (sym (A .answer))
-    (sweep-beside (A .known) (A .acyclic) steps)
+    subst (λ (s : After). DroppedBeside t st (sweeps steps s .tables)) (sym (A .answer)) (after (A .known) (A .acyclic))
+  where
+    after : (K : Known order t st) → cyclic (edgesFrom t st) (2 * st .v) ≡ false → DroppedBeside t st (sweeps steps (stampFresh order t st) .tables)
+    after K uncyclic =
+        let M = sweeps-made (stampFresh order t st .tables) st steps (stampFresh order t st) (none-made (stampFresh order t st .tables) st (stampFresh order t st) refl refl) in
+        made-beside K uncyclic (sweeps steps (stampFresh order t st) .tables) (M .count) (M .within) (M .made)

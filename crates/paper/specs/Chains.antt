@@ -1,13 +1,10 @@
 -- Chains of edges that take none of one clause, and what is said of the pairs that a Sweep drops. Assumes nothing: these are definitions.
 use Prim.Native.Nat.{ℕ, _<_}
 use mathlib.Core.Path.{_≡_}
-use mathlib.Core.List.{List, [], _∷_}
+use mathlib.Core.List.{[], _∷_}
 use lib.IntN.{ℤ, negℤ}
 use Rattle.state.specs.declared.State.{State}
 use Rattle.tables.specs.Tables.{Tables}
-use Rattle.tables.specs.Calls.{After}
-use Rattle.stamp.specs.Stamp.{stampCall}
-use Rattle.sweep.specs.Sweep.{sweepCall}
 use Rattle.paper.specs.Clauses.{clauseAt, flagAt}
 use Rattle.paper.specs.Edges.{Edge}
 
@@ -15,10 +12,6 @@ use Rattle.paper.specs.Edges.{Edge}
 pub data ChainBeside (t : Tables) (n i : ℕ) (p : ℤ) : ℤ → Type 0 where
   here : ChainBeside t n i p p
   on : {r q : ℤ} → ChainBeside t n i p r → (e : Edge t n r q) → (e .pair .clause ≡ i → ⊥) → ChainBeside t n i p q
-
--- a Stamp, and a Sweep of so many steps behind it
-abbrev pub sweptAfter : List ℤ → ℕ → Tables → State → After
-sweptAfter order steps t st = let s = stampCall order t st in sweepCall steps (s .tables) (s .state)
 
 -- each pair of t that is dropped in w follows both ways from other clauses of t
 abbrev pub DroppedBeside : Tables → State → Tables → Type 0

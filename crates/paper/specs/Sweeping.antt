@@ -14,7 +14,9 @@ use Rattle.state.specs.declared.Pass.{Pass}
 use Rattle.state.specs.declared.Pass.the-variants.{Idle, Propagate, Merge, Sweep}
 use Rattle.tables.specs.Tables.{Tables}
 use Rattle.tables.specs.Fates.{visit}
+use Rattle.tables.specs.Calls.{After}
 use Rattle.sweep_visits.specs.Clause.{sweepClause}
+use Rattle.sweep.specs.Sweep.{sweepCall}
 use Rattle.paper.specs.Clauses.{clauseAt, flagAt}
 use Rattle.paper.specs.Edges.{EdgeOf}
 use Rattle.paper.specs.Records.{parent, Holds}
@@ -100,3 +102,10 @@ pub record SweptCall (steps : ℕ) (t : Tables) (st : State) (t′ : Tables) : T
   -- the stamp records stay, so a pass that is resumed goes by the same
   pub times : t′ .times ≡ t .times
   pub links : t′ .links ≡ t .links
+
+-- ---- calls, one behind the other
+
+-- Sweep calls with these step counts, each on the tables and the state that the one before left
+unfoldable pub sweeps : List ℕ → After → After
+sweeps [] a = a
+sweeps (n ∷ ns) a = sweeps ns (sweepCall n (a .tables) (a .state))
