@@ -45,7 +45,7 @@ unfolding graph
 same-graph cs = ap implications (all-standing cs)
 
 -- the clause with record i is among them
-clause-in : (c : List ℕ) (l : List ℤ) (m k i : ℕ) → k ≤ i → i < k + m → List·Memᴰ (slotsAt c l i) (slotsFrom c l m k)
+pub clause-in : (c : List ℕ) (l : List ℤ) (m k i : ℕ) → k ≤ i → i < k + m → List·Memᴰ (slotsAt c l i) (slotsFrom c l m k)
 unfolding slotsFrom
 clause-in c l zero k i le lt = absurd (omega arith)
 clause-in c l (suc m) k i le lt = ⊎-elim (λ (e : i ≡ k). List·Memᴰ·head (ap (slotsAt c l) e)) (λ (d : i ≡ k → ⊥). List·Memᴰ·tail (clause-in c l m (suc k) i (omega arith) (omega arith))) (same-or i k)
@@ -61,7 +61,7 @@ pub literal-at : (v s : ℕ) → s < 2 * v → Literal v (litAt s)
 literal-at v s lt = record { above = lit-above s; within = omega (arith, lit-var s, lt) }
 
 -- an edge of a clause of literals, on slots
-edge-reads : {a b p q : ℤ} → 0 < natAbs a → 0 < natAbs b → EdgeOf a b p q → Reads (slotOf a) (slotOf b) (slotOf p) (slotOf q)
+pub edge-reads : {a b p q : ℤ} → 0 < natAbs a → 0 < natAbs b → EdgeOf a b p q → Reads (slotOf a) (slotOf b) (slotOf p) (slotOf q)
 edge-reads {a} la lb (first e f) = inl (ap slotOf e ∙ slot-twin a la, ap slotOf f)
 edge-reads {a} {b} la lb (second e f) = inr (ap slotOf e ∙ slot-twin b lb, ap slotOf f)
 
@@ -105,11 +105,14 @@ module _ (t : Tables) (st : State) (S : Shape t st) where
 
   -- ---- and an edge of slots is one of clauses
 
-  -- the edge that clause i gives
-  pub clause-edge : (i : ℕ) → i < st .n → (x y : ℕ) → slotsAt (t .clauses) (t .literals) i ≡ x ∷ y ∷ [] → {p q : ℤ} → Literal (st .v) p → Literal (st .v) q → Reads x y (slotOf p) (slotOf q) → (E : Edge t (st .n) p q) × (E .pair .clause ≡ i)
+  pub slots-edge : {p q : ℤ} → Literal (st .v) p → Literal (st .v) q → List·Memᴰ (slotOf q) (edgesFrom t st (slotOf p)) → Edge t (st .n) p q
   unfolding slotsAt
-  clause-edge i lt x y is {p} {q} Lp Lq r =
-      let w = two-slots (literalsOf (t .clauses) (t .literals) i) x y is in
+  slots-edge {p} {q} Lp Lq m =
+      let r = edge-pair (map formula.standing cs) (slotOf p) (slotOf q) (subst (λ (adj : ℕ → List ℕ). List·Memᴰ (slotOf q) (adj (slotOf p))) (sym (same-graph cs)) m) in
+      let k = from-clauses (t .clauses) (t .literals) (st .n) 0 (standing-mem cs (r .2)) in
+      let i : ℕ = k .0 in
+      let lt : i < st .n = omega (arith, k .1) in
+      let w = two-slots (literalsOf (t .clauses) (t .literals) i) (r .0) (r .1) (sym (k .2)) in
       let F = shape-formed S in
       let P : Pair t (st .n) (w .0) (w .1) = record {
         clause = i;
@@ -119,17 +122,11 @@ module _ (t : Tables) (st : State) (S : Shape t st) where
       } in
       let L = pair-literals P in
       ⊎-elim
-      (λ (h : (slotOf p ≡ twin x) × (slotOf q ≡ y)).
-      (record { a = w .0; b = w .1; pair = P; edge = first (slot-same p (negℤ (w .0)) (Lp .above) (complement (L .0) .above) (h .0 ∙ ap twin (sym (w .3)) ∙ sym (slot-twin (w .0) (L .0 .above)))) (slot-same q (w .1) (Lq .above) (L .1 .above) (h .1 ∙ sym (w .4))) }, refl))
-      (λ (h : (slotOf p ≡ twin y) × (slotOf q ≡ x)).
-      (record { a = w .0; b = w .1; pair = P; edge = second (slot-same p (negℤ (w .1)) (Lp .above) (complement (L .1) .above) (h .0 ∙ ap twin (sym (w .4)) ∙ sym (slot-twin (w .1) (L .1 .above)))) (slot-same q (w .0) (Lq .above) (L .0 .above) (h .1 ∙ sym (w .3))) }, refl))
-      r
-
-  pub slots-edge : {p q : ℤ} → Literal (st .v) p → Literal (st .v) q → List·Memᴰ (slotOf q) (edgesFrom t st (slotOf p)) → Edge t (st .n) p q
-  slots-edge {p} {q} Lp Lq m =
-      let r = edge-pair (map formula.standing cs) (slotOf p) (slotOf q) (subst (λ (adj : ℕ → List ℕ). List·Memᴰ (slotOf q) (adj (slotOf p))) (sym (same-graph cs)) m) in
-      let k = from-clauses (t .clauses) (t .literals) (st .n) 0 (standing-mem cs (r .2)) in
-      clause-edge (k .0) (omega (arith, k .1)) (r .0) (r .1) (sym (k .2)) Lp Lq (r .3) .0
+      (λ (h : (slotOf p ≡ twin (r .0)) × (slotOf q ≡ r .1)).
+      record { a = w .0; b = w .1; pair = P; edge = first (slot-same p (negℤ (w .0)) (Lp .above) (complement (L .0) .above) (h .0 ∙ ap twin (sym (w .3)) ∙ sym (slot-twin (w .0) (L .0 .above)))) (slot-same q (w .1) (Lq .above) (L .1 .above) (h .1 ∙ sym (w .4))) })
+      (λ (h : (slotOf p ≡ twin (r .1)) × (slotOf q ≡ r .0)).
+      record { a = w .0; b = w .1; pair = P; edge = second (slot-same p (negℤ (w .1)) (Lp .above) (complement (L .1) .above) (h .0 ∙ ap twin (sym (w .4)) ∙ sym (slot-twin (w .1) (L .1 .above)))) (slot-same q (w .0) (Lq .above) (L .0 .above) (h .1 ∙ sym (w .3))) })
+      (r .3)
 
   -- ---- roots
 

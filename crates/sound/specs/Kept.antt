@@ -7,11 +7,17 @@ use lib.ListN.{length}
 use Rattle.literal.specs.Literals.{twin}
 use Rattle.walk.specs.Forest.{Reach}
 use Rattle.implications.specs.Clauses.{Once}
+use Rattle.hidden.proofs.Pairs.{Reads}
 use Rattle.sound.specs.Formula.{Clause, dropped, standing}
 
 -- a path from p to q by way of a third literal: where no two literals reach each other, a path of at least two edges
 abbrev pub Detour : (ℕ → List ℕ) → ℕ → ℕ → Type 0
 Detour adj p q = (m : ℕ) × (m ≡ p → ⊥) × (m ≡ q → ⊥) × Reach adj p m × Reach adj m q
+
+-- a path from p that takes neither edge of the pair (a ∨ b), whichever clause gives them
+pub data ReachBeside (adj : ℕ → List ℕ) (a b p : ℕ) : ℕ → Type 0 where
+  begin : ReachBeside adj a b p p
+  step : {s t : ℕ} → ReachBeside adj a b p s → List·Memᴰ t (adj s) → (Reads a b s t → ⊥) → ReachBeside adj a b p t
 
 -- a clause then, and now
 pub data Kept (adj : ℕ → List ℕ) : Clause → Clause → Type 0 where
