@@ -1,25 +1,21 @@
--- Under the shape rule no text that Write gives has more than 135,184 bytes: a variable has a unit or class clauses but not both, since one that has a value is its own class, and the parts of the clauses do not overlap. Assumes nothing.
+-- Under the shape rule no text that Write gives has more than 135,184 bytes: a variable has a unit or class clauses but not both, since only one that is its own class has a unit, and the parts of the clauses do not overlap. Assumes nothing.
 use Prim.Native.Nat.{ℕ, zero, suc, _+_, _*_, _≤_, _<_}
 use native.Mathlib.Omega.{arith}
 use mathlib.Core.Path.{_≡_, refl, sym, ap, subst}
 use mathlib.Core.Bool.{Bool, true, false}
-use mathlib.Core.Logic.{⊎-elim}
-use mathlib.Core.List.{List, _++_}
+use mathlib.Core.List.{List, [], _∷_, _++_}
 use lib.ListN.{length, length-append}
-use lib.IntN.{ℤ, pos, negsuc}
-use Rattle.base.proofs.Booleans.{bool-or, clash}
+use lib.IntN.{ℤ, pos, negℤ}
 use Rattle.literal.specs.Literals.{eqZ}
-use Rattle.literal.proofs.Signed.{eqZ-true, eq-eqZ}
 use Rattle.state.specs.declared.State.{State}
 use Rattle.tables.specs.Tables.{Tables, classOf, valueOf}
 use Rattle.shape.specs.Shape.{Shape}
 use Rattle.printing.specs.Printing.{clausesText, headerText}
 use Rattle.literal.specs.Ranged.{total}
 use Rattle.write.specs.Write.{writtenClauses, writeText}
-use Rattle.write.specs.Gathered.{gathered, unitFor, classFor, unitAt, classAt, writtenAt, formula}
+use Rattle.write.specs.Gathered.{gathered, ownValue, unitFor, classFor, unitAt, classAt, writtenAt, formula}
 use Rattle.write.proofs.Gathering.{header-then}
-use Rattle.write.proofs.Records.{class-none, class-some}
-use Rattle.write.proofs.Bounds.{total-append, clauses-short, ready, header-short, standing-count, standing-total}
+use Rattle.write.proofs.Bounds.{total-append, clauses-short, unit-one, ready, header-short, standing-count, standing-total}
 use Rattle.write.proofs.Text.{formula-below, written-marked, written-unmarked}
 use Rattle.roundtrip.proofs.Written.{written-in}
 use Rattle.equivalence.specs.Returns.{longest}
@@ -32,24 +28,18 @@ room-append : (xs ys : List (List ℤ)) → room (xs ++ ys) ≡ room xs + room y
 unfolding room
 room-append xs ys = omega (arith, total-append xs ys, length-append xs ys)
 
--- ---- one variable
+-- ---- one variable: its unit or its class clauses, never both
 
-class-room : (w : ℕ) (class : ℤ) → room (classFor w class) ≤ 28
+variable-room : (w : ℕ) (class value : ℤ) → room (unitFor w (ownValue w class value)) + room (classFor w class) ≤ 28
 unfolding room total
-class-room w class = ⊎-elim
-    (λ (e : eqZ class (pos w) ≡ true). subst (λ (cs : List (List ℤ)). room cs ≤ 28) (sym (class-none w class (eqZ-true class (pos w) e))) (omega arith))
-    (λ (e : eqZ class (pos w) ≡ false). subst (λ (cs : List (List ℤ)). room cs ≤ 28) (sym (class-some w class (λ q. clash (eq-eqZ class (pos w) q) e))) (omega arith))
-    (bool-or (eqZ class (pos w)))
+variable-room w class value = go (eqZ class (pos w))
+  where
+    two : List (List ℤ)
+    two = (pos w ∷ negℤ class ∷ []) ∷ (negℤ (pos w) ∷ class ∷ []) ∷ []
 
-own-room : (w : ℕ) (class : ℤ) → class ≡ pos w → room (classFor w class) ≡ 0
-unfolding room total
-own-room w class own = ap room (class-none w class own)
-
-variable-room : (w : ℕ) (class value : ℤ) → ((value ≡ pos 0 → ⊥) → class ≡ pos w) → room (unitFor w value) + room (classFor w class) ≤ 28
-unfolding room total
-variable-room w class (pos zero) own = omega (arith, class-room w class)
-variable-room w class (pos (suc n)) own = omega (arith, own-room w class (own (λ e. let z : _≡_ {A = ℕ} 0 1 = cc in omega arith)))
-variable-room w class (negsuc n) own = omega (arith, own-room w class (own (λ e. let z : _≡_ {A = ℕ} 0 1 = cc in omega arith)))
+    go : (own : Bool) → room (unitFor w (elim own [ true ↦ value | false ↦ pos 0 ])) + room (elim own [ true ↦ [] | false ↦ two ]) ≤ 28
+    go true = omega (arith, unit-one w value .0, unit-one w value .1)
+    go false = omega arith
 
 -- ---- all records
 
@@ -71,7 +61,7 @@ module _ (t : Tables) (st : State) (S : Shape t st) where
 
   variables-room : room units + room classes ≤ 28 * st .v
   variables-room = records-room (unitAt (t .variables)) (classAt (t .variables)) (st .v)
-      (λ w h. variable-room (w + 1) (classOf (t .variables) (w + 1)) (valueOf (t .variables) (w + 1)) (S .variables w h .valued)) (st .v) 0 (omega arith)
+      (λ w h. variable-room (w + 1) (classOf (t .variables) (w + 1)) (valueOf (t .variables) (w + 1))) (st .v) 0 (omega arith)
 
   clauses-room : room clauses ≤ 106496
   unfolding room

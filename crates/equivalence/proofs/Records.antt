@@ -1,4 +1,4 @@
--- What the clauses of one record say: a unit, that the variable has its value; the two class clauses, that it equals its class literal; a standing clause, itself. Assumes nothing.
+-- What the clauses of one record say: a unit, that a variable that is its own class has its value; the two class clauses, that it equals its class literal; a standing clause, itself. Assumes nothing.
 use Prim.Native.Nat.{ℕ, zero, suc, _≤_, _<_}
 use native.Mathlib.Omega.{arith}
 use mathlib.Core.Path.{_≡_, refl, sym, ap, _∙_, subst}
@@ -12,8 +12,8 @@ use Rattle.literal.specs.Literals.{eqZ}
 use Rattle.literal.specs.Assignments.{Assignment, trueUnder, someTrue, Satisfies}
 use Rattle.literal.proofs.Signed.{eqZ-true, eq-eqZ}
 use Rattle.literal.proofs.Truth.{holds-neg}
-use Rattle.write.specs.Gathered.{unitFor, classFor, clauseFor}
-use Rattle.write.proofs.Records.{class-none, class-some}
+use Rattle.write.specs.Gathered.{ownValue, unitFor, classFor, clauseFor}
+use Rattle.write.proofs.Records.{own-value, other-value, class-none, class-some}
 
 -- ---- clauses of one and of two literals
 
@@ -31,7 +31,7 @@ equal-or false false = (λ e. refl, λ e. (refl, refl))
 module _ (τ : Assignment) where
   -- ---- a value
 
-  pub unit-says : (w : ℕ) (value : ℤ) → 0 < w → natAbs value ≤ 1 → Satisfies τ (unitFor w value) ↔ ((value ≡ pos 1 → τ w ≡ true) × (value ≡ negsuc 0 → τ w ≡ false))
+  unit-says : (w : ℕ) (value : ℤ) → 0 < w → natAbs value ≤ 1 → Satisfies τ (unitFor w value) ↔ ((value ≡ pos 1 → τ w ≡ true) × (value ≡ negsuc 0 → τ w ≡ false))
   unfolding Satisfies
   unit-says w (pos zero) h small = (λ s. (λ e. absurd (let z : _≡_ {A = ℕ} 0 1 = cc in omega arith), λ e. absurd (let z : _≡_ {A = ℕ} 0 1 = cc in omega arith)), λ f. tt)
   unit-says w (pos (suc zero)) h small = (λ s. (λ e. one-or (τ w) .0 (s .0), λ e. absurd (let z : _≡_ {A = ℕ} 0 1 = cc in omega arith)), λ f. (one-or (τ w) .1 (f .0 refl), tt))
@@ -42,6 +42,23 @@ module _ (τ : Assignment) where
         λ f. (one-or (trueUnder τ (negℤ (pos w))) .1 (l ∙ ap not (f .1 refl)), tt),
       )
   unit-says w (negsuc (suc n)) h small = absurd (omega arith)
+
+  -- given only for a variable that is its own class
+  pub own-unit-says : (w : ℕ) (class value : ℤ) → 0 < w → natAbs value ≤ 1
+      → Satisfies τ (unitFor w (ownValue w class value)) ↔ (class ≡ pos w → (value ≡ pos 1 → τ w ≡ true) × (value ≡ negsuc 0 → τ w ≡ false))
+  unfolding Satisfies
+  own-unit-says w class value h small = ⊎-elim
+      (λ (e : eqZ class (pos w) ≡ true).
+      let own : class ≡ pos w = eqZ-true class (pos w) e in
+      let same : ownValue w class value ≡ value = own-value w class value own in
+      let says = unit-says w value h small in (
+        λ s q. says .0 (subst (λ (z : ℤ). Satisfies τ (unitFor w z)) same s),
+        λ f. subst (λ (z : ℤ). Satisfies τ (unitFor w z)) (sym same) (says .1 (f own)),
+      ))
+      (λ (e : eqZ class (pos w) ≡ false).
+      let other : class ≡ pos w → ⊥ = λ q. clash (eq-eqZ class (pos w) q) e in
+      (λ s q. absurd (other q), λ f. subst (λ (z : ℤ). Satisfies τ (unitFor w z)) (sym (other-value w class value other)) tt))
+      (bool-or (eqZ class (pos w)))
 
   -- ---- a class
 

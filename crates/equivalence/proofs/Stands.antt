@@ -18,7 +18,7 @@ use Rattle.write.specs.Gathered.{gathered, unitAt, classAt, writtenAt, formula}
 use Rattle.write.proofs.Bounds.{ready}
 use Rattle.write.proofs.Text.{written-marked, written-unmarked}
 use Rattle.equivalence.proofs.Satisfying.{satisfies-both, satisfies-each, gathered-satisfies, satisfies-gathered}
-use Rattle.equivalence.proofs.Records.{unit-says, class-says, clause-says}
+use Rattle.equivalence.proofs.Records.{own-unit-says, class-says, clause-says}
 
 module _ (t : Tables) (st : State) (S : Shape t st) (τ : Assignment) where
   -- ---- the units, the class clauses and the standing clauses of all records
@@ -32,31 +32,50 @@ module _ (t : Tables) (st : State) (S : Shape t st) (τ : Assignment) where
   abbrev clauses : List (List ℤ)
   clauses = gathered (writtenAt (t .clauses) (t .literals)) (st .n) 0
 
-  unit-at : (w : ℕ) → w < st .v → Satisfies τ (unitAt (t .variables) w) ↔ ((valueOf (t .variables) (w + 1) ≡ pos 1 → τ (w + 1) ≡ true) × (valueOf (t .variables) (w + 1) ≡ negsuc 0 → τ (w + 1) ≡ false))
-  unit-at w h = unit-says τ (w + 1) (valueOf (t .variables) (w + 1)) (omega arith) (S .variables w h .value)
+  -- variable w + 1 is its own class; has the value that its record says, if any; equals its class literal
+  abbrev Own : ℕ → Type 0
+  Own w = classOf (t .variables) (w + 1) ≡ pos (w + 1)
 
-  class-at : (w : ℕ) → w < st .v → Satisfies τ (classAt (t .variables) w) ↔ (τ (w + 1) ≡ trueUnder τ (classOf (t .variables) (w + 1)))
+  abbrev Valued : ℕ → Type 0
+  Valued w = (valueOf (t .variables) (w + 1) ≡ pos 1 → τ (w + 1) ≡ true) × (valueOf (t .variables) (w + 1) ≡ negsuc 0 → τ (w + 1) ≡ false)
+
+  abbrev Classed : ℕ → Type 0
+  Classed w = τ (w + 1) ≡ trueUnder τ (classOf (t .variables) (w + 1))
+
+  unit-at : (w : ℕ) → w < st .v → Satisfies τ (unitAt (t .variables) w) ↔ (Own w → Valued w)
+  unit-at w h = own-unit-says τ (w + 1) (classOf (t .variables) (w + 1)) (valueOf (t .variables) (w + 1)) (omega arith) (S .variables w h .value)
+
+  class-at : (w : ℕ) → w < st .v → Satisfies τ (classAt (t .variables) w) ↔ Classed w
   class-at w h = class-says τ (w + 1) (classOf (t .variables) (w + 1)) (omega arith) (S .variables w h .class .above)
 
   clause-at : (i : ℕ) → i < st .n → Satisfies τ (writtenAt (t .clauses) (t .literals) i) ↔ (standing (t .clauses) i ≡ 1 → someTrue τ (literalsOf (t .clauses) (t .literals) i) ≡ true)
   clause-at i h = clause-says τ (standing (t .clauses) i) (literalsOf (t .clauses) (t .literals) i) (S .clauses .parts .flag i h)
 
+  -- a variable has its value if those that are their own class have theirs and each equals its class literal. Only here does it matter what the record of a variable with another's class says of its value: it says 0
+  values-follow : ((u : ℕ) → u < st .v → Own u → Valued u) → ((u : ℕ) → u < st .v → Classed u) → (w : ℕ) → w < st .v → Valued w
+  values-follow valued classed w h = (
+    λ e. valued w h (S .variables w h .valued (λ z. let n : _≡_ {A = ℕ} 0 1 = cc in omega arith)) .0 e,
+    λ e. valued w h (S .variables w h .valued (λ z. let n : _≡_ {A = ℕ} 0 1 = cc in omega arith)) .1 e,
+  )
+
   formula-stands : st .mark ≡ false → Stands t st τ ↔ Satisfies τ (formula (t .clauses) (t .literals) (t .variables) (st .v) (st .n))
   formula-stands off = (
     λ s. satisfies-both τ units (classes ++ clauses)
-        (gathered-satisfies τ (unitAt (t .variables)) (st .v) (λ w h. unit-at w h .1 (s .truths w h, s .falsehoods w h)))
+        (gathered-satisfies τ (unitAt (t .variables)) (st .v) (λ w h. unit-at w h .1 (λ own. (s .truths w h, s .falsehoods w h))))
         (satisfies-both τ classes clauses
         (gathered-satisfies τ (classAt (t .variables)) (st .v) (λ w h. class-at w h .1 (s .classes w h)))
         (gathered-satisfies τ (writtenAt (t .clauses) (t .literals)) (st .n) (λ i h. clause-at i h .1 (s .clauses i h)))),
     λ s.
         let front = satisfies-each τ units (classes ++ clauses) s in
         let back = satisfies-each τ classes clauses (front .1) in
+        let valued : (w : ℕ) → w < st .v → Own w → Valued w = λ w h. unit-at w h .0 (satisfies-gathered τ (unitAt (t .variables)) (st .v) (front .0) w h) in
+        let classed : (w : ℕ) → w < st .v → Classed w = λ w h. class-at w h .0 (satisfies-gathered τ (classAt (t .variables)) (st .v) (back .0) w h) in
         record {
           unmarked = off;
           clauses = λ i h. clause-at i h .0 (satisfies-gathered τ (writtenAt (t .clauses) (t .literals)) (st .n) (back .1) i h);
-          classes = λ w h. class-at w h .0 (satisfies-gathered τ (classAt (t .variables)) (st .v) (back .0) w h);
-          truths = λ w h. unit-at w h .0 (satisfies-gathered τ (unitAt (t .variables)) (st .v) (front .0) w h) .0;
-          falsehoods = λ w h. unit-at w h .0 (satisfies-gathered τ (unitAt (t .variables)) (st .v) (front .0) w h) .1;
+          classes = classed;
+          truths = λ w h. values-follow valued classed w h .0;
+          falsehoods = λ w h. values-follow valued classed w h .1;
         },
   )
 

@@ -9,6 +9,7 @@ use lib.IntN.{ℤ, pos, negℤ}
 use lib.Dec.{eqb}
 use borrow.Author.Tests.{eq-eqb}
 use Rattle.base.specs.Decide.{says-yes, agrees}
+use Rattle.literal.specs.Literals.{eqZ}
 use Rattle.literal.specs.Clauses.{tautology}
 use Rattle.state.specs.States.{loadedState}
 use Rattle.state.specs.declared.State.{State}
@@ -78,10 +79,17 @@ laid-standing v cs t =
 
 -- ---- no unit and no class clause comes of a load
 
+no-value : (w : ℕ) (class : ℤ) (rs : List ℤ) → unitsOf w (class ∷ pos 0 ∷ rs) ≡ unitsOf (suc w) rs
+no-value w class rs = go (eqZ class (pos w))
+  where
+    go : (b : Bool) → elim b [ true ↦ unitsOf (suc w) rs | false ↦ unitsOf (suc w) rs ] ≡ unitsOf (suc w) rs
+    go true = refl
+    go false = refl
+
 no-units : (w v : ℕ) → unitsOf w (variableRecords w v) ≡ []
 unfolding variableRecords
 no-units w zero = refl
-no-units w (suc v) = no-units (suc w) v
+no-units w (suc v) = no-value w (pos w) (variableRecords (suc w) v) ∙ no-units (suc w) v
 
 own-class : (w : ℕ) (value : ℤ) (rs : List ℤ) → classClauses w (pos w ∷ value ∷ rs) ≡ classClauses (suc w) rs
 own-class w value rs = go (eqb w w) (eq-eqb w w refl)

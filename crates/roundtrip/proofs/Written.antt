@@ -29,7 +29,7 @@ use Rattle.printing.specs.Printing.{textOf}
 use Rattle.literal.specs.Ranged.{InClauses, InClause, total}
 use Rattle.write.specs.Writable.{Writable}
 use Rattle.write.specs.Write.{standingClauses, writtenClauses, writeText}
-use Rattle.write.specs.Gathered.{unitFor, classFor, clauseFor, unitAt, classAt, writtenAt, formula}
+use Rattle.write.specs.Gathered.{ownValue, unitFor, classFor, clauseFor, unitAt, classAt, writtenAt, formula}
 use Rattle.write.proofs.Gathering.{gathered-every}
 use Rattle.write.proofs.Records.{class-none, class-some}
 use Rattle.write.proofs.Bounds.{in-append, ready, units-in, classes-in, standing-in}
@@ -114,7 +114,7 @@ module _ (t : Tables) (st : State) (S : Shape t st) where
 
   good-formula : st .mark ≡ false → Good (formula (t .clauses) (t .literals) (t .variables) (st .v) (st .n))
   good-formula off =
-      good-append _ _ (gathered-every Good good-none good-append (unitAt (t .variables)) (st .v) (st .v) 0 (omega arith) (λ k l. good-unit (k + 1) (valueOf (t .variables) (k + 1))))
+      good-append _ _ (gathered-every Good good-none good-append (unitAt (t .variables)) (st .v) (st .v) 0 (omega arith) (λ k l. good-unit (k + 1) (ownValue (k + 1) (classOf (t .variables) (k + 1)) (valueOf (t .variables) (k + 1)))))
       (good-append _ _ (gathered-every Good good-none good-append (classAt (t .variables)) (st .v) (st .v) 0 (omega arith) (λ k l. good-class (t .variables) (k + 1) (S .variables k l)))
       (gathered-every Good good-none good-append (writtenAt (t .clauses) (t .literals)) (st .n) (st .n) 0 (omega arith) (good-at off)))
 

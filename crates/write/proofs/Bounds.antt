@@ -20,7 +20,7 @@ use Rattle.shape.specs.Shape.{Parts, Shape}
 use Rattle.printing.specs.Printing.{literalText, clauseText, clausesText, headerText, digits}
 use Rattle.printing.proofs.Storing.{digits-within, header-length}
 use Rattle.literal.specs.Ranged.{InClause, InClauses, total}
-use Rattle.write.specs.Gathered.{gathered, unitFor, classFor, clauseFor, unitAt, classAt, writtenAt}
+use Rattle.write.specs.Gathered.{gathered, ownValue, unitFor, classFor, clauseFor, unitAt, classAt, writtenAt}
 use Rattle.write.specs.Printable.{Printable}
 use Rattle.write.proofs.Gathering.{gathered-every}
 
@@ -74,7 +74,7 @@ clauses-short v (c ∷ cs) h e = omega (arith, length-append (clauseText c) (cla
 
 -- ---- what one record gives
 
-unit-one : (w : ℕ) (value : ℤ) → (length (unitFor w value) ≤ 1) × (total (unitFor w value) ≤ 1)
+pub unit-one : (w : ℕ) (value : ℤ) → (length (unitFor w value) ≤ 1) × (total (unitFor w value) ≤ 1)
 unfolding total
 unit-one w value = go (natAbs value)
   where
@@ -163,8 +163,8 @@ standing-sum clauses ls n P long (suc m) i floor e f h = ⊎-elim
 pub units-count : (variables : List ℤ) (v : ℕ) → (length (gathered (unitAt variables) v 0) ≤ v) × (total (gathered (unitAt variables) v 0) ≤ v)
 unfolding total
 units-count variables v = (
-  at-most-one (λ cs. length cs) refl (λ xs ys. length-append xs ys) (unitAt variables) (λ k. unit-one (k + 1) (valueOf variables (k + 1)) .0) v 0,
-  at-most-one total refl total-append (unitAt variables) (λ k. unit-one (k + 1) (valueOf variables (k + 1)) .1) v 0,
+  at-most-one (λ cs. length cs) refl (λ xs ys. length-append xs ys) (unitAt variables) (λ k. unit-one (k + 1) (ownValue (k + 1) (classOf variables (k + 1)) (valueOf variables (k + 1))) .0) v 0,
+  at-most-one total refl total-append (unitAt variables) (λ k. unit-one (k + 1) (ownValue (k + 1) (classOf variables (k + 1)) (valueOf variables (k + 1))) .1) v 0,
 )
 
 pub classes-count : (variables : List ℤ) (v : ℕ) → (length (gathered (classAt variables) v 0) ≤ 4 * v) × (total (gathered (classAt variables) v 0) ≤ 4 * v)
@@ -193,7 +193,7 @@ ready t st S = record {
 
 module _ (clauses : List ℕ) (literals variables : List ℤ) (v n : ℕ) (R : Printable clauses literals variables v n) where
   pub units-in : InClauses v (gathered (unitAt variables) v 0)
-  units-in = in-gathered v (unitAt variables) v (λ k l. unit-in v (k + 1) (valueOf variables (k + 1)) (omega arith) (omega arith))
+  units-in = in-gathered v (unitAt variables) v (λ k l. unit-in v (k + 1) (ownValue (k + 1) (classOf variables (k + 1)) (valueOf variables (k + 1))) (omega arith) (omega arith))
 
   pub classes-in : InClauses v (gathered (classAt variables) v 0)
   classes-in = in-gathered v (classAt variables) v (λ k l. class-in v (k + 1) (classOf variables (k + 1)) (omega arith) (omega arith) (R .classes k l))

@@ -15,7 +15,7 @@ use Rattle.printing.specs.Printing.{clauseText, clausesText, headerText, textOf
 use Rattle.printing.specs.Stored.{Stored}
 use Rattle.printing.proofs.Storing.{sets-append}
 use Rattle.write.specs.Write.{unitsOf, classClauses, standingClauses}
-use Rattle.write.specs.Gathered.{gathered, unitFor, classFor, clauseFor, unitAt, classAt, writtenAt}
+use Rattle.write.specs.Gathered.{gathered, ownValue, unitFor, classFor, clauseFor, unitAt, classAt, writtenAt}
 
 -- ---- one record more
 
@@ -41,12 +41,19 @@ gathered-every P none join f n (suc m) i h each = join (f i) (gathered f m (suc 
 
 -- ---- the definition's lists are gathered
 
-units-cons : (v : ℕ) (class value : ℤ) (rs : List ℤ) → unitsOf v (class ∷ value ∷ rs) ≡ unitFor v value ++ unitsOf (suc v) rs
-units-cons v class value rs = go (natAbs value)
+units-cons : (v : ℕ) (class value : ℤ) (rs : List ℤ) → unitsOf v (class ∷ value ∷ rs) ≡ unitFor v (ownValue v class value) ++ unitsOf (suc v) rs
+units-cons v class value rs = go (eqZ class (pos v))
   where
-    go : (n : ℕ) → elim n [ zero ↦ unitsOf (suc v) rs | suc _ ↦ (litBy (nonNeg value) v ∷ []) ∷ unitsOf (suc v) rs ] ≡ elim n [ zero ↦ [] | suc _ ↦ (litBy (nonNeg value) v ∷ []) ∷ [] ] ++ unitsOf (suc v) rs
-    go zero = refl
-    go (suc n) = refl
+    one : ℕ → List (List ℤ) → List (List ℤ)
+    one n cs = elim n [ zero ↦ cs | suc _ ↦ (litBy (nonNeg value) v ∷ []) ∷ cs ]
+
+    own : (n : ℕ) → one n (unitsOf (suc v) rs) ≡ one n [] ++ unitsOf (suc v) rs
+    own zero = refl
+    own (suc n) = refl
+
+    go : (b : Bool) → elim b [ true ↦ one (natAbs value) (unitsOf (suc v) rs) | false ↦ unitsOf (suc v) rs ] ≡ unitFor v (elim b [ true ↦ value | false ↦ pos 0 ]) ++ unitsOf (suc v) rs
+    go true = own (natAbs value)
+    go false = refl
 
 classes-cons : (v : ℕ) (class value : ℤ) (rs : List ℤ) → classClauses v (class ∷ value ∷ rs) ≡ classFor v class ++ classClauses (suc v) rs
 classes-cons v class value rs = go (eqZ class (pos v))
@@ -81,7 +88,7 @@ module _ (F : ℕ → List ℤ → List (List ℤ)) (g : ℕ → ℤ → ℤ →
       ∙ (λ j. g (sym (add-one i) j) (classOf xs (i + 1)) (valueOf xs (i + 1)) ++ by-variable xs m (suc i) (omega arith) j)
 
 pub units-gathered : (xs : List ℤ) (v : ℕ) → 2 * v ≤ length xs → unitsOf 1 (take (2 * v) xs) ≡ gathered (unitAt xs) v 0
-units-gathered xs v h = by-variable unitsOf (λ w class value. unitFor w value) (λ v. refl) units-cons xs v 0 (omega arith)
+units-gathered xs v h = by-variable unitsOf (λ w class value. unitFor w (ownValue w class value)) (λ v. refl) units-cons xs v 0 (omega arith)
 
 pub classes-gathered : (xs : List ℤ) (v : ℕ) → 2 * v ≤ length xs → classClauses 1 (take (2 * v) xs) ≡ gathered (classAt xs) v 0
 classes-gathered xs v h = by-variable classClauses (λ w class value. classFor w class) (λ v. refl) classes-cons xs v 0 (omega arith)

@@ -13,7 +13,13 @@ use Rattle.literal.proofs.Signed.{eq-eqZ, ne-eqZ}
 use Rattle.printing.specs.Printing.{clauseText, clausesText}
 use Rattle.printing.specs.Stored.{Stored}
 use Rattle.printing.proofs.Storing.{stored-then}
-use Rattle.write.specs.Gathered.{unitFor, classFor, clauseFor}
+use Rattle.write.specs.Gathered.{ownValue, unitFor, classFor, clauseFor}
+
+pub own-value : (w : ℕ) (class value : ℤ) → class ≡ pos w → ownValue w class value ≡ value
+own-value w class value e = rw (eq-eqZ class (pos w) e, ownValue)
+
+pub other-value : (w : ℕ) (class value : ℤ) → (class ≡ pos w → ⊥) → ownValue w class value ≡ pos 0
+other-value w class value n = rw (ne-eqZ class (pos w) n, ownValue)
 
 pub unit-none : (w : ℕ) (value : ℤ) → value ≡ pos 0 → unitFor w value ≡ []
 unit-none w value e = rw e

@@ -13,6 +13,10 @@ unfoldable pub gathered : (ℕ → List (List ℤ)) → ℕ → ℕ → List (Li
 gathered f zero i = []
 gathered f (suc m) i = f i ++ gathered f m (suc i)
 
+-- the value of variable w if it is its own class, 0 otherwise: only such a variable has a unit
+abbrev pub ownValue : ℕ → ℤ → ℤ → ℤ
+ownValue w class value = elim (eqZ class (pos w)) [ true ↦ value | false ↦ pos 0 ]
+
 -- the unit of variable w, if it has a value
 abbrev pub unitFor : ℕ → ℤ → List (List ℤ)
 unitFor w value = elim (natAbs value) [ zero ↦ [] | suc _ ↦ (litBy (nonNeg value) w ∷ []) ∷ [] ]
@@ -27,7 +31,7 @@ clauseFor flag literals = elim flag [ zero ↦ [] | suc _ ↦ literals ∷ [] ]
 
 -- by record: variable i + 1 has record i
 abbrev pub unitAt : List ℤ → ℕ → List (List ℤ)
-unitAt variables i = unitFor (i + 1) (valueOf variables (i + 1))
+unitAt variables i = unitFor (i + 1) (ownValue (i + 1) (classOf variables (i + 1)) (valueOf variables (i + 1)))
 
 abbrev pub classAt : List ℤ → ℕ → List (List ℤ)
 classAt variables i = classFor (i + 1) (classOf variables (i + 1))

@@ -17,12 +17,15 @@ use Rattle.tables.specs.Tables.{Tables}
 use Rattle.shape.specs.Decision.{shapeOk}
 use Rattle.printing.specs.Printing.{textOf}
 
--- the units of the variables' records (class, value), by rising variable from v on
+-- the units of the variables' records (class, value), by rising variable from v on. Document 02, CR 4: "Write still gives units .. only for variables that are their own class."
 abbrev pub unitsOf : ℕ → List ℤ → List (List ℤ)
 unitsOf v [] = []
 unitsOf v (_ ∷ []) = []
 unitsOf v (class ∷ value ∷ rs) =
-    elim (natAbs value) [ zero ↦ unitsOf (suc v) rs | suc _ ↦ (litBy (nonNeg value) v ∷ []) ∷ unitsOf (suc v) rs ]
+    elim (eqZ class (pos v)) [
+      | true ↦ elim (natAbs value) [ zero ↦ unitsOf (suc v) rs | suc _ ↦ (litBy (nonNeg value) v ∷ []) ∷ unitsOf (suc v) rs ]
+      | false ↦ unitsOf (suc v) rs
+    ]
 
 -- (v or not c) and (not v or c) for each variable v whose class c is another literal
 abbrev pub classClauses : ℕ → List ℤ → List (List ℤ)

@@ -7,12 +7,12 @@ ghost use lib.ListN.{length, take, drop};
 ghost use lib.IntN.{ℤ};
 ghost use lib.Signed.{nonNeg};
 ghost use Rattle.literal.specs.Literals.{Literal, litBy, EachSmall};
-ghost use Rattle.tables.specs.Tables.{classOf};
+ghost use Rattle.tables.specs.Tables.{classOf, valueOf};
 ghost use Rattle.tables.specs.Lent.{lent, unlent};
 ghost use Rattle.printing.specs.Printing.{clausesText};
 ghost use Rattle.printing.specs.Stored.{Stored};
 ghost use Rattle.write.specs.Write.{writeText, afterWrite, writeInto, writeCall};
-ghost use Rattle.write.specs.Gathered.{gathered, unitFor, classFor, clauseFor, unitAt, classAt, writtenAt, formula};
+ghost use Rattle.write.specs.Gathered.{gathered, ownValue, unitFor, classFor, clauseFor, unitAt, classAt, writtenAt, formula};
 ghost use Rattle.write.specs.Printable.{PrintableClauses, Printable};
 use printing::put_clause;
 use printing::put_header;
@@ -21,6 +21,16 @@ use state::Refusal;
 use state::State;
 
 // ---- what one record gives
+
+// The value of variable w if it is its own class, 0 otherwise. A variable with another's class needs no unit: the class clauses give it its value.
+fn own_value(variables: &[i32], w: usize) -> i32
+    requires { ⌜ (0 < w) × (w ≤ 1024) × (2 * w ≤ length (now variables)) ⌝ }
+    ensures { λ r. ⌜ r ≡ ownValue w (classOf (now (variables .entry)) w) (valueOf (now (variables .entry)) w) ⌝ }
+{
+    let class = variables[2 * w - 2];
+    let value = variables[2 * w - 1];
+    if class == w as i32 { value } else { 0 }
+}
 
 // The literal of variable w that a value makes true.
 fn literal_of(w: usize, value: i32) -> i32
@@ -79,7 +89,7 @@ fn put_if_standing(
 
 // ---- what all records give
 
-// A unit for each value, by rising variable.
+// A unit for each value of a variable that is its own class, by rising variable.
 fn put_units(out: &mut [u8], at: usize, variables: &[i32], v: usize) -> usize
     requires { ⌜ (v ≤ 1024) × (2 * v ≤ length (now variables)) × (at + length (clausesText (gathered (unitAt (now variables)) v 0)) < 2 ^ 63) ⌝ }
     ensures { λ r. ⌜ Stored (clausesText (gathered (unitAt (now (variables .entry))) v 0)) at (now (out .entry)) (now (out .exit)) r ⌝ }
@@ -88,7 +98,7 @@ fn put_units(out: &mut [u8], at: usize, variables: &[i32], v: usize) -> usize
     let mut w = 0;
     while w < v {
         w += 1;
-        next = put_unit(out, next, w, variables[2 * w - 1]);
+        next = put_unit(out, next, w, own_value(variables, w));
     }
     next
 }
@@ -134,7 +144,7 @@ fn count_units(variables: &[i32], v: usize) -> u32
     let mut w = 0;
     while w < v {
         w += 1;
-        if variables[2 * w - 1] != 0 {
+        if own_value(variables, w) != 0 {
             count += 1;
         }
     }

@@ -1,9 +1,13 @@
 -- `write::put_units` meets its contract. The loop's invariant: what records w on give is still to be written (`Putting`). Assumes nothing.
-use Prim.Native.Nat.{_+_, _*_, _-_, _≤_}
+use Prim.Native.Nat.{_+_, _-_, _≤_}
 use native.Mathlib.Omega.{arith}
-use borrow.Author.Needs.{needs}
-use Rattle.literal.proofs.Signed.{read}
-use Rattle.write.specs.Gathered.{unitAt}
+use mathlib.Core.Path.{_≡_, _∙_}
+use mir.Syntax.{w32}
+use mir.Val.{toZ, ofZ}
+use mir.Facts.{toZ-ofZ}
+use borrow.Author.Needs.{sfits-of, needs}
+use Rattle.tables.specs.Tables.{classOf, valueOf}
+use Rattle.write.specs.Gathered.{ownValue, unitAt}
 use Rattle.write.proofs.Gathering.{Putting, putting-begin, putting-room, putting-step, putting-end}
 use Rattle.write.proofs.put_units.Statement.{statement}
 use Rattle.write.proofs.put_units.Tie as tie
@@ -14,32 +18,28 @@ Inv-loop out₀ at variables v next₀ w₀ out next w = (w ≤ v) × Putting (u
 abbrev μ-loop : tie.MeasureT-loop
 μ-loop out₀ at variables v next₀ w₀ out next w = v - w
 
+-- the value that the unit is to have
+value : (c : tie.After-own-value Inv-loop μ-loop)
+    → toZ w32 (ofZ w32 (c .own-value .result)) ≡ ownValue (c .before .before .before .loop .w + 1) (classOf (c .before .before .before .before .before .args .variables .now) (c .before .before .before .loop .w + 1)) (valueOf (c .before .before .before .before .before .args .variables .now) (c .before .before .before .loop .w + 1))
+value c = toZ-ofZ (sfits-of (c .own-value .ok)) ∙ c .own-value .ensures
+
 loop-holds : tie.Need-loop-holds Inv-loop μ-loop
 loop-holds c = let a = c .before .args in (omega arith, putting-begin (unitAt (a .variables .now)) (a .v) (a .at) (a .out .now))
 
 add-w : tie.Need-add-w Inv-loop μ-loop
 add-w c = search needs
 
-mul-put-unit : tie.Need-mul-put-unit Inv-loop μ-loop
-mul-put-unit c = search needs
-
-sub-put-unit : tie.Need-sub-put-unit Inv-loop μ-loop
-sub-put-unit c = search needs
-
-mul-put-unit-2 : tie.Need-mul-put-unit-2 Inv-loop μ-loop
-mul-put-unit-2 c = search needs
-
-shared-slice-copy-out-put-unit : tie.Need-shared-slice-copy-out-put-unit Inv-loop μ-loop
-shared-slice-copy-out-put-unit c = search needs
+own-value-requires : tie.Need-own-value-requires Inv-loop μ-loop
+own-value-requires c κs = search needs
 
 put-unit-requires : tie.Need-put-unit-requires Inv-loop μ-loop
-put-unit-requires c κs = rw (read (c .before .before .before .before .before .args .variables .now) (2 * (c .before .before .before .loop .w + 1) - 1) (c .put-unit-arg2 .given)) (omega arith, putting-room (c .before .before .before .loop .inv .1) (c .before .before .loop-test .taken) (c .before .before .before .before .before .pre .2))
+put-unit-requires c κs = rw (value c) (omega arith, putting-room (c .before .before .before .loop .inv .1) (c .before .before .loop-test .taken) (c .before .before .before .before .before .pre .2))
 
 loop-less : tie.Need-loop-less Inv-loop μ-loop
 loop-less c = search needs
 
 loop-again : tie.Need-loop-again Inv-loop μ-loop
-loop-again c = (omega arith, putting-step (c .before .before .before .before .before .before .loop .inv .1) (c .before .before .before .before .before .loop-test .taken) (rw (read (c .before .before .before .before .before .before .before .before .args .variables .now) (2 * (c .before .before .before .before .before .before .loop .w + 1) - 1) (c .before .before .before .put-unit-arg2 .given)) at (c .before .before .put-unit .ensures)))
+loop-again c = (omega arith, putting-step (c .before .before .before .before .before .before .loop .inv .1) (c .before .before .before .before .before .loop-test .taken) (rw (value (c .before .before .before)) at (c .before .before .put-unit .ensures)))
 
 same-length : tie.Need-same-length Inv-loop μ-loop
 same-length c = search needs
@@ -55,10 +55,7 @@ put-units-spec =
     μ-loop
     loop-holds
     add-w
-    mul-put-unit
-    sub-put-unit
-    mul-put-unit-2
-    shared-slice-copy-out-put-unit
+    own-value-requires
     put-unit-requires
     loop-less
     loop-again
