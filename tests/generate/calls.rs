@@ -61,7 +61,7 @@ pub fn fitting(random: &mut Random, formula: &Formula) -> Call {
     }
     if formula.state.fresh && random.below(8) > 1 {
         return match random.below(6) {
-            0 | 1 => Call::Failed,
+            0..=2 => Call::Failed,
             _ => Call::Sweep(steps),
         };
     }

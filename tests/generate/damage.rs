@@ -1,6 +1,7 @@
 //! Single numbers of the tables and of the state set to something else: wrong,
 //! nearly right, or odd but allowed.
 
+use crate::class_values;
 use crate::forest::forest;
 use crate::formulas::literal;
 use crate::near;
@@ -9,6 +10,12 @@ use crate::tables::{literal_of, slot, Formula, Pass, StampRecord};
 
 /// Lines of `set`, without their LF. The formula meets the shape rule.
 pub fn lines(random: &mut Random, formula: &Formula) -> Vec<String> {
+    // Few formulas have classes of several variables, so their values come often.
+    if random.once_in(2) {
+        if let Some(lines) = class_values::lines(random, formula) {
+            return lines;
+        }
+    }
     match random.below(24) {
         0 | 1 => vec![state(random, formula)],
         2 | 3 => vec![clause(random, formula)],

@@ -3,6 +3,7 @@
 //! calls are accepted.
 
 mod calls;
+mod class_values;
 mod damage;
 mod far;
 mod forest;
@@ -15,6 +16,7 @@ mod random;
 mod repeats;
 mod script;
 mod texts;
+mod valued;
 
 #[path = "../second/failed.rs"]
 mod failed;

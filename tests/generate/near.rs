@@ -8,7 +8,7 @@ use crate::tables::{literal_of, slot, Formula, Pass, StampRecord};
 
 type Near = fn(&mut Random, &Formula) -> Option<Vec<String>>;
 
-const ALL: [Near; 19] = [
+const ALL: [Near; 18] = [
     part_at_table_end,
     dropped_at_table_end,
     falling_start,
@@ -20,7 +20,6 @@ const ALL: [Near; 19] = [
     literal_not_its_class,
     larger_class,
     class_of_class,
-    value_off_class,
     value_on_class,
     cursor_at_end,
     open_under_mark,
@@ -70,10 +69,6 @@ fn some_of(random: &mut Random, records: Vec<usize>) -> Option<usize> {
 
 fn is_used(formula: &Formula, v: i32) -> bool {
     (0..formula.n()).any(|record| formula.part(record).iter().any(|l| l.abs() == v))
-}
-
-fn is_own(formula: &Formula, v: i32) -> bool {
-    formula.variables[v as usize - 1].class == v
 }
 
 /// The last clause moves to the end of the literal table, or one place past it.
@@ -178,7 +173,7 @@ fn empty_clause(random: &mut Random, formula: &Formula) -> Option<Vec<String>> {
 
 /// A clause gets a variable that is not its own class.
 fn literal_not_its_class(random: &mut Random, formula: &Formula) -> Option<Vec<String>> {
-    let fits = |v: &usize| !is_own(formula, *v as i32);
+    let fits = |v: &usize| !formula.is_its_own_class(*v);
     let other = some_of(random, (1..=formula.v()).filter(fits).collect())? as i32;
     let record = standing(random, formula, 1)?;
     let part = formula.part(record);
@@ -200,42 +195,50 @@ fn literal_not_its_class(random: &mut Random, formula: &Formula) -> Option<Vec<S
     Some(lines)
 }
 
-/// A variable that no clause has gets a larger class, or its own complement.
+/// The variable gets this class, and the value of this literal, so that the
+/// class alone may be wrong.
+fn set_class(formula: &Formula, v: usize, class: i32) -> Vec<String> {
+    let at_class = formula.variables[class.unsigned_abs() as usize - 1].value;
+    let value = class.signum() * at_class;
+    vec![
+        set("variables", v - 1, 0, class as i64),
+        set("variables", v - 1, 1, value as i64),
+    ]
+}
+
+/// A variable that no clause has gets any class, also a larger one, or its own
+/// complement.
 fn larger_class(random: &mut Random, formula: &Formula) -> Option<Vec<String>> {
-    let fits = |v: &usize| !is_used(formula, *v as i32) && formula.variables[*v - 1].value == 0;
-    let v = some_of(random, (1..=formula.v()).filter(fits).collect())? as i32;
-    let w = literal(random, formula.v());
-    let class = random.pick(&[w, w, -v]);
-    Some(vec![set("variables", v as usize - 1, 0, class as i64)])
+    let fits = |v: &usize| !is_used(formula, *v as i32);
+    let v = some_of(random, (1..=formula.v()).filter(fits).collect())?;
+    if random.once_in(3) {
+        let complement = -(v as i32);
+        return Some(vec![
+            set("variables", v - 1, 0, complement as i64),
+            set("variables", v - 1, 1, 0),
+        ]);
+    }
+    let class = literal(random, formula.v());
+    Some(set_class(formula, v, class))
 }
 
 /// The class of v has another class.
 fn class_of_class(random: &mut Random, formula: &Formula) -> Option<Vec<String>> {
-    let fits = |v: &usize| !is_own(formula, *v as i32);
+    let fits = |v: &usize| !formula.is_its_own_class(*v);
     let w = some_of(random, (1..=formula.v()).filter(fits).collect())?;
     if w == formula.v() {
         return None;
     }
     let v = random.between(w + 1, formula.v());
-    if is_used(formula, v as i32) || formula.variables[v - 1].value != 0 {
+    if is_used(formula, v as i32) {
         return None;
     }
-    Some(vec![set(
-        "variables",
-        v - 1,
-        0,
-        random.pick(&[w as i64, -(w as i64)]),
-    )])
-}
-
-fn value_off_class(random: &mut Random, formula: &Formula) -> Option<Vec<String>> {
-    let fits = |v: &usize| !is_own(formula, *v as i32);
-    let v = some_of(random, (1..=formula.v()).filter(fits).collect())?;
-    Some(vec![set("variables", v - 1, 1, random.pick(&[1, -1]))])
+    let class = random.pick(&[w as i32, -(w as i32)]);
+    Some(set_class(formula, v, class))
 }
 
 fn value_on_class(random: &mut Random, formula: &Formula) -> Option<Vec<String>> {
-    let fits = |v: &usize| is_own(formula, *v as i32);
+    let fits = |v: &usize| formula.is_its_own_class(*v);
     let v = some_of(random, (1..=formula.v()).filter(fits).collect())?;
     Some(vec![set(
         "variables",

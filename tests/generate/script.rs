@@ -12,6 +12,7 @@ use crate::refusal::tables_are_lent;
 use crate::replay::Replay;
 use crate::shape;
 use crate::texts;
+use crate::valued;
 
 /// No new line is begun past this length.
 const LONG_ENOUGH: usize = 850_000;
@@ -267,6 +268,14 @@ impl Script {
                 _ => random.between(3, 12),
             };
             return implied::draft(random, variables);
+        }
+        if random.once_in(3) {
+            let variables = match random.below(40) {
+                0 => random.between(13, 60),
+                1..=10 => random.between(2, 12),
+                _ => random.between(3, 8),
+            };
+            return valued::draft(random, variables);
         }
         let variables = match random.below(200) {
             0 => random.between(100, 400),

@@ -6,6 +6,7 @@ use crate::calls::{any, fitting, line, Call};
 use crate::compare_calls::{in_two_calls, run_by_passes};
 use crate::compare_figures::figures_agree;
 use crate::compare_repeats::{loaded_agrees, merged_agrees};
+use crate::compare_values::{own_values, values_agree, values_stay, written_clauses};
 use crate::compare_walks::{groups_agree, is_subsequence, stamps_agree};
 use crate::failed::failed;
 use crate::forest::forest;
@@ -25,6 +26,7 @@ use crate::tables::{
     MOST_VARIABLES,
 };
 use crate::truth::{Assignments, Truth, MOST_TRIED};
+use crate::valued;
 use crate::visits::Answer;
 use crate::write::write;
 
@@ -91,6 +93,9 @@ impl<'a> Check<'a> {
         let draft = if random.once_in(3) {
             let variables = random.between(3, MOST_TRIED);
             implied::draft(random, variables)
+        } else if random.once_in(3) {
+            let variables = random.between(2, MOST_TRIED);
+            valued::draft(random, variables)
         } else {
             let variables = random.below(MOST_TRIED + 1);
             draft(random, variables)
@@ -161,8 +166,12 @@ impl<'a> Check<'a> {
         if !shape::holds(&self.formula) {
             return Err("the shape rule fails".to_string());
         }
+        values_agree(&self.formula)?;
         if self.truth.standing(&self.formula) != self.wanted {
             return Err("what stands has other satisfying assignments".to_string());
+        }
+        if self.truth.standing_by_classes(&self.formula) != self.wanted {
+            return Err("other satisfying assignments by the values of classes".to_string());
         }
         self.clauses_are_parts_of_loaded_ones()?;
         self.other_places_agree()?;
@@ -221,7 +230,8 @@ impl<'a> Check<'a> {
         Ok(())
     }
 
-    /// What Write gives, loaded again, has the same satisfying assignments.
+    /// What Write gives, loaded again, has the same satisfying assignments, and
+    /// as many clauses as it should have.
     fn written_agrees(&self) -> Result<(), String> {
         let text = write(&self.formula, 131_072).map_err(|r| format!("Write: {r:?}"))?;
         let short = write(&self.formula, text.len() - 1);
@@ -237,6 +247,9 @@ impl<'a> Check<'a> {
         if self.truth.standing(&again) != self.wanted {
             return Err("what Write gave has other satisfying assignments".to_string());
         }
+        if again.n() != written_clauses(&self.formula) {
+            return Err("Write gave another number of clauses".to_string());
+        }
         Ok(())
     }
 
@@ -249,6 +262,8 @@ impl<'a> Check<'a> {
         outcome: Outcome,
     ) -> Result<(), String> {
         let after = &self.formula;
+        let may_set = matches!(call, Call::Propagate(_) | Call::Failed | Call::Run(_));
+        values_stay(before, after, may_set)?;
         match (call, &outcome) {
             (Call::Propagate(steps), Outcome::Steps(answer)) => {
                 self.steps_agree(random, before, propagate, *steps, *answer)?;
@@ -274,8 +289,7 @@ impl<'a> Check<'a> {
                 stamps_agree(after, list)?;
             }
             (Call::Failed, Outcome::Failed(count)) => {
-                let values = |f: &Formula| f.variables.iter().filter(|v| v.value != 0).count();
-                if values(after) - values(before) != *count as usize {
+                if own_values(after) - own_values(before) != *count as usize {
                     return Err("Failed counts other values than it set".to_string());
                 }
             }
@@ -322,7 +336,7 @@ impl<'a> Check<'a> {
     }
 
     /// The visits made one by one: what stands after each has the same
-    /// satisfying assignments.
+    /// satisfying assignments, and each value is that of the class literal.
     fn every_stop_agrees(
         &self,
         before: &Formula,
@@ -335,6 +349,7 @@ impl<'a> Check<'a> {
             if self.truth.standing(&formula) != self.wanted {
                 return Err(format!("other satisfying assignments after visit {visit}"));
             }
+            values_agree(&formula).map_err(|e| format!("after visit {visit}: {e}"))?;
         }
         Ok(())
     }

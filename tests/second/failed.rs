@@ -21,6 +21,8 @@ pub fn whole(formula: &mut Formula) -> u32 {
         let complement = -narrowest_around_both(formula, variable);
         match formula.truth(complement) {
             0 => {
+                // Of the values of the class one is counted, that of the
+                // variable that is its own class.
                 formula.make_true(complement);
                 count += 1;
             }

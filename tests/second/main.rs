@@ -31,6 +31,7 @@ mod check;
 mod compare_calls;
 mod compare_figures;
 mod compare_repeats;
+mod compare_values;
 mod compare_walks;
 mod named;
 mod truth;
@@ -49,6 +50,8 @@ mod lists;
 mod random;
 #[path = "../generate/repeats.rs"]
 mod repeats;
+#[path = "../generate/valued.rs"]
+mod valued;
 
 use std::io::{Read, Write};
 use std::process::exit;

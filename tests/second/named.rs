@@ -1,6 +1,7 @@
 //! Named cases: texts, good and bad, the pallet cases, refusals by call,
 //! repeated literals in loads and in Merge, pairs that a Sweep drops or keeps,
-//! and formulas at the limits; each with what a replay of it prints.
+//! values of classes that have several variables, and formulas at the limits;
+//! each with what a replay of it prints.
 
 /// The bytes of a load, the calls behind it, a line each, and what a replay of
 /// both prints.
@@ -55,7 +56,7 @@ fn short() -> Vec<Case> {
         },
         prints: prints.to_string(),
     });
-    let passes = CALLS.iter().chain(REPEATS).chain(PAIRS);
+    let passes = CALLS.iter().chain(REPEATS).chain(PAIRS).chain(VALUES);
     let passes = passes.map(|&(name, text, calls, prints)| Case {
         name,
         text: text.as_bytes().to_vec(),
@@ -716,6 +717,251 @@ const PAIRS: &[(&str, &str, &str, &str)] = &[
     ),
 ];
 
+/// Values of classes that have several variables: a text, the calls behind its
+/// load, and what all of them print. A variable record is printed as class and
+/// value; the value is that of the class literal, sign included. In most texts
+/// 2 becomes 1 and 3 becomes -1.
+const VALUES: &[(&str, &str, &str, &str)] = &[
+    // Merge leaves the unit 1 of (1 2); what Write gives is loaded again and comes to the same values
+    (
+        "true-by-propagate",
+        "p cnf 3 5\n-1 2 0\n-2 1 0\n1 3 0\n-1 -3 0\n1 2 0\n",
+        "merge 65535\nvariables\npropagate 65535\nvariables\nwrite 256\nload 42\np cnf 3 5\n1 0\n2 -1 0\n-2 1 0\n3 1 0\n-3 -1 0\n\nvariables\npropagate 65535\nvariables\n",
+        "loaded 3 5 0\ndone 5 4 9\n1 0\n1 0\n-1 0\ndone 10 1 1\n1 1\n1 1\n-1 -1\nwritten 42\np cnf 3 5\n1 0\n2 -1 0\n-2 1 0\n3 1 0\n-3 -1 0\nloaded 3 5 0\n1 0\n2 0\n3 0\ndone 10 5 9\n1 1\n2 1\n3 -1\n",
+    ),
+    // Merge leaves the unit -1 of (-2 3)
+    (
+        "false-by-propagate",
+        "p cnf 3 5\n-1 2 0\n-2 1 0\n1 3 0\n-1 -3 0\n-2 3 0\n",
+        "merge 65535\nvariables\npropagate 65535\nvariables\nwrite 256\nload 43\np cnf 3 5\n-1 0\n2 -1 0\n-2 1 0\n3 1 0\n-3 -1 0\n\nvariables\npropagate 65535\nvariables\n",
+        "loaded 3 5 0\ndone 5 4 9\n1 0\n1 0\n-1 0\ndone 10 1 1\n1 -1\n1 -1\n-1 1\nwritten 43\np cnf 3 5\n-1 0\n2 -1 0\n-2 1 0\n3 1 0\n-3 -1 0\nloaded 3 5 0\n1 0\n2 0\n3 0\ndone 10 5 9\n1 -1\n2 -1\n3 1\n",
+    ),
+    // -1 leads to 4 and -4, and fails; one value is counted
+    (
+        "true-by-failed",
+        "p cnf 4 6\n-1 2 0\n-2 1 0\n1 3 0\n-1 -3 0\n1 4 0\n2 -4 0\n",
+        "merge 65535\nvariables\nstamp 1 -1 2 -2 3 -3 4 -4\nstamps\nvariables\nfailed\nvariables\nfailed\npropagate 65535\nvariables\nwrite 256\n",
+        "loaded 4 6 0\ndone 6 4 8\n1 0\n1 0\n-1 0\n4 0\nstamped\n3 4 4 -1\n1 8 -1 -1\n9 10 2 2\n11 12 -2 -2\n13 14 3 3\n15 16 -3 -3\n2 5 -1 -1\n6 7 -1 -1\n1 0\n1 0\n-1 0\n4 0\nfailed 1\n1 1\n1 1\n-1 -1\n4 0\nfailed 0\ndone 12 2 4\n1 1\n1 1\n-1 -1\n4 0\nwritten 42\np cnf 4 5\n1 0\n2 -1 0\n-2 1 0\n3 1 0\n-3 -1 0\n",
+    ),
+    // 1 leads to 4 and -4, and fails; Sweep leaves -1 of both clauses
+    (
+        "false-by-failed",
+        "p cnf 4 6\n-1 2 0\n-2 1 0\n1 3 0\n-1 -3 0\n-1 4 0\n-2 -4 0\n",
+        "merge 65535\nvariables\nstamp 1 -1 2 -2 3 -3 4 -4\nfailed\nvariables\nsweep 65535\nvariables\npropagate 65535\nvariables\nwrite 256\n",
+        "loaded 4 6 0\ndone 6 4 8\n1 0\n1 0\n-1 0\n4 0\nstamped\nfailed 1\n1 -1\n1 -1\n-1 1\n4 0\ndone 6 0 2\n1 -1\n1 -1\n-1 1\n4 0\ndone 12 2 2\n1 -1\n1 -1\n-1 1\n4 0\nwritten 43\np cnf 4 5\n-1 0\n2 -1 0\n-2 1 0\n3 1 0\n-3 -1 0\n",
+    ),
+    // without Failed: Sweep leaves -1 of both clauses, and Propagate sets the value
+    (
+        "false-by-sweep-and-propagate",
+        "p cnf 4 6\n-1 2 0\n-2 1 0\n1 3 0\n-1 -3 0\n-1 4 0\n-2 -4 0\n",
+        "merge 65535\nstamp 1 -1 2 -2 3 -3 4 -4\nsweep 65535\nvariables\npropagate 5\nvariables\npropagate 65535\nvariables\n",
+        "loaded 4 6 0\ndone 6 4 8\nstamped\ndone 6 0 2\n1 0\n1 0\n-1 0\n4 0\nopen 5 1 1\n1 -1\n1 -1\n-1 1\n4 0\ndone 7 1 1\n1 -1\n1 -1\n-1 1\n4 0\n",
+    ),
+    // 2 becomes 1 and 4 becomes -3; 1 fails and -3 fails, and two values are counted
+    (
+        "two-classes-fail",
+        "p cnf 6 8\n-1 2 0\n-2 1 0\n3 4 0\n-3 -4 0\n-1 5 0\n-2 -5 0\n3 6 0\n-4 -6 0\n",
+        "merge 65535\nvariables\nstamp 1 -1 2 -2 3 -3 4 -4 5 -5 6 -6\nfailed\nvariables\n",
+        "loaded 6 8 0\ndone 8 4 8\n1 0\n1 0\n3 0\n-3 0\n5 0\n6 0\nstamped\nfailed 2\n1 -1\n1 -1\n3 1\n-3 -1\n5 0\n6 0\n",
+    ),
+    // 2 becomes 1 and 4 becomes -3; the second class has the unit -3 and the first has no value
+    (
+        "value-of-one-class-of-two",
+        "p cnf 4 5\n-1 2 0\n-2 1 0\n3 4 0\n-3 -4 0\n-3 4 0\n",
+        "merge 65535\npropagate 65535\nvariables\nmerge 65535\nvariables\nwrite 256\n",
+        "loaded 4 5 0\ndone 5 4 9\ndone 10 1 1\n1 0\n1 0\n3 -1\n-3 1\ndone 5 0 0\n1 0\n1 0\n3 -1\n-3 1\nwritten 43\np cnf 4 5\n-3 0\n2 -1 0\n-2 1 0\n4 3 0\n-4 -3 0\n",
+    ),
+    // the same classes; (-2 4) becomes (-1 -3), by which the value of 1 leads to that of 3
+    (
+        "value-from-class-to-class",
+        "p cnf 4 6\n-1 2 0\n-2 1 0\n3 4 0\n-3 -4 0\n-2 4 0\n1 2 0\n",
+        "merge 65535\nvariables\npropagate 6\nvariables\nstate\npropagate 65535\nvariables\n",
+        "loaded 4 6 0\ndone 6 4 9\n1 0\n1 0\n3 0\n-3 0\nopen 6 1 1\n1 1\n1 1\n3 0\n-3 0\nstate 4 6 1 0 0 0 0\ndone 12 1 2\n1 1\n1 1\n3 -1\n-3 1\n",
+    ),
+    // 2 becomes 1, which has the value 1; then 4 becomes -3 by the pairs that Propagate leaves
+    (
+        "merge-beside-a-value",
+        "p cnf 4 5\n-1 2 0\n-2 1 0\n1 2 0\n-1 3 4 0\n-2 -3 -4 0\n",
+        "merge 65535\npropagate 65535\nvariables\nliterals\nmerge 4\nvariables\nmerge 1\nvariables\nwrite 256\n",
+        "loaded 4 5 0\ndone 5 2 5\ndone 10 1 3\n1 1\n1 1\n3 0\n4 0\nliterals 0 0 0 0 0 0 3 4 0 -3 -4\nopen 4 1 2\n1 1\n1 1\n3 0\n-3 0\ndone 1 1 2\n1 1\n1 1\n3 0\n-3 0\nwritten 42\np cnf 4 5\n1 0\n2 -1 0\n-2 1 0\n4 3 0\n-4 -3 0\n",
+    ),
+    // the first visit sets the value
+    (
+        "value-in-an-open-propagate",
+        "p cnf 3 5\n1 2 0\n-1 2 0\n-2 1 0\n1 3 0\n-1 -3 0\n",
+        "merge 65535\npropagate 0\nvariables\npropagate 1\nstate\nvariables\nwrite 256\npropagate 1\nvariables\npropagate 65535\nvariables\n",
+        "loaded 3 5 0\ndone 5 4 9\nopen 0 0 0\n1 0\n1 0\n-1 0\nopen 1 1 1\nstate 3 5 1 1 1 0 0\n1 1\n1 1\n-1 -1\nwritten 42\np cnf 3 5\n1 0\n2 -1 0\n-2 1 0\n3 1 0\n-3 -1 0\nopen 1 0 0\n1 1\n1 1\n-1 -1\ndone 8 0 0\n1 1\n1 1\n-1 -1\n",
+    ),
+    // Merge leaves the units 1 and -1: the first sets the value, at the second the clause is empty
+    (
+        "value-before-the-mark-of-propagate",
+        "p cnf 3 6\n-1 2 0\n-2 1 0\n1 3 0\n-1 -3 0\n1 2 -3 0\n-1 -2 3 0\n",
+        "merge 65535\nvariables\npropagate 65535\nvariables\nstate\nclauses\nliterals\nwrite 256\npropagate 65535\n",
+        "loaded 3 6 0\ndone 6 4 12\n1 0\n1 0\n-1 0\ndone 6 1 2\n1 1\n1 1\n-1 -1\nstate 3 6 0 0 0 0 1\n0 0 0\n2 0 0\n4 0 0\n6 0 0\n8 0 0\n11 0 1\nliterals\nwritten 12\np cnf 3 1\n0\nrefused 5 0\n",
+    ),
+    (
+        "value-before-the-mark-of-propagate-steps",
+        "p cnf 3 6\n-1 2 0\n-2 1 0\n1 3 0\n-1 -3 0\n-1 -2 3 0\n1 2 -3 0\n",
+        "merge 65535\npropagate 4\nvariables\npropagate 1\nvariables\npropagate 1\nvariables\nstate\n",
+        "loaded 3 6 0\ndone 6 4 12\nopen 4 0 0\n1 0\n1 0\n-1 0\nopen 1 1 1\n1 -1\n1 -1\n-1 1\ndone 1 0 1\n1 -1\n1 -1\n-1 1\nstate 3 6 0 0 0 0 1\n",
+    ),
+    // 1 fails, and its value is set; 5 fails, which has the opposite value by then
+    (
+        "value-before-the-mark-of-failed",
+        "p cnf 6 8\n-1 2 0\n-2 1 0\n1 3 0\n-1 -3 0\n-1 4 0\n-2 -4 0\n-5 6 0\n-5 -6 0\n",
+        "merge 65535\nstamp 1 -1 2 -2 3 -3 4 -4 5 -5 6 -6\nset variables 4 1 1\nfailed\nvariables\nstate\nfailed\nwrite 256\n",
+        "loaded 6 8 0\ndone 8 4 8\nstamped\nfailed 1\n1 -1\n1 -1\n-1 1\n4 0\n5 1\n6 0\nstate 6 8 0 0 0 0 1\nrefused 5 0\nwritten 12\np cnf 6 1\n0\n",
+    ),
+    // 2 becomes -1; stamps that no walk gives: 1 holds -1 and 2 holds -2. So 1 fails, which makes 2 true, and 2 fails
+    (
+        "opposite-value-by-the-class",
+        "p cnf 2 2\n1 2 0\n-1 -2 0\n",
+        "merge 65535\nstamp 1 -1 2 -2\nset stamps 0 1 4\nset stamps 1 0 2\nset stamps 1 1 3\nset stamps 1 2 1\nset stamps 1 3 1\nset stamps 2 1 8\nset stamps 3 0 6\nset stamps 3 1 7\nset stamps 3 2 2\nset stamps 3 3 2\nfailed\nvariables\nstate\n",
+        "loaded 2 2 0\ndone 2 2 4\nstamped\nfailed 1\n1 -1\n-1 1\nstate 2 2 0 0 0 0 1\n",
+    ),
+    // 2 becomes 1; under the same stamps 1 fails, which makes 2 false, and 2 fails
+    (
+        "same-value-by-the-class",
+        "p cnf 2 2\n1 -2 0\n-1 2 0\n",
+        "merge 65535\nstamp 1 -1 2 -2\nset stamps 0 1 4\nset stamps 1 0 2\nset stamps 1 1 3\nset stamps 1 2 1\nset stamps 1 3 1\nset stamps 2 1 8\nset stamps 3 0 6\nset stamps 3 1 7\nset stamps 3 2 2\nset stamps 3 3 2\nfailed\nvariables\nstate\n",
+        "loaded 2 2 0\ndone 2 2 4\nstamped\nfailed 1\n1 -1\n1 -1\nstate 2 2 0 0 0 1 0\n",
+    ),
+    // 2 becomes -1; of stamps that no walk gives 2 holds -2, so that 2 fails, and 1 is true
+    (
+        "failed-variable-that-is-merged",
+        "p cnf 2 2\n1 2 0\n-1 -2 0\n",
+        "merge 65535\nstamp 2 -2 1 -1\nset stamps 2 1 4\nset stamps 3 0 2\nset stamps 3 1 3\nset stamps 3 2 2\nset stamps 3 3 2\nfailed\nvariables\nwrite 256\n",
+        "loaded 2 2 0\ndone 2 2 4\nstamped\nfailed 1\n1 1\n-1 -1\nwritten 28\np cnf 2 3\n1 0\n2 1 0\n-2 -1 0\n",
+    ),
+    // 3 becomes -2, which leaves the pairs by which 2 becomes -1, and so 3 becomes 1; the second Merge leaves the unit 1
+    (
+        "older-class-by-propagate",
+        "p cnf 3 5\n2 3 0\n-2 -3 0\n1 2 -3 0\n-1 -2 3 0\n1 -2 3 0\n",
+        "merge 65535\nvariables\nmerge 65535\nvariables\npropagate 65535\nvariables\nwrite 256\n",
+        "loaded 3 5 0\ndone 5 2 7\n1 0\n2 0\n-2 0\ndone 5 2 5\n1 0\n-1 0\n1 0\ndone 10 1 1\n1 1\n-1 -1\n1 1\nwritten 42\np cnf 3 5\n1 0\n2 1 0\n-2 -1 0\n3 -1 0\n-3 1 0\n",
+    ),
+    // the same classes; 1 leads to 4 and -4, and fails
+    (
+        "older-class-by-failed",
+        "p cnf 4 6\n2 3 0\n-2 -3 0\n1 2 -3 0\n-1 -2 3 0\n-1 4 0\n2 -4 0\n",
+        "merge 65535\nvariables\nmerge 65535\nvariables\nstamp 1 -1 2 -2 3 -3 4 -4\nfailed\nvariables\n",
+        "loaded 4 6 0\ndone 6 2 6\n1 0\n2 0\n-2 0\n4 0\ndone 6 2 4\n1 0\n-1 0\n1 0\n4 0\nstamped\nfailed 1\n1 -1\n-1 1\n1 -1\n4 0\n",
+    ),
+    (
+        "value-by-run",
+        "p cnf 3 5\n-1 2 0\n-2 1 0\n1 3 0\n-1 -3 0\n1 2 0\n",
+        "run 1\nvariables\nwrite 256\nrun 65535\nvariables\n",
+        "loaded 3 5 0\nran 1\n1 1\n1 1\n-1 -1\nwritten 42\np cnf 3 5\n1 0\n2 -1 0\n-2 1 0\n3 1 0\n-3 -1 0\nran 1\n1 1\n1 1\n-1 -1\n",
+    ),
+    // the units that Sweep leaves are dropped in the next round
+    (
+        "failed-value-by-run",
+        "p cnf 4 6\n-1 2 0\n-2 1 0\n1 3 0\n-1 -3 0\n-1 4 0\n-2 -4 0\n",
+        "run 1\nvariables\nwrite 256\nrun 65535\nvariables\n",
+        "loaded 4 6 0\nran 1\n1 -1\n1 -1\n-1 1\n4 0\nwritten 53\np cnf 4 7\n-1 0\n2 -1 0\n-2 1 0\n3 1 0\n-3 -1 0\n-1 0\n-1 0\nran 2\n1 -1\n1 -1\n-1 1\n4 0\n",
+    ),
+    (
+        "value-before-the-mark-of-run",
+        "p cnf 3 6\n-1 2 0\n-2 1 0\n1 3 0\n-1 -3 0\n1 2 -3 0\n-1 -2 3 0\n",
+        "run 65535\nvariables\nstate\n",
+        "loaded 3 6 0\nran 1\n1 1\n1 1\n-1 -1\nstate 3 6 0 0 0 0 1\n",
+    ),
+    (
+        "older-class-by-run",
+        "p cnf 3 5\n2 3 0\n-2 -3 0\n1 2 -3 0\n-1 -2 3 0\n1 -2 3 0\n",
+        "run 65535\nvariables\n",
+        "loaded 3 5 0\nran 2\n1 1\n-1 -1\n1 1\n",
+    ),
+    // the value of 2 is 0 and not 1; with it put back all calls are accepted
+    (
+        "no-value-at-2",
+        "p cnf 3 5\n-1 2 0\n-2 1 0\n1 3 0\n-1 -3 0\n1 2 0\n",
+        "merge 65535\npropagate 65535\nstamp 1 -1 2 -2 3 -3\nset variables 1 1 0\npropagate 65535\nmerge 65535\nstamp 1 -1 2 -2 3 -3\nfailed\nsweep 65535\nrun 1\nwrite 256\nstate\nvariables\nset variables 1 1 1\nfailed\nsweep 65535\npropagate 65535\nmerge 65535\nstamp 1 -1 2 -2 3 -3\nrun 1\nwrite 42\n",
+        "loaded 3 5 0\ndone 5 4 9\ndone 10 1 1\nstamped\nrefused 1 0\nrefused 1 0\nrefused 1 0\nrefused 1 0\nrefused 1 0\nrefused 1 0\nrefused 1 0\nstate 3 5 0 0 0 1 0\n1 1\n1 0\n-1 -1\nfailed 0\ndone 5 0 0\ndone 5 0 0\ndone 5 0 0\nstamped\nran 1\nwritten 42\np cnf 3 5\n1 0\n2 -1 0\n-2 1 0\n3 1 0\n-3 -1 0\n",
+    ),
+    // the value of 3 is 0 and not -1
+    (
+        "no-value-at-3",
+        "p cnf 3 5\n-1 2 0\n-2 1 0\n1 3 0\n-1 -3 0\n1 2 0\n",
+        "merge 65535\npropagate 65535\nstamp 1 -1 2 -2 3 -3\nset variables 2 1 0\npropagate 65535\nmerge 65535\nstamp 1 -1 2 -2 3 -3\nfailed\nsweep 65535\nrun 1\nwrite 256\nvariables\n",
+        "loaded 3 5 0\ndone 5 4 9\ndone 10 1 1\nstamped\nrefused 1 0\nrefused 1 0\nrefused 1 0\nrefused 1 0\nrefused 1 0\nrefused 1 0\nrefused 1 0\n1 1\n1 1\n-1 0\n",
+    ),
+    // the value of 3 is that of 1, though its class is -1
+    (
+        "sign-left-out",
+        "p cnf 3 5\n-1 2 0\n-2 1 0\n1 3 0\n-1 -3 0\n1 2 0\n",
+        "merge 65535\npropagate 65535\nstamp 1 -1 2 -2 3 -3\nset variables 2 1 1\npropagate 65535\nmerge 65535\nstamp 1 -1 2 -2 3 -3\nfailed\nsweep 65535\nrun 1\nwrite 256\nvariables\n",
+        "loaded 3 5 0\ndone 5 4 9\ndone 10 1 1\nstamped\nrefused 1 0\nrefused 1 0\nrefused 1 0\nrefused 1 0\nrefused 1 0\nrefused 1 0\nrefused 1 0\n1 1\n1 1\n-1 1\n",
+    ),
+    (
+        "sign-left-out-of-a-false-value",
+        "p cnf 3 5\n-1 2 0\n-2 1 0\n1 3 0\n-1 -3 0\n-2 3 0\n",
+        "merge 65535\npropagate 65535\nstamp 1 -1 2 -2 3 -3\nset variables 2 1 -1\npropagate 65535\nmerge 65535\nstamp 1 -1 2 -2 3 -3\nfailed\nsweep 65535\nrun 1\nwrite 256\nvariables\n",
+        "loaded 3 5 0\ndone 5 4 9\ndone 10 1 1\nstamped\nrefused 1 0\nrefused 1 0\nrefused 1 0\nrefused 1 0\nrefused 1 0\nrefused 1 0\nrefused 1 0\n1 -1\n1 -1\n-1 -1\n",
+    ),
+    // the value of 2 is the opposite of that of 1
+    (
+        "wrong-sign",
+        "p cnf 3 5\n-1 2 0\n-2 1 0\n1 3 0\n-1 -3 0\n1 2 0\n",
+        "merge 65535\npropagate 65535\nstamp 1 -1 2 -2 3 -3\nset variables 1 1 -1\npropagate 65535\nmerge 65535\nstamp 1 -1 2 -2 3 -3\nfailed\nsweep 65535\nrun 1\nwrite 256\nvariables\n",
+        "loaded 3 5 0\ndone 5 4 9\ndone 10 1 1\nstamped\nrefused 1 0\nrefused 1 0\nrefused 1 0\nrefused 1 0\nrefused 1 0\nrefused 1 0\nrefused 1 0\n1 1\n1 -1\n-1 -1\n",
+    ),
+    // the class has lost its value, and the others have not
+    (
+        "no-value-at-the-class",
+        "p cnf 3 5\n-1 2 0\n-2 1 0\n1 3 0\n-1 -3 0\n1 2 0\n",
+        "merge 65535\npropagate 65535\nstamp 1 -1 2 -2 3 -3\nset variables 0 1 0\npropagate 65535\nmerge 65535\nstamp 1 -1 2 -2 3 -3\nfailed\nsweep 65535\nrun 1\nwrite 256\nvariables\n",
+        "loaded 3 5 0\ndone 5 4 9\ndone 10 1 1\nstamped\nrefused 1 0\nrefused 1 0\nrefused 1 0\nrefused 1 0\nrefused 1 0\nrefused 1 0\nrefused 1 0\n1 0\n1 1\n-1 -1\n",
+    ),
+    // the class has no value, and 2 has one
+    (
+        "value-where-the-class-has-none",
+        "p cnf 3 4\n-1 2 0\n-2 1 0\n1 3 0\n-1 -3 0\n",
+        "merge 65535\nstamp 1 -1 2 -2 3 -3\nset variables 1 1 1\npropagate 65535\nmerge 65535\nstamp 1 -1 2 -2 3 -3\nfailed\nsweep 65535\nrun 1\nwrite 256\nvariables\nset variables 1 1 0\nset variables 2 1 -1\nwrite 256\nset variables 2 1 1\nwrite 256\nset variables 2 1 0\nfailed\nvariables\n",
+        "loaded 3 4 0\ndone 4 4 8\nstamped\nrefused 1 0\nrefused 1 0\nrefused 1 0\nrefused 1 0\nrefused 1 0\nrefused 1 0\nrefused 1 0\n1 0\n1 1\n-1 0\nrefused 1 0\nrefused 1 0\nfailed 0\n1 0\n1 0\n-1 0\n",
+    ),
+    // values that meet the equation and are beyond 1 and -1; beyond them at 2 alone; and the smallest number at the class
+    (
+        "value-beyond-1",
+        "p cnf 3 5\n-1 2 0\n-2 1 0\n1 3 0\n-1 -3 0\n1 2 0\n",
+        "merge 65535\npropagate 65535\nstamp 1 -1 2 -2 3 -3\nset variables 0 1 2\nset variables 1 1 2\nset variables 2 1 -2\npropagate 65535\nmerge 65535\nstamp 1 -1 2 -2 3 -3\nfailed\nsweep 65535\nrun 1\nwrite 256\nset variables 0 1 1\nset variables 2 1 -1\nwrite 256\nset variables 1 1 1\nset variables 0 1 -2147483648\nwrite 256\nset variables 0 1 1\nfailed\n",
+        "loaded 3 5 0\ndone 5 4 9\ndone 10 1 1\nstamped\nrefused 1 0\nrefused 1 0\nrefused 1 0\nrefused 1 0\nrefused 1 0\nrefused 1 0\nrefused 1 0\nrefused 1 0\nrefused 1 0\nfailed 0\n",
+    ),
+    // the shape rule comes before the mark
+    (
+        "wrong-value-under-the-mark",
+        "p cnf 3 6\n-1 2 0\n-2 1 0\n1 3 0\n-1 -3 0\n1 2 -3 0\n-1 -2 3 0\n",
+        "merge 65535\npropagate 65535\nset variables 2 1 0\npropagate 65535\nwrite 256\nset variables 2 1 -1\npropagate 65535\nwrite 256\n",
+        "loaded 3 6 0\ndone 6 4 12\ndone 6 1 2\nrefused 1 0\nrefused 1 0\nrefused 5 0\nwritten 12\np cnf 3 1\n0\n",
+    ),
+    (
+        "wrong-value-in-an-open-merge",
+        "p cnf 3 5\n-1 2 0\n-2 1 0\n1 3 0\n-1 -3 0\n1 2 0\n",
+        "merge 1\nvariables\nset variables 1 1 1\nmerge 65535\nwrite 256\nset variables 1 1 0\nmerge 65535\nvariables\n",
+        "loaded 3 5 0\nopen 1 1 2\n1 0\n1 0\n-1 0\nrefused 1 0\nrefused 1 0\ndone 4 3 7\n1 0\n1 0\n-1 0\n",
+    ),
+    (
+        "wrong-value-in-an-open-propagate",
+        "p cnf 3 5\n1 2 0\n-1 2 0\n-2 1 0\n1 3 0\n-1 -3 0\n",
+        "merge 65535\npropagate 1\nset variables 2 1 1\npropagate 65535\nwrite 256\nset variables 2 1 -1\npropagate 65535\n",
+        "loaded 3 5 0\ndone 5 4 9\nopen 1 1 1\nrefused 1 0\nrefused 1 0\ndone 9 0 0\n",
+    ),
+    // the caller gives the class a value: the tables have the shape with the last of its variables
+    (
+        "value-from-the-caller",
+        "p cnf 3 4\n-1 2 0\n-2 1 0\n1 3 0\n-1 -3 0\n",
+        "merge 65535\nset variables 0 1 -1\nwrite 256\nset variables 1 1 -1\nwrite 256\nset variables 2 1 1\nwrite 256\npropagate 65535\nmerge 65535\nstamp 1 -1 2 -2 3 -3\nfailed\nsweep 65535\nrun 1\nvariables\n",
+        "loaded 3 4 0\ndone 4 4 8\nrefused 1 0\nrefused 1 0\nwritten 43\np cnf 3 5\n-1 0\n2 -1 0\n-2 1 0\n3 1 0\n-3 -1 0\ndone 4 0 0\ndone 4 0 0\nstamped\nfailed 0\ndone 4 0 0\nran 1\n1 -1\n1 -1\n-1 1\n",
+    ),
+    // a record behind those of 1 to V has class 1, and keeps its value; with one variable more it is wrong
+    (
+        "record-behind-V",
+        "p cnf 3 5\n-1 2 0\n-2 1 0\n1 3 0\n-1 -3 0\n1 2 0\n",
+        "merge 65535\nset variables 3 0 1\npropagate 65535\nset state 0 4\nvariables\npropagate 65535\nset variables 3 1 1\npropagate 65535\nvariables\n",
+        "loaded 3 5 0\ndone 5 4 9\ndone 10 1 1\n1 1\n1 1\n-1 -1\n1 0\nrefused 1 0\ndone 5 0 0\n1 1\n1 1\n-1 -1\n1 1\n",
+    ),
+];
+
 /// Cases at the limits and on all 1,024 variables. A text that Write gives is
 /// looked at by its length alone, which the refusal of an output of 0 bytes tells.
 fn large() -> Vec<Case> {
@@ -810,6 +1056,16 @@ fn large() -> Vec<Case> {
             passes,
             "loaded 1024 1024 0\ndone 1024 1024 2048\ndone 1024 0 0\nrefused 10 18268\n",
         ),
+        // 2, 4, .. are the complement of 1, and 3, 5, .. are 1; Merge leaves the unit 1, and all records get a value
+        case(
+            "ring-of-both-signs",
+            both_signs(),
+            "merge 65535\npropagate 65535\nvariables\nwrite 0\n",
+            &format!(
+                "loaded 1024 1025 0\ndone 1025 1024 2049\ndone 2050 1 1\n{}refused 10 18272\n",
+                "1 1\n-1 -1\n".repeat(512)
+            ),
+        ),
         // as many variables, clauses and literals as there may be: the ring makes all variables equal, so that Merge leaves units and drops the rest
         case(
             "largest",
@@ -834,6 +1090,14 @@ fn rising() -> String {
 fn chain(clauses: usize, more: &str) -> Vec<u8> {
     let pairs: String = (1..1_024).map(|v| format!("-{v} {} 0\n", v + 1)).collect();
     format!("p cnf 1024 {clauses}\n{pairs}{more}").into_bytes()
+}
+
+/// The pairs by which each of 1, -2, 3, .., -1024 implies the next and the last
+/// the first, and the pair (1 -2).
+fn both_signs() -> Vec<u8> {
+    let literal = |v: i32| if v % 2 == 1 { v } else { -v };
+    let pairs = (1..=1_024).map(|v| format!("{} {} 0\n", -literal(v), literal(v % 1_024 + 1)));
+    format!("p cnf 1024 1025\n{}1 -2 0\n", pairs.collect::<String>()).into_bytes()
 }
 
 /// The clause that closes the ring, the 1,024 pairs of a variable and the one

@@ -11,7 +11,8 @@ pub fn holds(formula: &Formula) -> bool {
         && no_variable_twice(formula)
         && empty_only_under_mark(formula)
         && classes_are_smaller(formula)
-        && values_at_classes(formula)
+        && values_in_range(formula)
+        && values_are_those_of_classes(formula)
         && clauses_use_classes(formula)
         && cursor_within_pass(formula)
         && (!formula.state.fresh || stamps_are_a_forest(formula))
@@ -79,25 +80,26 @@ fn empty_only_under_mark(formula: &Formula) -> bool {
     })
 }
 
-fn is_its_own_class(formula: &Formula, variable: usize) -> bool {
-    formula.variables[variable - 1].class == variable as i32
-}
-
 /// The class of v is w or -w with w <= v and w its own class.
 fn classes_are_smaller(formula: &Formula) -> bool {
     (1..=formula.v()).all(|variable| {
         let class = formula.variables[variable - 1].class;
         let smaller = class.unsigned_abs() as usize;
-        1 <= smaller && smaller <= variable && is_its_own_class(formula, smaller)
+        1 <= smaller && smaller <= variable && formula.is_its_own_class(smaller)
     })
 }
 
-fn values_at_classes(formula: &Formula) -> bool {
-    (1..=formula.v()).all(|variable| match formula.variables[variable - 1].value {
-        0 => true,
-        1 | -1 => is_its_own_class(formula, variable),
-        _ => false,
-    })
+fn values_in_range(formula: &Formula) -> bool {
+    let records = &formula.variables[..formula.v()];
+    records
+        .iter()
+        .all(|record| (-1..=1).contains(&record.value))
+}
+
+/// The value of v is that of its class literal, sign included.
+fn values_are_those_of_classes(formula: &Formula) -> bool {
+    (1..=formula.v())
+        .all(|variable| formula.variables[variable - 1].value == formula.truth(variable as i32))
 }
 
 /// Each variable in a standing clause is its own class, save in clauses that
@@ -110,7 +112,7 @@ fn clauses_use_classes(formula: &Formula) -> bool {
         still_to_visit
             || literals
                 .iter()
-                .all(|l| is_its_own_class(formula, l.unsigned_abs() as usize))
+                .all(|l| formula.is_its_own_class(l.unsigned_abs() as usize))
     })
 }
 

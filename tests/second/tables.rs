@@ -173,6 +173,10 @@ impl Formula {
         self.clauses[record].standing = 0;
     }
 
+    pub fn is_its_own_class(&self, variable: usize) -> bool {
+        self.variables[variable - 1].class == variable as i32
+    }
+
     /// The class literal of v is its class, of -v the complement of that.
     pub fn class_literal(&self, literal: i32) -> i32 {
         let class = self.variables[literal.unsigned_abs() as usize - 1].class;
@@ -194,11 +198,14 @@ impl Formula {
         }
     }
 
-    /// Makes the literal true, by the value of its class literal.
+    /// Makes the literal true, by the value of its class literal. Then the
+    /// value of each variable is made that of its class literal, with its sign.
     pub fn make_true(&mut self, literal: i32) {
         let class = self.class_literal(literal);
-        let value = if class > 0 { 1 } else { -1 };
-        self.variables[class.unsigned_abs() as usize - 1].value = value;
+        self.variables[class.unsigned_abs() as usize - 1].value = class.signum();
+        for variable in 1..=self.v() {
+            self.variables[variable - 1].value = self.truth(variable as i32);
+        }
     }
 
     pub fn interval(&self, literal: i32) -> Interval {

@@ -111,4 +111,16 @@ impl Truth {
         }
         set
     }
+
+    /// The same with the values of the variables that are their own class, and
+    /// no others.
+    pub fn standing_by_classes(&self, formula: &Formula) -> Assignments {
+        let mut by_classes = formula.clone();
+        for variable in 1..=formula.v() {
+            if !formula.is_its_own_class(variable) {
+                by_classes.variables[variable - 1].value = 0;
+            }
+        }
+        self.standing(&by_classes)
+    }
 }

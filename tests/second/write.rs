@@ -25,8 +25,9 @@ fn text_of(formula: &Formula) -> Vec<u8> {
     text.into_bytes()
 }
 
-/// Under the mark one empty clause; else the values as units, two clauses for
-/// each variable that is not its own class, and the standing clauses.
+/// Under the mark one empty clause; else the values of the variables that are
+/// their own class as units, two clauses for each variable that is not, and the
+/// standing clauses.
 fn clauses_of(formula: &Formula) -> Vec<Vec<i32>> {
     if formula.state.mark {
         return vec![vec![]];
@@ -34,10 +35,9 @@ fn clauses_of(formula: &Formula) -> Vec<Vec<i32>> {
     let mut clauses = Vec::new();
     let variables = 1..=formula.v() as i32;
     for v in variables.clone() {
-        match formula.variables[v as usize - 1].value {
-            0 => {}
-            1 => clauses.push(vec![v]),
-            _ => clauses.push(vec![-v]),
+        let record = formula.variables[v as usize - 1];
+        if record.class == v && record.value != 0 {
+            clauses.push(vec![v * record.value]);
         }
     }
     for v in variables {

@@ -282,3 +282,11 @@ pub numbers-snoc : (k n : ℕ) → numbers k (suc n) ≡ numbers k n ++ ((k + n)
 unfolding numbers
 numbers-snoc k zero = ap (λ (i : ℕ). i ∷ []) (let e : k ≡ k + 0 = omega arith in e)
 numbers-snoc k (suc n) = ap (λ (l : List ℕ). k ∷ l) (numbers-snoc (suc k) n ∙ ap (λ (i : ℕ). numbers (suc k) n ++ (i ∷ [])) (let e : suc k + n ≡ k + suc n = omega arith in e))
+
+-- ---- lists of one length with the same entries are the same
+
+pub list-same : {A : Type 0} (d : A) (xs ys : List A) → length xs ≡ length ys → ((k : ℕ) → k < length xs → getD xs k d ≡ getD ys k d) → xs ≡ ys
+list-same d [] [] e h = refl
+list-same d [] (y ∷ ys) e h = absurd (omega (arith, e))
+list-same d (x ∷ xs) [] e h = absurd (omega (arith, e))
+list-same d (x ∷ xs) (y ∷ ys) e h = λ z. h 0 (omega arith) z ∷ list-same d xs ys (let q : length xs ≡ length ys = omega (arith, e) in q) (λ k l. h (suc k) (omega (arith, l))) z

@@ -96,8 +96,9 @@ progress-many n (suc m) made (contradicted t) = same t
 propagate-many : (fresh : Bool) (steps : ℕ) (t : Tables) (st : State) → AsMany t (propagateFrom fresh steps (begin (st .n) t) t st .tables)
 unfolding propagateFrom
 propagate-many fresh steps t st =
-    subst (AsMany t) (sym (replied-tables fresh (t .clauses) st (propagateVisits (st .n) steps 0 (begin (st .n) t) .visits) (propagateVisits (st .n) steps 0 (begin (st .n) t) .progress)))
-    (subst (λ (x : Tables). AsMany x (tablesAt (propagateVisits (st .n) steps 0 (begin (st .n) t) .progress))) (begin-tables (st .n) t) (progress-many (st .n) steps 0 (begin (st .n) t)))
+    let q = propagateVisits (st .n) steps 0 (begin (st .n) t) in
+    let S = subst (AsMany t) (sym (replied-tables fresh (t .clauses) st (q .visits) (q .progress))) (subst (λ (x : Tables). AsMany x (tablesAt (q .progress))) (begin-tables (st .n) t) (progress-many (st .n) steps 0 (begin (st .n) t))) in
+    record { times = S .times; links = S .links }
 
 -- ---- Merge and Settle
 

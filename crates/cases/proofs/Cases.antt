@@ -1,4 +1,4 @@
--- The pallet cases P1 to P11 of document 01, and behind them the case of document 02's CR 2, as a single lemma over a list of cases, by computation. Assumes nothing.
+-- The pallet cases P1 to P11 of document 01, and behind them cases of document 02's CR 2 and CR 4, as a single lemma over a list of cases, by computation. Assumes nothing.
 use Prim.Native.Nat.{ℕ}
 use native.Mathlib.Decide.{ℕ-discrete, decLe, decLt}
 use mathlib.Core.Path.{refl}
@@ -18,7 +18,7 @@ use Rattle.tables.specs.Long.{long?, longOk}
 use Rattle.tables.specs.Clauses.{slotsAt, slotsFrom, standingCount, literalCount}
 use Rattle.tables.specs.Fates.{shortened, droppedAt, fateAt, visits}
 use Rattle.tables.specs.Passes.{advance, firstUnsettled}
-use Rattle.shape.specs.Decision.{parts?, literals?, variable?, cursor?, clauses?, shape?, shapeOk}
+use Rattle.shape.specs.Decision.{parts?, literals?, variable?, spread?, cursor?, clauses?, shape?, shapeOk}
 use Rattle.entry.specs.Entry.{entryOf, openingOf}
 use Rattle.dimacs.specs.Words.{wordsAt}
 use Rattle.dimacs.specs.Header.{header, headerRest}
@@ -26,6 +26,7 @@ use Rattle.dimacs.specs.Text.{judge, judgeText, clausesOf}
 use Rattle.load.specs.Load.{clauseRecords, literalPlaces, variableRecords, laid, loadCall}
 use Rattle.printing.specs.Printing.{digits, clauseText, clausesText, textOf}
 use Rattle.write.specs.Write.{writtenClauses, writeText, writeCall}
+use Rattle.spread.specs.Spread.{spreadFrom, spread}
 use Rattle.propagate.specs.Propagate.{propagateFrom, propagateCall}
 use Rattle.propagate_visits.specs.Visits.{propagateClause, propagateVisit, propagateVisits}
 use Rattle.merge.specs.Merge.{clashes, representative, regrouped, mergedClasses, mergeOpen, mergeSettled, mergeCall}
@@ -40,7 +41,7 @@ use Rattle.settle.specs.Settle.{settleFor, settle}
 use Rattle.round_order.specs.Order.{orderOf}
 use Rattle.run.specs.Run.{follow, round, unchanged, runFrom, runCall}
 use Rattle.simplify.specs.Texts.{simplifyText, unhideText}
-use Rattle.call_lists.specs.Lists.{merge, stamp, failed, sweep, stepOn, stepsOn}
+use Rattle.call_lists.specs.Lists.{propagate, merge, stamp, failed, sweep, stepOn, stepsOn}
 use Rattle.base.specs.Bytes.{bytes}
 use Rattle.cases.specs.Case.{Case, calls, prints, Seen, All}
 
@@ -57,6 +58,9 @@ loaded = reply 1 0 []
 
 abbrev done : ℕ → ℕ → ℕ → Reply
 done visits clauses literals = reply 3 0 (visits ∷ clauses ∷ literals ∷ [])
+
+abbrev leaves : ℕ → ℕ → ℕ → Reply
+leaves visits clauses literals = reply 2 0 (visits ∷ clauses ∷ literals ∷ [])
 
 abbrev stamped : Reply
 stamped = reply 4 0 []
@@ -147,8 +151,19 @@ cases =
     calls "p cnf 3 4\n1 2 0\n1 -2 0\n1 3 0\n2 3 0\n" (stamp order₃ ∷ sweep 4 ∷ [])
     (sees (loaded ∷ stamped ∷ done 4 1 4 ∷ []) false (0 ∷ 1 ∷ 1 ∷ 2 ∷ 1 ∷ 1 ∷ 4 ∷ 0 ∷ 0 ∷ 6 ∷ 2 ∷ 1 ∷ []) (pos 1 ∷ pos 0 ∷ pos 1 ∷ pos 0 ∷ pos 0 ∷ pos 0 ∷ pos 2 ∷ pos 3 ∷ []) (pos 1 ∷ pos 0 ∷ pos 2 ∷ pos 0 ∷ pos 3 ∷ pos 0 ∷ []) (3 ∷ 4 ∷ 1 ∷ 10 ∷ 2 ∷ 5 ∷ 6 ∷ 9 ∷ 7 ∷ 8 ∷ 11 ∷ 12 ∷ []) (pos 2 ∷ negsuc 0 ∷ negsuc 0 ∷ negsuc 0 ∷ negsuc 0 ∷ negsuc 0 ∷ negsuc 0 ∷ negsuc 0 ∷ negsuc 1 ∷ negsuc 0 ∷ negsuc 2 ∷ negsuc 2 ∷ [])
     (bytes "p cnf 3 3\n1 0\n1 0\n2 3 0\n"))
+    ∷
+    -- document 02, CR 4: P9's classes 1, 1, −1, 1; Propagate finds the unit 1, and every variable has its value; Write gives the one unit
+    calls "p cnf 4 5\n2 3 0\n-3 -1 0\n1 2 0\n-2 4 0\n-4 1 0\n" (merge 5 ∷ propagate 3 ∷ [])
+    (sees (loaded ∷ done 5 4 9 ∷ leaves 3 1 1 ∷ []) false (0 ∷ 0 ∷ 0 ∷ 2 ∷ 0 ∷ 0 ∷ 4 ∷ 0 ∷ 0 ∷ 6 ∷ 0 ∷ 0 ∷ 8 ∷ 0 ∷ 0 ∷ []) (pos 0 ∷ pos 0 ∷ pos 0 ∷ pos 0 ∷ pos 0 ∷ []) (pos 1 ∷ pos 1 ∷ pos 1 ∷ pos 1 ∷ negsuc 0 ∷ negsuc 0 ∷ pos 1 ∷ pos 1 ∷ []) [] []
+    (bytes "p cnf 4 7\n1 0\n2 -1 0\n-2 1 0\n3 1 0\n-3 -1 0\n4 -1 0\n-4 1 0\n"))
+    ∷
+    -- classes 1, 1, 3, −1; 1 fails, one value is counted, and 2 and 4 have theirs
+    calls "p cnf 4 6\n-1 2 0\n-2 1 0\n1 4 0\n-1 -4 0\n-1 3 0\n-1 -3 0\n" (merge 6 ∷ stamp order₄ ∷ failed ∷ [])
+    (sees (loaded ∷ done 6 4 8 ∷ stamped ∷ sets 1 ∷ []) false (0 ∷ 0 ∷ 0 ∷ 2 ∷ 0 ∷ 0 ∷ 4 ∷ 0 ∷ 0 ∷ 6 ∷ 0 ∷ 0 ∷ 8 ∷ 2 ∷ 1 ∷ 10 ∷ 2 ∷ 1 ∷ []) (pos 0 ∷ pos 0 ∷ pos 0 ∷ pos 0 ∷ pos 0 ∷ pos 0 ∷ pos 0 ∷ pos 0 ∷ negsuc 0 ∷ pos 3 ∷ negsuc 0 ∷ negsuc 2 ∷ [])
+    (pos 1 ∷ negsuc 0 ∷ pos 1 ∷ negsuc 0 ∷ pos 3 ∷ pos 0 ∷ negsuc 0 ∷ pos 1 ∷ []) [] []
+    (bytes "p cnf 4 7\n-1 0\n2 -1 0\n-2 1 0\n4 1 0\n-4 -1 0\n-1 3 0\n-1 -3 0\n"))
     ∷ []
 
 pub hold : All cases
-unfolding and? or? if? not? so? every? eqᵇ? eqℤ? any filter absent first anyBelow allBelow sameList numbers turned evens odds interleave twin arrive leave edge edges enters startWalk stampAll outs froms tos reaches connected cyclic leastMutual literal? holds? times? parent? start? nested? fresh? long? longOk slotsAt slotsFrom standingCount literalCount shortened droppedAt fateAt visits advance firstUnsettled parts? literals? variable? cursor? clauses? shape? shapeOk entryOf openingOf wordsAt header headerRest judge judgeText clausesOf clauseRecords literalPlaces variableRecords laid loadCall digits clauseText clausesText textOf writtenClauses writeText writeCall propagateClause propagateVisit propagateVisits propagateFrom propagateCall clashes representative regrouped mergedClasses mergeClause mergeOpen mergeSettled mergeCall holds insert byDiscovery scanAt scan figure6 transitive hiddenPair hiddenTautology unhidden shorten sameStart holdsBoth lowest failedSlot firstBad stampsOf stampedTables stampAcyclic stampSettled stampOrdered stampCall failedAt failedFrom failedFresh failedCall sweepClause sweepCall settleFor settle orderOf follow round unchanged runFrom runCall simplifyText unhideText stepOn stepsOn ℕ-discrete decLe decLt
-hold = (refl, (refl, (refl, (refl, (refl, (refl, (refl, (refl, (refl, (refl, (refl, (refl, (refl, (refl, (refl, (refl, tt))))))))))))))))
+unfolding and? or? if? not? so? every? eqᵇ? eqℤ? any filter absent first anyBelow allBelow sameList numbers turned evens odds interleave twin arrive leave edge edges enters startWalk stampAll outs froms tos reaches connected cyclic leastMutual literal? holds? times? parent? start? nested? fresh? long? longOk slotsAt slotsFrom standingCount literalCount shortened droppedAt fateAt visits advance firstUnsettled parts? literals? variable? spread? cursor? clauses? shape? shapeOk entryOf openingOf wordsAt header headerRest judge judgeText clausesOf clauseRecords literalPlaces variableRecords laid loadCall digits clauseText clausesText textOf writtenClauses writeText writeCall propagateClause propagateVisit propagateVisits spreadFrom spread propagateFrom propagateCall clashes representative regrouped mergedClasses mergeClause mergeOpen mergeSettled mergeCall holds insert byDiscovery scanAt scan figure6 transitive hiddenPair hiddenTautology unhidden shorten sameStart holdsBoth lowest failedSlot firstBad stampsOf stampedTables stampAcyclic stampSettled stampOrdered stampCall failedAt failedFrom failedFresh failedCall sweepClause sweepCall settleFor settle orderOf follow round unchanged runFrom runCall simplifyText unhideText stepOn stepsOn ℕ-discrete decLe decLt
+hold = (refl, (refl, (refl, (refl, (refl, (refl, (refl, (refl, (refl, (refl, (refl, (refl, (refl, (refl, (refl, (refl, (refl, (refl, tt))))))))))))))))))

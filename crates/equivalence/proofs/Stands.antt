@@ -1,15 +1,18 @@
 -- THE THEOREM on Write: an assignment satisfies what stands exactly if it satisfies the clauses that Write gives. Under the mark none satisfies either. Assumes nothing.
-use Prim.Native.Nat.{ℕ, _+_, _<_}
+use Prim.Native.Nat.{ℕ, zero, suc, _+_, _-_, _<_}
 use native.Mathlib.Omega.{arith}
-use mathlib.Core.Path.{_≡_, refl, sym, subst}
-use mathlib.Core.Bool.{Bool, true, false, false≢true}
+use mathlib.Core.Path.{_≡_, refl, sym, ap, _∙_, subst}
+use mathlib.Core.Bool.{Bool, true, false, not, false≢true}
 use mathlib.Core.Logic.{_↔_}
 use mathlib.Core.List.{List, _++_}
-use lib.IntN.{ℤ, pos, negsuc}
+use lib.IntN.{ℤ, pos, negsuc, negℤ, natAbs}
+use lib.Signed.{nonNeg}
 use Rattle.base.proofs.Booleans.{clash}
-use Rattle.literal.specs.Assignments.{Assignment, trueUnder, someTrue, Satisfies}
+use Rattle.literal.specs.Literals.{signBy}
+use Rattle.literal.specs.Assignments.{Assignment, truthBy, trueUnder, someTrue, Satisfies}
 use Rattle.state.specs.declared.State.{State}
 use Rattle.tables.specs.Tables.{Tables, standing, classOf, valueOf}
+use Rattle.tables.specs.Values.{ownTruth}
 use Rattle.tables.specs.Clauses.{literalsOf}
 use Rattle.tables.specs.Stands.{Stands}
 use Rattle.shape.specs.Shape.{Shape}
@@ -19,6 +22,23 @@ use Rattle.write.proofs.Bounds.{ready}
 use Rattle.write.proofs.Text.{written-marked, written-unmarked}
 use Rattle.equivalence.proofs.Satisfying.{satisfies-both, satisfies-each, gathered-satisfies, satisfies-gathered}
 use Rattle.equivalence.proofs.Records.{own-unit-says, class-says, clause-says}
+
+-- ---- a value carried to another variable
+
+neg-one : (x : ℤ) → negℤ x ≡ pos 1 → x ≡ negsuc 0
+neg-one (pos zero) e = absurd (let z : _≡_ {A = ℕ} 0 1 = cc in omega arith)
+neg-one (pos (suc n)) e = absurd (let z : _≡_ {A = ℕ} 0 1 = cc in omega arith)
+neg-one (negsuc n) e = cc
+
+neg-minus : (x : ℤ) → negℤ x ≡ negsuc 0 → x ≡ pos 1
+neg-minus (pos zero) e = absurd (let z : _≡_ {A = ℕ} 0 1 = cc in omega arith)
+neg-minus (pos (suc n)) e = cc
+neg-minus (negsuc n) e = absurd (let z : _≡_ {A = ℕ} 0 1 = cc in omega arith)
+
+-- a value and a truth that agree, with the same sign carried to both
+carried : (s : Bool) (x : ℤ) (b : Bool) → (x ≡ pos 1 → b ≡ true) × (x ≡ negsuc 0 → b ≡ false) → (signBy s x ≡ pos 1 → truthBy s b ≡ true) × (signBy s x ≡ negsuc 0 → truthBy s b ≡ false)
+carried true x b f = f
+carried false x b f = (λ e. ap not (f .1 (neg-one x e)), λ e. ap not (f .0 (neg-minus x e)))
 
 module _ (t : Tables) (st : State) (S : Shape t st) (τ : Assignment) where
   -- ---- the units, the class clauses and the standing clauses of all records
@@ -51,12 +71,21 @@ module _ (t : Tables) (st : State) (S : Shape t st) (τ : Assignment) where
   clause-at : (i : ℕ) → i < st .n → Satisfies τ (writtenAt (t .clauses) (t .literals) i) ↔ (standing (t .clauses) i ≡ 1 → someTrue τ (literalsOf (t .clauses) (t .literals) i) ≡ true)
   clause-at i h = clause-says τ (standing (t .clauses) i) (literalsOf (t .clauses) (t .literals) i) (S .clauses .parts .flag i h)
 
-  -- a variable has its value if those that are their own class have theirs and each equals its class literal. Only here does it matter what the record of a variable with another's class says of its value: it says 0
+  -- a variable has its value if those that are their own class have theirs and each equals its class literal, since its value is that of its class literal
   values-follow : ((u : ℕ) → u < st .v → Own u → Valued u) → ((u : ℕ) → u < st .v → Classed u) → (w : ℕ) → w < st .v → Valued w
-  values-follow valued classed w h = (
-    λ e. valued w h (S .variables w h .valued (λ z. let n : _≡_ {A = ℕ} 0 1 = cc in omega arith)) .0 e,
-    λ e. valued w h (S .variables w h .valued (λ z. let n : _≡_ {A = ℕ} 0 1 = cc in omega arith)) .1 e,
-  )
+  values-follow valued classed w h = (λ e. classed w h ∙ says .0 (sym (S .values w h) ∙ e), λ e. classed w h ∙ says .1 (sym (S .values w h) ∙ e))
+    where
+      c : ℤ
+      c = classOf (t .variables) (w + 1)
+
+      place : natAbs c - 1 + 1 ≡ natAbs c
+      place = omega (arith, S .variables w h .class .above)
+
+      own : Valued (natAbs c - 1)
+      own = valued (natAbs c - 1) (omega (arith, S .variables w h .class .above, S .variables w h .class .within)) (rw place (S .variables w h .own))
+
+      says : (ownTruth (t .variables) c ≡ pos 1 → trueUnder τ c ≡ true) × (ownTruth (t .variables) c ≡ negsuc 0 → trueUnder τ c ≡ false)
+      says = carried (nonNeg c) (valueOf (t .variables) (natAbs c)) (τ (natAbs c)) (rw place at own)
 
   formula-stands : st .mark ≡ false → Stands t st τ ↔ Satisfies τ (formula (t .clauses) (t .literals) (t .variables) (st .v) (st .n))
   formula-stands off = (

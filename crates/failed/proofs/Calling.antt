@@ -1,6 +1,7 @@
 -- The call: its answer by what it found, and each way of its entry is a way of `failedCall`. Assumes nothing.
 use Prim.Native.Nat.{_*_}
-use mathlib.Core.Path.{_≡_, sym, ap}
+use native.Mathlib.Omega.{arith}
+use mathlib.Core.Path.{_≡_, sym, ap, subst}
 use mathlib.Core.Bool.{Bool, true, false}
 use mathlib.Core.List.{List}
 use lib.IntN.{ℤ}
@@ -9,17 +10,20 @@ use Rattle.state.specs.declared.State.{State}
 use Rattle.state.specs.declared.Refusal.{Refusal}
 use Rattle.state.specs.declared.Refusal.the-variants.{Stale}
 use Rattle.state.specs.declared.Answer.the-variants.{Failed}
-use Rattle.tables.specs.Tables.{Tables}
+use Rattle.tables.specs.Tables.{Tables, withVariables}
 use Rattle.tables.specs.Calls.{answered, refuse}
 use Rattle.shape.specs.Shape.{Shape}
 use Rattle.entry.specs.Entry.{openingOf}
 use Rattle.entry.specs.declared.Opening.{Opening}
 use Rattle.entry.specs.declared.Opening.the-variants.{Denied, Granted}
 use Rattle.entry.proofs.Entering.{granted-entered}
+use Rattle.visits.specs.Formed.{Variables}
 use Rattle.visits.proofs.Entered.{entered-formed}
-use Rattle.failed.specs.Failed.{Found, found, failedFrom, withVariables, stateAfter, failedReply, failedFresh, failedUnlessStale, failedBy, failedCall}
+use Rattle.spread.specs.Spread.{spreadBehind}
+use Rattle.failed.specs.Failed.{Found, found, failedFrom, stateAfter, failedReply, failedFresh, failedUnlessStale, failedBy, failedCall}
 use Rattle.failed.specs.Steps.{foundOf, FullStamps, Callable}
 use Rattle.failed.specs.declared.Tally.{Tally}
+use Rattle.failed.proofs.Valuing.{failed-kept}
 
 -- the shape rule says of fresh stamps what the functions ask
 pub shape-stamped : {t : Tables} {st : State} → Shape t st → st .fresh ≡ true → FullStamps (st .v) (t .times) (t .links)
@@ -28,9 +32,13 @@ shape-stamped S f = record { few = S .v-limit; times-room = S .long .times; link
 -- ---- the answer
 
 module _ (t : Tables) (st : State) (r : Tally) (vs : List ℤ) (is : foundOf r vs ≡ failedFrom (columns (t .times) (t .links)) (2 * st .v) (st .v) 0 (found (t .variables) 0 false)) where
-  pub fresh-replied : answered (Failed (r .set)) (stateAfter (r .opposite) st) (withVariables vs t) ≡ failedFresh t st
+  pub fresh-replied : spreadBehind (st .v) (answered (Failed (r .set)) (stateAfter (r .opposite) st) (withVariables vs t)) ≡ failedFresh t st
   unfolding failedFresh
-  fresh-replied = ap (λ (f : Found). failedReply f t st) is
+  fresh-replied = ap (λ (f : Found). spreadBehind (st .v) (failedReply f t st)) is
+
+  -- the records before the values are spread
+  pub found-rows : FullStamps (st .v) (t .times) (t .links) → Variables (st .v) (t .variables) → Variables (st .v) vs
+  found-rows S R = subst (Variables (st .v)) (sym (ap (λ (f : Found). f .variables) is)) (failed-kept S (st .v) 0 (omega arith) (found (t .variables) 0 false) R .rows)
 
 -- ---- fresh or not
 

@@ -1,4 +1,4 @@
--- Failed keeps the shape rule: it sets values only, each at a variable that is its own class.
+-- Failed keeps the shape rule: it sets values only, each at a variable that is its own class, and then spreads them.
 --     fresh-shape      on fresh stamps
 --     failed-shape     the whole call
 -- Assumes nothing.
@@ -10,7 +10,7 @@ use Rattle.stamp_columns.specs.Columns.{columns}
 use Rattle.state.specs.States.{closed, marked}
 use Rattle.state.specs.declared.State.{State}
 use Rattle.state.specs.declared.Pass.the-variants.{Idle}
-use Rattle.tables.specs.Tables.{Tables}
+use Rattle.tables.specs.Tables.{Tables, withVariables}
 use Rattle.shape.specs.Shape.{Shape}
 use Rattle.entry.specs.Entry.{openingOf}
 use Rattle.entry.specs.declared.Opening.{Opening}
@@ -19,7 +19,9 @@ use Rattle.entry.proofs.Entering.{Entered, granted-entered}
 use Rattle.visits.specs.Formed.{Formed}
 use Rattle.visits.proofs.Forming.{formed-values, formed-marked, formed-shape}
 use Rattle.visits.proofs.Entered.{entered-formed}
-use Rattle.failed.specs.Failed.{Found, found, failedFrom, withVariables, failedFresh, failedUnlessStale, failedBy, failedCall}
+use Rattle.spread.specs.Spread.{spread}
+use Rattle.spread.proofs.Spreading.{spread-done, spread-formed}
+use Rattle.failed.specs.Failed.{Found, found, failedFrom, failedFresh, failedUnlessStale, failedBy, failedCall}
 use Rattle.failed.specs.Steps.{FullStamps}
 use Rattle.failed.proofs.Valuing.{Kept, failed-kept}
 use Rattle.failed.proofs.Calling.{shape-stamped}
@@ -35,12 +37,15 @@ module _ (t : Tables) (st : State) where
       K : Kept (st .v) (t .variables) (f .variables)
       K = failed-kept S (st .v) 0 (omega arith) (found (t .variables) 0 false) (F .vars)
 
-      G : Formed (st .v) (st .n) (st .n) false (t .clauses) (t .literals) (f .variables)
-      G = formed-values F (K .classes) (K .rows)
+      after : Tables
+      after = withVariables (spread (st .v) (f .variables)) t
 
-      go : (b : Bool) → Shape (withVariables (f .variables) t) (elim b as (λ x. State) [ true ↦ marked st | false ↦ closed true st ])
-      go true = formed-shape (withVariables (f .variables) t) (marked st) (formed-marked G) (S .times-room) (S .links-room) tt (λ e. S .fresh)
-      go false = formed-shape (withVariables (f .variables) t) (closed true st) G (S .times-room) (S .links-room) tt (λ e. S .fresh)
+      G : Formed (st .v) (st .n) (st .n) false (t .clauses) (t .literals) (spread (st .v) (f .variables))
+      G = spread-formed (formed-values F (K .classes) (K .rows))
+
+      go : (b : Bool) → Shape after (elim b as (λ x. State) [ true ↦ marked st | false ↦ closed true st ])
+      go true = formed-shape after (marked st) (formed-marked G) (S .times-room) (S .links-room) (spread-done (K .rows)) tt (λ e. S .fresh)
+      go false = formed-shape after (closed true st) G (S .times-room) (S .links-room) (spread-done (K .rows)) tt (λ e. S .fresh)
 
   entered-shape : Entered Idle t st → (b : Bool) → st .fresh ≡ b → Shape (failedUnlessStale b t st .tables) (failedUnlessStale b t st .state)
   entered-shape E true e = fresh-shape (entered-formed E tt) (shape-stamped (E .shape) e)

@@ -1,5 +1,6 @@
 -- Document 01: "Failed is whole in one call. For each variable in rising order whose two literals have the same start: the literal whose interval holds both and which holds no other such literal has failed, and its complement's value is set.
--- The opposite value already there sets the mark and ends the call. It answers how many values it set." A value that is there already with the same sign is not counted. Assumes nothing: these are definitions.
+-- The opposite value already there sets the mark and ends the call. It answers how many values it set." A value that is there already with the same sign is not counted.
+-- Change request 4: "The value of v is that of its class literal, sign included, after every accepted call. .. Failed still counts, only for variables that are their own class": a value is set at a class literal, and counted there. Assumes nothing: these are definitions.
 use Prim.Native.Nat.{ℕ, zero, suc, _*_}
 use mathlib.Core.Bool.{Bool, true, false}
 use mathlib.Core.List.{List}
@@ -13,9 +14,10 @@ use Rattle.state.specs.declared.State.{State}
 use Rattle.state.specs.declared.Pass.the-variants.{Idle}
 use Rattle.state.specs.declared.Refusal.the-variants.{Stale}
 use Rattle.state.specs.declared.Answer.the-variants.{Failed}
-use Rattle.tables.specs.Tables.{Tables, tables}
+use Rattle.tables.specs.Tables.{Tables, withVariables}
 use Rattle.tables.specs.Values.{isTrue, isFalse, setTrue}
 use Rattle.tables.specs.Calls.{After, answered, refuse}
+use Rattle.spread.specs.Spread.{spreadBehind}
 use Rattle.entry.specs.Entry.{openingOf}
 use Rattle.entry.specs.declared.Opening.{Opening}
 use Rattle.entry.specs.declared.Opening.the-variants.{Denied, Granted}
@@ -44,9 +46,6 @@ failedFrom σ size (suc m) w f = elim (f .opposite) [ true ↦ f | false ↦ fai
 
 -- ---- the call
 
-abbrev pub withVariables : List ℤ → Tables → Tables
-withVariables variables t = tables (t .clauses) (t .literals) variables (t .times) (t .links)
-
 -- the opposite value sets the mark; otherwise the stamps stay fresh
 abbrev pub stateAfter : Bool → State → State
 stateAfter opposite st = elim opposite [ true ↦ marked st | false ↦ closed true st ]
@@ -54,8 +53,9 @@ stateAfter opposite st = elim opposite [ true ↦ marked st | false ↦ closed t
 abbrev pub failedReply : Found → Tables → State → After
 failedReply f t st = answered (Failed (f .set)) (stateAfter (f .opposite) st) (withVariables (f .variables) t)
 
+-- the literals that have failed, and behind them the values are spread
 unfoldable pub failedFresh : Tables → State → After
-failedFresh t st = failedReply (failedFrom (columns (t .times) (t .links)) (2 * st .v) (st .v) 0 (found (t .variables) 0 false)) t st
+failedFresh t st = spreadBehind (st .v) (failedReply (failedFrom (columns (t .times) (t .links)) (2 * st .v) (st .v) 0 (found (t .variables) 0 false)) t st)
 
 abbrev pub failedUnlessStale : Bool → Tables → State → After
 failedUnlessStale true t st = failedFresh t st

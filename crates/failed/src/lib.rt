@@ -132,7 +132,7 @@ fn state_after(st: State, opposite: bool) -> State
     st.closed(true)
 }
 
-// The call on fresh stamps, for every content of the clause and literal tables, which it does not read.
+// The call on fresh stamps, for every content of the clause and literal tables, which it does not read. Values are set at class literals, and then every variable gets its own.
 fn failed_fresh(variables: &mut [i32], times: &[u32], links: &[i32], st: State) -> Outcome
     requires { ⌜ FullStamps (st .v) (now times) (now links) × Variables (st .v) (now variables) ⌝ }
     ensures { λ r. ⌜ ((clauses : List ℕ) (literals : List ℤ) → after r (returned (unlent clauses) (unlent literals) variables times links)
@@ -140,6 +140,7 @@ fn failed_fresh(variables: &mut [i32], times: &[u32], links: &[i32], st: State) 
 {
     let v = st.v;
     let tally = fail_from(variables, times, links, v);
+    spread::spread(variables, v);
     let state = state_after(st, tally.opposite);
     Outcome {
         answer: Answer::Failed(tally.set),

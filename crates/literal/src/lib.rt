@@ -4,7 +4,8 @@ ghost use mathlib.Core.List.{_++_};
 ghost use Prim.Native.Nat.{_<_, _≤_, _-_};
 ghost use lib.ListN.{length, take, replicate};
 ghost use lib.IntN.{natAbs, negℤ, pos};
-ghost use Rattle.literal.specs.Literals.{Small, inRange, slotOf, litAt, twin};
+ghost use lib.Signed.{nonNeg};
+ghost use Rattle.literal.specs.Literals.{Small, inRange, signBy, slotOf, litAt, twin};
 
 // Whether l is a literal of the variables 1 to v; the smallest i32 is none.
 pub fn in_range(l: i32, v: u32) -> bool
@@ -36,6 +37,14 @@ pub fn var_of(l: i32) -> usize
     ensures { λ r. ⌜ r ≡ natAbs l ⌝ }
 {
     if l < 0 { (-l) as usize } else { l as usize }
+}
+
+// A number that is kept for the variable of l, a class or a value, with the sign of l. By the shape rule neither is the smallest i32.
+pub fn signed_by(l: i32, x: i32) -> i32
+    requires { ⌜ Small x ⌝ }
+    ensures { λ r. ⌜ r ≡ signBy (nonNeg l) x ⌝ }
+{
+    if l < 0 { -x } else { x }
 }
 
 // The slot of a literal, which is not 0 and not the smallest i32, as `in_range` or the shape rule has it. The variable is taken before the

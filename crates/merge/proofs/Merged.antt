@@ -10,13 +10,14 @@ use mathlib.Core.List.{List, [], _∷_, List·Memᴰ, List·Memᴰ·head, List·
 use lib.ListN.{length, getD, drop}
 use lib.Seq.{getD-take, getD-drop}
 use lib.Dec.{eqb}
-use lib.IntN.{ℤ, pos, negℤ, natAbs}
+use lib.IntN.{ℤ, pos, negsuc, negℤ, natAbs}
+use lib.Signed.{nonNeg}
 use borrow.Author.Tests.{lt-ltb, ltb-true, eq-eqb}
 use Rattle.base.specs.Decide.{same-or}
 use Rattle.base.specs.Lists.{any}
 use Rattle.base.proofs.Lists.{any-here, any-next}
 use Rattle.base.proofs.Searches.{first-found}
-use Rattle.literal.specs.Literals.{slotOf, litAt, twin}
+use Rattle.literal.specs.Literals.{Literal, slotOf, litAt, twin, signBy}
 use Rattle.literal.proofs.Signed.{abs-neg, ne-eqZ}
 use Rattle.literal.proofs.Laws.{lit-slot, lit-var, slot-twin, slot-below, slot-variable}
 use Rattle.literal.proofs.Twins.{twin-odd}
@@ -29,9 +30,10 @@ use Rattle.scc.specs.Groups.{leastMutual, Representative}
 use Rattle.scc.proofs.Least.{least-mutual}
 use Rattle.scc.proofs.Classes.{same-rep, twin-rep}
 use Rattle.tables.specs.Tables.{Tables, startOf, lengthOf, standing, variableAt, classOf, valueOf}
+use Rattle.tables.specs.Values.{ownTruth}
 use Rattle.tables.specs.Clauses.{literalsOf, slotsFrom}
 use Rattle.tables.specs.Passes.{valued, unsettled, firstUnsettled}
-use Rattle.shape.specs.Shape.{Variable}
+use Rattle.shape.specs.Shape.{Variable, Spread}
 use Rattle.visits.specs.Formed.{Formed}
 use Rattle.visits.proofs.Forming.{part-length, stands-one}
 use Rattle.visits.proofs.StoreKeeps.{FormedTo}
@@ -108,6 +110,21 @@ module _ {v n : ℕ} (t : Tables) (F : Formed v n n false (t .clauses) (t .liter
   unfolding firstUnsettled
   no-value d = omega (arith, settled, lt, first-found (unsettled t) n 0 i (omega arith) (omega arith) (unsettled-here d) .1)
 
+-- ---- no value
+
+not-other : (z : ℤ) → ((z ≡ pos 0 → ⊥) → ⊥) → z ≡ pos 0
+not-other (pos zero) h = refl
+not-other (pos (suc n)) h = absurd (h (λ e. omega (arith, ap natAbs e)))
+not-other (negsuc n) h = absurd (h (λ e. omega (arith, ap natAbs e)))
+
+-- a literal whose variable, by another name, has no value
+pub own-none : (w : List ℤ) (c : ℤ) {u : ℕ} → natAbs c ≡ u → ((valueOf w u ≡ pos 0 → ⊥) → ⊥) → ownTruth w c ≡ pos 0
+own-none w c {u} e h = ap (signBy (nonNeg c)) (ap (valueOf w) e ∙ not-other (valueOf w u) h) ∙ signed (nonNeg c)
+  where
+    signed : (b : Bool) → signBy b (pos 0) ≡ pos 0
+    signed true = refl
+    signed false = refl
+
 -- ---- the new classes
 
 module _ {v n : ℕ} (t : Tables) (F : Formed v n n false (t .clauses) (t .literals) (t .variables)) where
@@ -142,6 +159,10 @@ module _ {v n : ℕ} (t : Tables) (F : Formed v n n false (t .clauses) (t .liter
 
   pub variable-new : (u : ℕ) → u < v → natAbs (classOf new (u + 1)) ≡ rep (slotOf (classOf old (u + 1))) / 2 + 1
   variable-new u lt = ap natAbs (class-new u lt) ∙ lit-var (rep (slotOf (classOf old (u + 1))))
+
+  -- values stay
+  pub truth-new : (s : ℕ) → ownTruth new (litAt s) ≡ ownTruth old (litAt s)
+  truth-new s = ap (signBy (nonNeg (litAt s))) (ap (valueOf new) (lit-var s) ∙ regrouped-value (representative adj v) v old (s / 2) ∙ ap (valueOf old) (sym (lit-var s)))
 
   module _ (none : clashes adj v ≡ false) (settled : firstUnsettled t n ≡ n) where
     -- a slot that reaches another had no value
@@ -197,17 +218,6 @@ module _ {v n : ℕ} (t : Tables) (F : Formed v n n false (t .clauses) (t .liter
           (λ (d : r ≡ slotOf class → ⊥). moved-own (R .back) d)
           (same-or r (slotOf class))
 
-      own-slot : slotOf (pos (u + 1)) ≡ 2 * u
-      own-slot = omega arith
-
-      -- a variable with a value is no part of the graph
-      unmoved : (valueOf old (u + 1) ≡ pos 0 → ⊥) → rep (2 * u) ≡ 2 * u
-      unmoved d =
-          ⊎-elim
-          (λ (e : 2 * u ≡ rep (2 * u)). sym e)
-          (λ (m : 2 * u ≡ rep (2 * u) → ⊥). absurd (moved-unvalued (edges-least (2 * u) (omega arith) .there) m (λ e. d (subst (λ (k : ℕ). valueOf old k ≡ pos 0) (let q : 2 * u / 2 + 1 ≡ u + 1 = omega arith in q) e))))
-          (same-or (2 * u) (rep (2 * u)))
-
       merged-variable : Variable new (u + 1)
       merged-variable = record {
         class = record {
@@ -218,14 +228,26 @@ module _ {v n : ℕ} (t : Tables) (F : Formed v n n false (t .clauses) (t .liter
             subst (λ (x : ℕ). classOf new x ≡ pos x) (sym new-variable)
             (own-stays r (R .below) (sym (same-rep adj (2 * v) edges-skew (slotOf class) r slot-in (R .below) .1 (R .there) (R .back))) r-own);
         value = subst (λ (z : ℤ). natAbs z ≤ 1) (sym (regrouped-value (representative adj v) v old u)) (X .value);
-        valued = λ h.
-            let d : valueOf old (u + 1) ≡ pos 0 → ⊥ = λ e. h (regrouped-value (representative adj v) v old u ∙ e) in
-            class-new u lt
-            ∙ ap (λ (z : ℤ). litAt (rep (slotOf z))) (X .valued d)
-            ∙ ap (λ (k : ℕ). litAt (rep k)) own-slot
-            ∙ ap litAt (unmoved d ∙ sym own-slot)
-            ∙ lit-slot (pos (u + 1)) (omega arith);
       }
+
+    -- a literal that gets another class literal had no value, and neither had that: the value of a class literal stays
+    pub value-kept : (c : ℤ) → Literal v c → ownTruth old c ≡ ownTruth old (litAt (rep (slotOf c)))
+    value-kept c L =
+        let s : ℕ = slotOf c in
+        let G : Representative adj (2 * v) s (rep s) = edges-least s (slot-below c v (L .above) (L .within)) in
+        ⊎-elim
+        (λ (e : rep s ≡ s). ap (ownTruth old) (sym (ap litAt e ∙ lit-slot c (L .above))))
+        (λ (d : rep s ≡ s → ⊥). own-none old c (slot-variable c (L .above)) (moved-unvalued (G .there) (λ e. d (sym e))) ∙ sym (own-none old (litAt (rep s)) (lit-var (rep s)) (moved-unvalued (G .back) d)))
+        (same-or (rep s) s)
+
+    -- so the value of each variable is that of its class literal still
+    pub merged-spread : Spread v old → Spread v new
+    merged-spread S u lt =
+        let X = F .vars .each u lt in
+        let c : ℤ = classOf old (u + 1) in
+        let r : ℕ = rep (slotOf c) in
+        regrouped-value (representative adj v) v old u ∙ S u lt ∙ value-kept c (record { above = X .class .above; within = omega (arith, X .class .within, lt) })
+        ∙ sym (ap (ownTruth new) (class-new u lt) ∙ truth-new r)
 
     -- THE LAW
     pub merged-formed : Formed v n 0 false (t .clauses) (t .literals) new
@@ -245,7 +267,11 @@ module _ {v n : ℕ} (t : Tables) (F : Formed v n n false (t .clauses) (t .liter
       vars = record { few = F .vars .few; room = omega (arith, regrouped-length (representative adj v) v old, F .vars .room); each = merged-variable };
     }
 
--- so the tables that Merge opens with are formed, with no clause settled
+-- so the tables that Merge opens with are formed, with no clause settled, and their values are spread
 pub classes-formed : {v n : ℕ} (t : Tables) → FormedTo v n n t → clashes (edgesOf t n) v ≡ false → firstUnsettled t n ≡ n → FormedTo v n 0 (mergedClasses v n t)
 unfolding mergedClasses
 classes-formed t F none settled = merged-formed t F none settled
+
+pub classes-spread : {v n : ℕ} (t : Tables) → FormedTo v n n t → clashes (edgesOf t n) v ≡ false → firstUnsettled t n ≡ n → Spread v (t .variables) → Spread v (mergedClasses v n t .variables)
+unfolding mergedClasses
+classes-spread t F none settled S = merged-spread t F none settled S

@@ -2,7 +2,7 @@
 use Prim.Native.Nat.{ℕ, _+_, _-_, _≤_, min}
 use native.Mathlib.Omega.{arith}
 use native.Mathlib.Nat.{min-le-right}
-use mathlib.Core.Path.{_≡_, refl, subst}
+use mathlib.Core.Path.{_≡_, refl, sym, subst}
 use mathlib.Core.Bool.{Bool, true, false, false≢true}
 use lib.ListN.{length}
 use Rattle.stamps.specs.Fresh.{FreshStamps}
@@ -13,7 +13,7 @@ use Rattle.tables.specs.Tables.{Tables, tables}
 use Rattle.tables.specs.Fates.{visits}
 use Rattle.tables.specs.Passes.{firstUnsettled}
 use Rattle.tables.specs.Calls.{After}
-use Rattle.shape.specs.Shape.{Shape}
+use Rattle.shape.specs.Shape.{Spread, Shape}
 use Rattle.entry.specs.Entry.{entryOf}
 use Rattle.entry.specs.declared.PassName.the-variants as own
 use Rattle.entry.specs.declared.Entry.{Entry}
@@ -24,7 +24,7 @@ use Rattle.visits.proofs.StoreKeeps.{FormedTo, formed-shape-as}
 use Rattle.visits.proofs.Advancing.{advance-cases}
 use Rattle.merge.specs.Merge.{mergedClasses, mergeFrom, mergeOpen, mergeBy, mergeCall}
 use Rattle.merge_visits.specs.Clause.{mergeClause}
-use Rattle.merge.proofs.Merged.{classes-formed}
+use Rattle.merge.proofs.Merged.{classes-formed, classes-spread}
 use Rattle.merge_visits.proofs.Visiting.{merge-shrinks}
 use Rattle.merge_visits.proofs.VisitKeeps.{formed-visits}
 use Rattle.merge.proofs.Calling.{open-cases, settled-cases, opens-formed, resumes-resumable}
@@ -35,7 +35,7 @@ Shaped a = Shape (a .tables) (a .state)
 -- ---- visits from clause k on
 
 module _ (fresh : Bool) (steps k : ℕ) (t : Tables) (st : State) (F : FormedTo (st .v) (st .n) k t) (le : k ≤ st .n) (times : 4096 ≤ length (t .times)) (links : 4096 ≤ length (t .links))
-    (stamps : fresh ≡ true → FreshStamps (st .v) (t .times) (t .links)) where
+    (values : Spread (st .v) (t .variables)) (stamps : fresh ≡ true → FreshStamps (st .v) (t .times) (t .links)) where
   abbrev m : ℕ
   m = min steps (st .n - k)
 
@@ -51,13 +51,16 @@ module _ (fresh : Bool) (steps k : ℕ) (t : Tables) (st : State) (F : FormedTo 
   B : Beside t t′
   B = visits-beside (mergeClause (t .variables)) (merge-shrinks (t .variables)) m k t
 
+  values′ : Spread (st .v) (t′ .variables)
+  values′ = subst (Spread (st .v)) (sym (B .variables)) values
+
   pub from-shaped : Shaped (mergeFrom fresh steps k t st)
   from-shaped =
       advance-cases Merge fresh fresh (mergeClause (t .variables)) steps k t st Shaped
-      (λ counts lt. formed-shape-as t t′ (opened (Merge (k + m)) fresh st) (B .stamps) times links stamps F′ (lt, refl))
+      (λ counts lt. formed-shape-as t t′ (opened (Merge (k + m)) fresh st) (B .stamps) times links stamps F′ values′ (lt, refl))
       (λ counts done.
       formed-shape-as t t′ (closed fresh st) (B .stamps) times links stamps
-      (subst (λ (x : ℕ). FormedTo (st .v) (st .n) x t′) (let q : k + m ≡ st .n = omega (arith, ends, done) in q) F′) tt)
+      (subst (λ (x : ℕ). FormedTo (st .v) (st .n) x t′) (let q : k + m ≡ st .n = omega (arith, ends, done) in q) F′) values′ tt)
 
 -- ---- the call
 
@@ -66,8 +69,8 @@ module _ (steps : ℕ) (t : Tables) (st : State) (S : Shape t st) where
   unfolding mergedClasses
   open-shaped F settled =
       open-cases steps st t Shaped
-      (λ e. formed-shape t (marked st) (formed-marked F) (S .long .times) (S .long .links) tt (λ z. absurd (false≢true z)))
-      (λ e. from-shaped false steps 0 (mergedClasses (st .v) (st .n) t) st (classes-formed t F e settled) (omega arith) (S .long .times) (S .long .links) (λ z. absurd (false≢true z)))
+      (λ e. formed-shape t (marked st) (formed-marked F) (S .long .times) (S .long .links) (S .values) tt (λ z. absurd (false≢true z)))
+      (λ e. from-shaped false steps 0 (mergedClasses (st .v) (st .n) t) st (classes-formed t F e settled) (omega arith) (S .long .times) (S .long .links) (classes-spread t F e settled (S .values)) (λ z. absurd (false≢true z)))
 
   -- THE LAW
   pub merge-shaped : Shaped (mergeCall steps t st)
@@ -77,4 +80,4 @@ module _ (steps : ℕ) (t : Tables) (st : State) (S : Shape t st) where
       go : (x : Entry) → entryOf own.Merge t st ≡ x → Shaped (mergeBy x steps t st)
       go (No r) e = S
       go Opens e = settled-cases steps st t Shaped S (open-shaped (opens-formed steps t st e))
-      go (Resumes k changed) e = let R = resumes-resumable t st k changed e in from-shaped (st .fresh) steps k t st (R .formed) (R .within) (S .long .times) (S .long .links) (S .stamps)
+      go (Resumes k changed) e = let R = resumes-resumable t st k changed e in from-shaped (st .fresh) steps k t st (R .formed) (R .within) (S .long .times) (S .long .links) (S .values) (S .stamps)

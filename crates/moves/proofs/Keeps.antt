@@ -87,12 +87,12 @@ swap-same k i C D e h = put-same k i (standing D) (λ τ m. subst (λ (x : Claus
 -- a literal that is true in every assignment of what stands may get its value
 learn-same : (k : Core) (l : ℕ) → ((τ : Assignment) → ModelOf k τ → True τ l) → Same k (learn (k .class l) k)
 learn-same k l true-in τ = (
-  λ S. record { unmarked = S .unmarked; models = S .models; classes = S .classes; met = λ s h. S .met s (ap (λ (b : Bool). eqb s (k .class l) || b) h ∙ or-true (eqb s (k .class l))) },
+  λ S. record { unmarked = S .unmarked; models = S .models; classes = S .classes; met = λ s h. S .met s (ap (λ (b : Bool). eqb (k .class s) (k .class l) || b) h ∙ or-true (eqb (k .class s) (k .class l))) },
   λ S. record {
     unmarked = S .unmarked;
     models = S .models;
     classes = S .classes;
-    met = λ s h. ⊎-elim (λ e. ap (value τ) (eqb-true s (k .class l) e) ∙ sym (S .classes l) ∙ true-in τ S) (λ o. S .met s o) (or-either (eqb s (k .class l)) (k .facts s) h);
+    met = λ s h. ⊎-elim (λ e. S .classes s ∙ ap (value τ) (eqb-true (k .class s) (k .class l) e) ∙ sym (S .classes l) ∙ true-in τ S) (λ o. S .met s o) (or-either (eqb (k .class s) (k .class l)) (k .facts s) h);
   },
 )
 
@@ -113,7 +113,7 @@ module _ (k : Core) (τ : Assignment) (m : Meets k τ) where
 unit-same : (k : Core) (i l : ℕ) → coreClause k i ≡ standing (l ∷ []) → Same k (learn (k .class l) (put i dropped k))
 unit-same k i l e τ =
     Iff·trans
-    (drop-same (learn (k .class l) k) i (l ∷ []) e (λ υ M. (l, List·Memᴰ·head refl, M .0 l ∙ M .1 (k .class l) (ap (λ (b : Bool). b || k .facts (k .class l)) (eq-eqb (k .class l) (k .class l) refl)))) τ)
+    (drop-same (learn (k .class l) k) i (l ∷ []) e (λ υ M. (l, List·Memᴰ·head refl, M .1 l (ap (λ (b : Bool). b || k .facts l) (eq-eqb (k .class l) (k .class l) refl)))) τ)
     (learn-same k l (λ υ S.
     let r : Sat υ (l ∷ []) = subst (SatC υ) e (models-nth υ (k .clauses) (S .models) i) in
     subst (True υ) (⊎-elim (λ q. q) (λ n. absurd (List·Memᴰ·not-nil n)) (List·Memᴰ·cases-cons (r .1))) (r .2)) τ)

@@ -10,7 +10,7 @@ use Rattle.literal.specs.Literals.{twin}
 use Rattle.literal.specs.Assignments.{Assignment}
 use Rattle.sound.specs.Formula.{Clause, dropped, standing, value, True, Models}
 
--- class: the class literal of each literal; facts: the literals whose own value is true; mark: no assignment is left
+-- class: the class literal of each literal; facts: the literals whose value is true; mark: no assignment is left
 pub record Core : Type 0 where
   pub clauses : List Clause
   pub class : ℕ → ℕ
@@ -39,9 +39,9 @@ withClauses f k = record { clauses = f; class = k .class; facts = k .facts; mark
 abbrev pub put : ℕ → Clause → Core → Core
 put i c k = withClauses (set (k .clauses) i c) k
 
--- literal t gets the value true
+-- class literal t gets the value true, and so does every literal of which it is the class literal
 abbrev pub learn : ℕ → Core → Core
-learn t k = record { clauses = k .clauses; class = k .class; facts = λ s. eqb s t || k .facts s; mark = k .mark }
+learn t k = record { clauses = k .clauses; class = k .class; facts = λ s. eqb (k .class s) t || k .facts s; mark = k .mark }
 
 abbrev pub markedCore : Core → Core
 markedCore k = record { clauses = k .clauses; class = k .class; facts = k .facts; mark = true }

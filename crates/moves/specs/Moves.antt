@@ -25,7 +25,7 @@ pub data Change (k : Core) : Core → Type 0 where
   satisfied : (i : ℕ) {C : List ℕ} {l : ℕ} → coreClause k i ≡ standing C → List·Memᴰ l C → coreTrue k l ≡ true → Change k (put i dropped k)
   -- literals go that are false
   falsified : (i : ℕ) {C D : List ℕ} → coreClause k i ≡ standing C → Sublistᴰ D C → ((l : ℕ) → List·Memᴰ l C → List·Memᴰ l D ⊎ (coreFalse k l ≡ true)) → Change k (put i (standing D) k)
-  -- the value of a clause's one literal is set, at its class literal, and the clause dropped
+  -- a clause's one literal gets its value, with its whole class, and the clause is dropped
   unit : (i : ℕ) {l : ℕ} → coreClause k i ≡ standing (l ∷ []) → Change k (learn (k .class l) (put i dropped k))
   -- a clause stands empty
   conflict : (i : ℕ) → coreClause k i ≡ standing [] → Change k (markedCore k)

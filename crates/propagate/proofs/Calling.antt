@@ -1,5 +1,5 @@
 -- The call: with no clause it is done at once, and each way of its entry is a way of `propagateCall`. Assumes nothing.
-use Prim.Native.Nat.{ℕ, zero, suc}
+use Prim.Native.Nat.{ℕ, zero, suc, _<_}
 use mathlib.Core.Path.{_≡_, refl, sym, ap, _∙_}
 use mathlib.Core.Bool.{Bool, false}
 use Rattle.state.specs.declared.State.{State}
@@ -15,10 +15,10 @@ use Rattle.entry.proofs.Entering.{opens-entered, resumes-entered}
 use Rattle.visits.specs.Formed.{Formed}
 use Rattle.visits.proofs.Counting.{none-gone}
 use Rattle.visits.proofs.Entered.{entered-formed, entered-cursor}
+use Rattle.spread.specs.Spread.{spreadBehind}
 use Rattle.propagate.specs.Propagate.{replied, propagateFrom, propagateBy, propagateCall}
 use Rattle.propagate_visits.specs.Visits.{Progress, going, settled, begin, Reached, propagateVisits}
 use Rattle.propagate.specs.Steps.{repliedWith}
-use Rattle.propagate_visits.specs.Steps.{StandsBefore}
 use Rattle.propagate_visits.specs.declared.Stand.the-variants.{Settled}
 
 -- ---- with no clause
@@ -28,12 +28,13 @@ unfolding propagateVisits
 settled-visits n zero t = refl
 settled-visits n (suc m) t = refl
 
-pub none-replied : (steps : ℕ) (st : State) (t : Tables) → st .n ≡ 0 → repliedWith false (record { visits = 0; clauses = 0; literals = 0 }) st Settled t ≡ propagateFrom false steps (begin (st .n) t) t st
+pub none-replied : (steps : ℕ) (st : State) (t : Tables) → st .n ≡ 0 → spreadBehind (st .v) (repliedWith false (record { visits = 0; clauses = 0; literals = 0 }) st Settled t) ≡ propagateFrom false steps (begin (st .n) t) t st
 unfolding propagateFrom
 none-replied steps st t e =
-    ap (λ (c : Counts). repliedWith false c st Settled t) (none-gone (st .n) (t .clauses))
+    ap (spreadBehind (st .v))
+    (ap (λ (c : Counts). repliedWith false c st Settled t) (none-gone (st .n) (t .clauses))
     ∙ ap (λ (r : Reached). replied false (t .clauses) st (r .visits) (r .progress)) (sym (settled-visits (st .n) steps t))
-    ∙ ap (λ (p : Progress). replied false (t .clauses) st (propagateVisits (st .n) steps 0 p .visits) (propagateVisits (st .n) steps 0 p .progress)) (sym (ap (λ (k : ℕ). begin k t) e))
+    ∙ ap (λ (p : Progress). replied false (t .clauses) st (propagateVisits (st .n) steps 0 p .visits) (propagateVisits (st .n) steps 0 p .progress)) (sym (ap (λ (k : ℕ). begin k t) e)))
 
 pub begin-some : (n : ℕ) (t : Tables) → (n ≡ 0 → ⊥) → going 0 false t ≡ begin n t
 begin-some zero t d = absurd (d refl)
@@ -57,5 +58,5 @@ module _ (steps : ℕ) (t : Tables) (st : State) where
   pub opens-formed : entryOf own.Propagate t st ≡ Opens → Formed (st .v) (st .n) (st .n) false (t .clauses) (t .literals) (t .variables)
   opens-formed e = entered-formed (opens-entered own.Propagate t st e) tt
 
-  pub resumes-before : (k : ℕ) (changed : Bool) → entryOf own.Propagate t st ≡ Resumes k changed → StandsBefore (st .n) k (t .clauses) (t .literals) (t .variables)
-  resumes-before k changed e = let E = resumes-entered own.Propagate t st k changed e in record { vars = st .v; formed = entered-formed E tt; below = entered-cursor E .0 }
+  pub resumes-before : (k : ℕ) (changed : Bool) → entryOf own.Propagate t st ≡ Resumes k changed → Formed (st .v) (st .n) (st .n) false (t .clauses) (t .literals) (t .variables) × (k < st .n)
+  resumes-before k changed e = let E = resumes-entered own.Propagate t st k changed e in (entered-formed E tt, entered-cursor E .0)

@@ -175,7 +175,7 @@ module _ {v n : ℕ} (t : Tables) (F : FormedIn v n t) (k : ℕ) (lt : k < n) wh
       let R = class-ranged (record { count = v; rows = F .vars; ranged = L }) in
       one l L
       (λ j above d.
-      set-others (F .vars) (natAbs (classLiteral (t .variables) l)) (R .above) (R .within) (class-own (record { count = v; rows = F .vars; ranged = L })) (signBy (nonNeg (classLiteral (t .variables) l)) (pos 1))
+      set-others (F .vars) (natAbs (classLiteral (t .variables) l)) (R .above) (R .within) (signBy (nonNeg (classLiteral (t .variables) l)) (pos 1))
       (omega (arith, abs-signed (nonNeg (classLiteral (t .variables) l)) (pos 1))) j above (λ z. d (z ∙ e)))
 
   own-member : (l : ℤ) → List·Memᴰ l D → classOf (t .variables) (natAbs l) ≡ pos (natAbs l)

@@ -9,15 +9,18 @@ use Rattle.state.specs.declared.State.{State}
 use Rattle.tables.specs.Tables.{Tables, lengthOf, classOf}
 use Rattle.tables.specs.Fates.{Fate, kept, left, dropped, unit, conflict, store, fateAt}
 use Rattle.stamps.specs.Fresh.{FreshStamps}
-use Rattle.shape.specs.Shape.{Shape}
+use Rattle.shape.specs.Shape.{settledTo, Cursor, Shape}
 use Rattle.entry.specs.Entry.{entryOf}
 use Rattle.entry.specs.declared.PassName.the-variants as own
 use Rattle.entry.specs.declared.Entry.{Entry}
 use Rattle.entry.specs.declared.Entry.the-variants.{No, Opens, Resumes}
 use Rattle.entry.proofs.Entering.{opens-entered, resumes-entered}
+use Rattle.visits.specs.Formed.{Formed}
 use Rattle.visits.proofs.Visiting.{SameStamps, stamps-same, stamps-join, store-stamps}
 use Rattle.visits.proofs.StoreKeeps.{FormedIn, formed-shape-as}
 use Rattle.visits.proofs.Entered.{entered-formed, entered-cursor}
+use Rattle.spread.specs.Spread.{spreadTables}
+use Rattle.spread.proofs.Spreading.{spread-done, spread-formed}
 use Rattle.propagate.specs.Propagate.{replied, propagateFrom, propagateBy, propagateCall}
 use Rattle.propagate_visits.specs.Visits.{Progress, going, settled, contradicted, onward, changes, visited, propagateClause, propagateVisit, propagateVisits, begin}
 use Rattle.propagate_visits.proofs.VisitKeeps.{visit-classes}
@@ -31,7 +34,7 @@ tablesAt (going j changed t) = t
 tablesAt (settled t) = t
 tablesAt (contradicted t) = t
 
-onward-tables : (n j : ℕ) (changed : Bool) (t : Tables) → tablesAt (onward n j changed t) ≡ t
+pub onward-tables : (n j : ℕ) (changed : Bool) (t : Tables) → tablesAt (onward n j changed t) ≡ t
 onward-tables n j changed t = by (ltb j n) changed
   where
     by : (x y : Bool) → tablesAt (elim x as (λ z. Progress) [ true ↦ going j y t | false ↦ elim y as (λ z. Progress) [ true ↦ going 0 false t | false ↦ settled t ] ]) ≡ t
@@ -77,13 +80,19 @@ replied-tables fresh before st m (going k changed t) = refl
 replied-tables fresh before st m (settled t) = refl
 replied-tables fresh before st m (contradicted t) = refl
 
--- ---- the shape rule after the visits
+-- ---- the shape rule after the visits and behind them the values spread
 
 module _ (t : Tables) (st : State) (S : Shape t st) (fresh : Bool) (fresher : fresh ≡ true → FreshStamps (st .v) (t .times) (t .links)) where
-  replied-shaped : (m : ℕ) (before : List ℕ) (q : Progress) → Good (st .v) (st .n) q → SameStamps t (tablesAt q) → Shape (replied fresh before st m q .tables) (replied fresh before st m q .state)
-  replied-shaped m before (going i changed u) G Q = formed-shape-as t u (replied fresh before st m (going i changed u) .state) Q (S .long .times) (S .long .links) fresher (G .0) (G .1, refl)
-  replied-shaped m before (settled u) G Q = formed-shape-as t u (replied fresh before st m (settled u) .state) Q (S .long .times) (S .long .links) fresher G tt
-  replied-shaped m before (contradicted u) G Q = formed-shape-as t u (replied fresh before st m (contradicted u) .state) Q (S .long .times) (S .long .links) (λ e. absurd (false≢true e)) G tt
+  spread-shaped : (u : Tables) (st′ : State) → st′ .v ≡ st .v → SameStamps t u → (st′ .fresh ≡ true → FreshStamps (st′ .v) (t .times) (t .links))
+      → Formed (st′ .v) (st′ .n) (settledTo (st′ .pass) (st′ .n)) (st′ .mark) (u .clauses) (u .literals) (u .variables) → Cursor (st′ .pass) (st′ .n) (st′ .mark) → Shape (spreadTables (st .v) u) st′
+  spread-shaped u st′ e Q fresh′ F cursor =
+      subst (λ (v : ℕ). Shape (spreadTables v u) st′) e
+      (formed-shape-as t (spreadTables (st′ .v) u) st′ (record { times = Q .times; links = Q .links }) (S .long .times) (S .long .links) fresh′ (spread-formed F) (spread-done (F .vars)) cursor)
+
+  replied-shaped : (m : ℕ) (before : List ℕ) (q : Progress) → Good (st .v) (st .n) q → SameStamps t (tablesAt q) → Shape (spreadTables (st .v) (replied fresh before st m q .tables)) (replied fresh before st m q .state)
+  replied-shaped m before (going i changed u) G Q = spread-shaped u (replied fresh before st m (going i changed u) .state) refl Q fresher (G .0) (G .1, refl)
+  replied-shaped m before (settled u) G Q = spread-shaped u (replied fresh before st m (settled u) .state) refl Q fresher G tt
+  replied-shaped m before (contradicted u) G Q = spread-shaped u (replied fresh before st m (contradicted u) .state) refl Q (λ e. absurd (false≢true e)) G tt
 
   from-shaped : (steps : ℕ) (p : Progress) → Good (st .v) (st .n) p → tablesAt p ≡ t → Shape (propagateFrom fresh steps p t st .tables) (propagateFrom fresh steps p t st .state)
   unfolding propagateFrom

@@ -1,5 +1,5 @@
 -- The call of Propagate. Document 01: "A call makes n visits, or as many as the pass has left. It answers Open exactly if visits are left, else Done; with it come the visits made, the clauses gone and the literals gone".
--- Assumes nothing: these are definitions.
+-- Change request 4: "The value of v is that of its class literal, sign included, after every accepted call." Assumes nothing: these are definitions.
 use Prim.Native.Nat.{ℕ}
 use mathlib.Core.Bool.{Bool, false}
 use mathlib.Core.List.{List}
@@ -14,6 +14,7 @@ use Rattle.entry.specs.Entry.{entryOf}
 use Rattle.entry.specs.declared.PassName.the-variants as own
 use Rattle.entry.specs.declared.Entry.{Entry}
 use Rattle.entry.specs.declared.Entry.the-variants.{No, Opens, Resumes}
+use Rattle.spread.specs.Spread.{spreadBehind}
 use Rattle.propagate_visits.specs.Visits.{Progress, going, settled, contradicted, propagateVisits, begin}
 
 -- Open exactly if visits are left; the mark closes the pass and spends the stamps
@@ -22,8 +23,9 @@ replied fresh before st m (going k changed t) = answered (Open (gone m (st .n) b
 replied fresh before st m (settled t) = answered (Done (gone m (st .n) before (t .clauses))) (closed fresh st) t
 replied fresh before st m (contradicted t) = answered (Done (gone m (st .n) before (t .clauses))) (marked st) t
 
+-- the visits, and behind them the values are spread, wherever the call stops
 unfoldable pub propagateFrom : Bool → ℕ → Progress → Tables → State → After
-propagateFrom fresh steps p t st = replied fresh (t .clauses) st (propagateVisits (st .n) steps 0 p .visits) (propagateVisits (st .n) steps 0 p .progress)
+propagateFrom fresh steps p t st = spreadBehind (st .v) (replied fresh (t .clauses) st (propagateVisits (st .n) steps 0 p .visits) (propagateVisits (st .n) steps 0 p .progress))
 
 -- opening spends the stamps, for any step count
 abbrev pub propagateBy : Entry → ℕ → Tables → State → After

@@ -232,7 +232,7 @@ fn answer(st: State, fresh: bool, counts: Counts, stand: Stand) -> Outcome
     }
 }
 
-// The visits of a call that stands before clause `cursor`, and its answer.
+// The visits of a call that stands before clause `cursor`, and its answer. The visits set values at class literals, and behind them every variable gets its own.
 fn propagate_from(
     clauses: &mut [u32],
     literals: &mut [i32],
@@ -243,7 +243,7 @@ fn propagate_from(
     cursor: u32,
     flag: bool,
 ) -> Outcome
-    requires { ⌜ StandsBefore (st .n) cursor (now clauses) (now literals) (now variables) ⌝ }
+    requires { ⌜ Formed (st .v) (st .n) (st .n) false (now clauses) (now literals) (now variables) × (cursor < st .n) ⌝ }
     ensures { λ r. ⌜ ((times : List ℕ) (links : List ℤ) → after r (returned clauses literals variables (unlent times) (unlent links))
         ≡ propagateFrom fresh steps (going cursor flag (lent clauses literals variables (unlent times) (unlent links)))
         (lent clauses literals variables (unlent times) (unlent links)) st) ⌝ }
@@ -251,6 +251,7 @@ fn propagate_from(
     let n = st.n;
     let before = visits::count_standing(clauses, n as usize);
     let reach = visit_some(clauses, literals, variables, n, steps, cursor, flag);
+    spread::spread(variables, st.v);
     let left = visits::count_standing(clauses, n as usize);
     let visits = reach.visits;
     let stand = reach.stand;
@@ -278,6 +279,7 @@ pub fn open_pass(
             clauses: 0,
             literals: 0,
         };
+        spread::spread(variables, st.v);
         return answer(st, false, none, Stand::Settled);
     }
     propagate_from(clauses, literals, variables, st, false, steps, 0, false)

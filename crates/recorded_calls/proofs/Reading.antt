@@ -67,7 +67,8 @@ propagate-reads steps t st = by (entryOf own.Propagate t st) refl
     from : (fresh : Bool) (p : Progress) → Good (st .v) (st .n) p → tablesAt p ≡ t → Reads t (propagateFrom fresh steps p t st)
     from fresh p G e =
         let q = propagateVisits (st .n) steps 0 p in
-        subst (SameStamps t) (sym (replied-tables fresh (t .clauses) st (q .visits) (q .progress))) (subst (λ (x : Tables). SameStamps x (tablesAt (q .progress))) e (visits-stamps (st .v) (st .n) steps 0 p G))
+        let S = subst (SameStamps t) (sym (replied-tables fresh (t .clauses) st (q .visits) (q .progress))) (subst (λ (x : Tables). SameStamps x (tablesAt (q .progress))) e (visits-stamps (st .v) (st .n) steps 0 p G)) in
+        record { times = S .times; links = S .links }
 
     by : (e : Entry) → entryOf own.Propagate t st ≡ e → Reads t (propagateBy e steps t st)
     by (No r) q = stamps-same t

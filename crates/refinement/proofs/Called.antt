@@ -18,9 +18,10 @@ use Rattle.entry.proofs.Entering.{opens-entered, resumes-entered}
 use Rattle.visits.proofs.Entered.{entered-formed, entered-cursor}
 use Rattle.visits.proofs.StoreKeeps.{FormedTo}
 use Rattle.visits.proofs.Advancing.{advance-cases}
+use Rattle.spread.specs.Spread.{spreadBehind}
 use Rattle.propagate.specs.Propagate.{propagateFrom, replied, propagateBy, propagateCall}
 use Rattle.propagate_visits.specs.Visits.{Progress, going, settled, contradicted, begin, propagateVisits}
-use Rattle.propagate_visits.proofs.Stepping.{Good}
+use Rattle.propagate_visits.proofs.Stepping.{Good, visits-good}
 use Rattle.propagate.proofs.Shaped.{begin-good}
 use Rattle.merge.specs.Merge.{mergedClasses, mergeFrom, mergeOpen, mergeBy, mergeCall}
 use Rattle.merge_visits.specs.Clause.{mergeClause}
@@ -29,6 +30,7 @@ use Rattle.merge.proofs.Calling.{open-cases, settled-cases, opens-formed, resum
 use Rattle.moves.specs.Core as core
 use Rattle.moves.specs.Moves as moves
 use Rattle.refinement.specs.Represented.{Represented}
+use Rattle.refinement.proofs.Literals.{spread-represented}
 use Rattle.refinement.proofs.Propagated.{Simulated}
 use Rattle.refinement.proofs.Propagation.{Tied, Follows, visits-follow, moves-join}
 use Rattle.refinement.proofs.PropagateKeeps.{begin-tied}
@@ -47,14 +49,14 @@ unmarked st {t} {k} e R = subst (λ (b : Bool). Represented (st .v) (st .n) b t 
 -- ---- Propagate
 
 module _ (st : State) (k : core.Core) where
-  replied-reached : (fresh : Bool) (m : ℕ) (before : List ℕ) (q : Progress) → Follows (st .v) (st .n) q k → Reached st k (replied fresh before st m q)
-  replied-reached fresh m before (going i changed t) S = record { to = S .to; moves = S .moves; tied = S .tied }
-  replied-reached fresh m before (settled t) S = record { to = S .to; moves = S .moves; tied = S .tied }
-  replied-reached fresh m before (contradicted t) S = record { to = S .to; moves = S .moves; tied = S .tied }
+  replied-reached : (fresh : Bool) (m : ℕ) (before : List ℕ) (q : Progress) → Good (st .v) (st .n) q → Follows (st .v) (st .n) q k → Reached st k (spreadBehind (st .v) (replied fresh before st m q))
+  replied-reached fresh m before (going i changed t) G S = record { to = S .to; moves = S .moves; tied = spread-represented (G .0 .vars) (S .tied) }
+  replied-reached fresh m before (settled t) G S = record { to = S .to; moves = S .moves; tied = spread-represented (G .vars) (S .tied) }
+  replied-reached fresh m before (contradicted t) G S = record { to = S .to; moves = S .moves; tied = spread-represented (G .vars) (S .tied) }
 
   propagate-from : (fresh : Bool) (steps : ℕ) (p : Progress) (t : Tables) → Good (st .v) (st .n) p → Tied (st .v) (st .n) p k → Reached st k (propagateFrom fresh steps p t st)
   unfolding propagateFrom
-  propagate-from fresh steps p t G R = replied-reached fresh (propagateVisits (st .n) steps 0 p .visits) (t .clauses) (propagateVisits (st .n) steps 0 p .progress) (visits-follow (st .v) (st .n) steps 0 p k G R)
+  propagate-from fresh steps p t G R = replied-reached fresh (propagateVisits (st .n) steps 0 p .visits) (t .clauses) (propagateVisits (st .n) steps 0 p .progress) (visits-good (st .v) (st .n) steps 0 p G) (visits-follow (st .v) (st .n) steps 0 p k G R)
 
 pub propagate-reached : (steps : ℕ) (t : Tables) (st : State) (k : core.Core) → Represented (st .v) (st .n) (st .mark) t k → Reached st k (propagateCall steps t st)
 unfolding propagateCall
@@ -81,7 +83,7 @@ module _ (st : State) where
   merge-open steps t k F R s =
       open-cases steps st t (Reached st k) (clash-simulated F R)
       (λ e.
-      let o = opening-simulated F R e in
+      let o = opening-simulated F R e s in
       let r = merge-from false steps 0 (mergedClasses (st .v) (st .n) t) (o .to) (classes-formed t F e s) (omega arith) (o .tied) in
       record { to = r .to; moves = moves-join (o .moves) (r .moves); tied = r .tied })
 

@@ -50,7 +50,7 @@ use Rattle.refinement.proofs.Literals.{class-is}
 use Rattle.refinement.proofs.Standing.{stands-clause}
 use Rattle.refinement.proofs.Laid.{nth}
 use Rattle.refinement.proofs.LaidFormed.{in-nth}
-use Rattle.refinement.proofs.Equivalent.{stands-core, core-stands}
+use Rattle.refinement.proofs.Equivalent.{tie}
 use Rattle.refinement.proofs.Held.{Held, propagate-held, merge-held}
 use Rattle.refinement.proofs.HeldStamp.{stamp-held}
 use Rattle.refinement.proofs.HeldSweep.{sweep-held}
@@ -160,8 +160,7 @@ module _ (text : List ℕ) (v n body : ℕ) (accepted : judgeText text ≡ Fits 
 
   pub demand-3 : (τ : Assignment) → Stands t′ st′ τ ↔ Satisfies τ (textClauses text)
   demand-3 τ =
-      let F = shape-formed (held .shape) in
-      Iff·trans (stands-core st′ t′ (held .core) (settledTo (st′ .pass) (st′ .n)) F (held .tied) τ, core-stands st′ t′ (held .core) (settledTo (st′ .pass) (st′ .n)) F (held .tied) τ)
+      Iff·trans (tie st′ t′ (held .core) (settledTo (st′ .pass) (st′ .n)) (shape-formed (held .shape)) (held .shape .values) (held .tied) τ)
       (Iff·trans (keeps.demand-3 (loadedClauses (textClauses text)) (held .moves) τ)
       (models-satisfies v τ (textClauses text) (each text v n body accepted t L st), satisfies-models v τ (textClauses text) (each text v n body accepted t L st)))
 

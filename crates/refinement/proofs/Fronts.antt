@@ -9,6 +9,7 @@ use lib.Seq.{getD-take, getD-drop, length-take-le}
 use lib.Dec.{ltb}
 use lib.IntN.{ℤ, pos, natAbs}
 use lib.Signed.{nonNeg}
+use Rattle.base.proofs.Lists.{list-same}
 use Rattle.literal.specs.Literals.{Literal, slotOf, litAt, eqZ, signBy}
 use Rattle.literal.proofs.Laws.{slot-below}
 use Rattle.walk.specs.Walk.{Stamps}
@@ -22,11 +23,14 @@ use Rattle.tables.specs.Tables.{Tables, startOf, lengthOf, classOf, valueOf}
 use Rattle.tables.specs.Tables as T
 use Rattle.tables.specs.Long.{Long}
 use Rattle.tables.specs.Clauses.{literalsOf}
-use Rattle.shape.specs.Shape.{Literals, Variable, Shape, settledTo}
+use Rattle.tables.specs.Values.{classLiteral, ownTruth, truth}
+use Rattle.shape.specs.Shape.{Literals, Variable, Spread, Shape, settledTo}
+use Rattle.visits.proofs.Forming.{shape-formed}
+use Rattle.visits.proofs.Known.{class-ranged}
 use Rattle.sound.specs.Formula.{Clause, dropped, standing}
 use Rattle.moves.specs.Moves.{Freshness}
 use Rattle.refinement.specs.Represented.{clauseOf, Represented}
-use Rattle.refinement.proofs.Equivalent.{slot-literal}
+use Rattle.refinement.proofs.Literals.{slot-literal}
 use Rattle.refinement.proofs.Held.{StampsOf, stale, from, Held}
 
 -- u is long enough, and has what t has in the stated places
@@ -92,12 +96,6 @@ module _ (v : ℕ) (few : v ≤ 1024) (times times′ : List ℕ) (links links�
 
 -- ---- the shape rule
 
-list-same : (xs ys : List ℤ) → length xs ≡ length ys → ((k : ℕ) → k < length xs → getD xs k (pos 0) ≡ getD ys k (pos 0)) → xs ≡ ys
-list-same [] [] e h = refl
-list-same [] (y ∷ ys) e h = absurd (omega (arith, e))
-list-same (x ∷ xs) [] e h = absurd (omega (arith, e))
-list-same (x ∷ xs) (y ∷ ys) e h = λ z. h 0 (omega arith) z ∷ list-same xs ys (let q : length xs ≡ length ys = omega (arith, e) in q) (λ k l. h (suc k) (omega (arith, l))) z
-
 module _ {t u : Tables} {st : State} (A : Fronts t u) (S : Shape t st) where
   n-in : (i : ℕ) → i < st .n → 3 * i + 2 < 12288
   n-in i h = omega (arith, h, S .n-limit)
@@ -145,8 +143,22 @@ module _ {t u : Tables} {st : State} (A : Fronts t u) (S : Shape t st) where
         class = subst (Literal (w + 1)) (sym c) (X .class);
         own = subst (λ (z : ℤ). classOf (u .variables) (natAbs z) ≡ pos (natAbs z)) (sym c) (classes-same (natAbs (classOf (t .variables) (w + 1))) (X .class .above) (omega (arith, X .class .within, h)) ∙ X .own);
         value = subst (λ (z : ℤ). natAbs z ≤ 1) (sym x) (X .value);
-        valued = λ d. c ∙ X .valued (λ e. d (x ∙ e));
       }
+
+  -- the value of a literal's class literal
+  own-same : (l : ℤ) → Literal (st .v) l → ownTruth (u .variables) l ≡ ownTruth (t .variables) l
+  own-same l L = ap (signBy (nonNeg l)) (values-same (natAbs l) (L .above) (L .within))
+
+  spread-same : Spread (st .v) (u .variables)
+  spread-same w h =
+      let X = S .variables w h in
+      values-same (w + 1) (omega arith) (omega (arith, h)) ∙ S .values w h
+      ∙ sym (ap (ownTruth (u .variables)) (classes-same (w + 1) (omega arith) (omega (arith, h))) ∙ own-same (classOf (t .variables) (w + 1)) (record { above = X .class .above; within = omega (arith, X .class .within, h) }))
+
+  pub truth-same : (l : ℤ) → Literal (st .v) l → truth (u .variables) l ≡ truth (t .variables) l
+  truth-same l L =
+      ap (λ (z : ℤ). ownTruth (u .variables) (signBy (nonNeg l) z)) (classes-same (natAbs l) (L .above) (L .within))
+      ∙ own-same (classLiteral (t .variables) l) (class-ranged (record { count = st .v; rows = shape-formed S .vars; ranged = L }))
 
   pub shape-same : Shape u st
   shape-same = record {
@@ -166,13 +178,14 @@ module _ {t u : Tables} {st : State} (A : Fronts t u) (S : Shape t st) where
       empty = λ i h s z. S .clauses .empty i h (sym (flags i h) ∙ s) (sym (lengths i h) ∙ z);
     };
     variables = variable-same;
+    values = spread-same;
     cursor = S .cursor;
     stamps = λ e. fresh-same (st .v) (S .v-limit) (t .times) (u .times) (t .links) (u .links) (A .times) (A .links) (S .stamps e);
   }
 
   part-same : (i : ℕ) → i < st .n → literalsOf (u .clauses) (u .literals) i ≡ literalsOf (t .clauses) (t .literals) i
   part-same i h =
-      list-same (literalsOf (u .clauses) (u .literals) i) (literalsOf (t .clauses) (t .literals) i) (size-u ∙ lengths i h ∙ sym size-t)
+      list-same (pos 0) (literalsOf (u .clauses) (u .literals) i) (literalsOf (t .clauses) (t .literals) i) (size-u ∙ lengths i h ∙ sym size-t)
       (λ k l. let q : k < lengthOf (t .clauses) i = omega (arith, l, size-u, lengths i h) in
       getD-take (lengthOf (u .clauses) i) (drop (startOf (u .clauses) i) (u .literals)) k (pos 0) (omega (arith, q, lengths i h)) ∙ getD-drop (startOf (u .clauses) i) (u .literals) k (pos 0)
       ∙ places i k h q
@@ -200,7 +213,7 @@ held-same {f} {t} {u} {st} A H = record {
     number = R .number;
     clauses = λ i h. R .clauses i h ∙ sym (clause-same A (H .shape) i h);
     classes = λ s h. let L = slot-literal (st .v) s h in R .classes s h ∙ ap (λ (z : ℤ). slotOf (signBy (nonNeg (litAt s)) z)) (sym (classes-same A (H .shape) (natAbs (litAt s)) (L .above) (L .within)));
-    facts = λ s h. let L = slot-literal (st .v) s h in R .facts s h ∙ ap (λ (z : ℤ). eqZ (signBy (nonNeg (litAt s)) z) (pos 1)) (sym (values-same A (H .shape) (natAbs (litAt s)) (L .above) (L .within)));
+    facts = λ s h. let L = slot-literal (st .v) s h in R .facts s h ∙ ap (λ (z : ℤ). eqZ z (pos 1)) (sym (truth-same A (H .shape) (litAt s) L));
     beyond = R .beyond;
     marks = R .marks;
   };

@@ -101,7 +101,7 @@ replied-spends st b e m before (contradicted t) = record { v = refl; n = refl; f
 
 propagate-spends : (st : State) (b : Bool) → b ≡ false → (steps : ℕ) (p : Progress) (t : Tables) → Spends st (propagateFrom b steps p t st)
 unfolding propagateFrom
-propagate-spends st b e steps p t = replied-spends st b e (propagateVisits (st .n) steps 0 p .visits) (t .clauses) (propagateVisits (st .n) steps 0 p .progress)
+propagate-spends st b e steps p t = let E = replied-spends st b e (propagateVisits (st .n) steps 0 p .visits) (t .clauses) (propagateVisits (st .n) steps 0 p .progress) in record { v = E .v; n = E .n; fresh = E .fresh }
 
 pub propagate-held : {f : List Clause} (steps : ℕ) (t : Tables) (st : State) → Held f t st → Held f (propagateCall steps t st .tables) (propagateCall steps t st .state)
 unfolding propagateCall

@@ -16,7 +16,7 @@ use Rattle.state.specs.States.{closed, marked}
 use Rattle.state.specs.declared.State.{State}
 use Rattle.state.specs.declared.Pass.{Pass}
 use Rattle.state.specs.declared.Pass.the-variants.{Idle}
-use Rattle.tables.specs.Tables.{Tables}
+use Rattle.tables.specs.Tables.{Tables, withVariables}
 use Rattle.tables.specs.Values as values
 use Rattle.shape.specs.Shape.{Shape}
 use Rattle.entry.specs.Entry.{openingOf}
@@ -25,7 +25,8 @@ use Rattle.entry.specs.declared.Opening.the-variants.{Denied, Granted}
 use Rattle.entry.proofs.Entering.{Entered, granted-entered}
 use Rattle.visits.specs.Formed.{Variables}
 use Rattle.visits.proofs.Entered.{entered-formed}
-use Rattle.failed.specs.Failed.{Found, found, assert, failedAt, failedFrom, withVariables, failedReply, failedFresh, failedUnlessStale, failedBy, failedCall}
+use Rattle.spread.specs.Spread.{spreadTables}
+use Rattle.failed.specs.Failed.{Found, found, assert, failedAt, failedFrom, failedReply, failedFresh, failedUnlessStale, failedBy, failedCall}
 use Rattle.failed.specs.Steps.{FullStamps}
 use Rattle.failed.proofs.Climbing.{failed-below, slot-ranged}
 use Rattle.failed.proofs.Valuing.{kept-true}
@@ -36,7 +37,7 @@ use Rattle.moves.specs.Core.{Core, load, learn}
 use Rattle.moves.specs.Core as core
 use Rattle.moves.specs.Moves.{Freshness, spent, fresh, Moves, failed, opposite, go}
 use Rattle.refinement.specs.Represented.{Represented}
-use Rattle.refinement.proofs.Literals.{false-is}
+use Rattle.refinement.proofs.Literals.{false-is, spread-represented}
 use Rattle.refinement.proofs.Propagated.{mark-represented, learn-represented}
 use Rattle.refinement.proofs.Held.{At, StampsOf, stale, from, Held}
 
@@ -125,16 +126,20 @@ at-idle : (p : Pass) (c : ℕ) → p ≡ Idle → At p c → c ≡ 0
 at-idle p c e a = subst (λ (q : Pass). At q c) e a
 
 module _ {f : List Clause} {t : Tables} {st : State} (H : Held f t st) where
-  replied-held : (σ : Stamps) → Agree (2 * st .v) (columns (t .times) (t .links)) σ → (x : Found) → Shape (failedReply x t st .tables) (failedReply x t st .state)
+  -- the tables once the values are spread
+  abbrev spreadFound : Found → Tables
+  spreadFound x = spreadTables (st .v) (withVariables (x .variables) t)
+
+  replied-held : (σ : Stamps) → Agree (2 * st .v) (columns (t .times) (t .links)) σ → (x : Found) → Shape (spreadFound x) (failedReply x t st .state)
       → (b : Bool) → x .opposite ≡ b → (elim b as (λ y. Type 0) [ true ↦ Going f (st .v) (st .n) true spent (withVariables (x .variables) t) | false ↦ Going f (st .v) (st .n) false (fresh σ 0) (withVariables (x .variables) t) ])
-      → Held f (withVariables (x .variables) t) (elim b as (λ y. State) [ true ↦ marked st | false ↦ closed true st ])
+      → Held f (spreadFound x) (elim b as (λ y. State) [ true ↦ marked st | false ↦ closed true st ])
   replied-held σ A x Q true e G = record {
     core = G .core;
     stamped = spent;
     moves = G .moves;
     within = H .within;
-    shape = subst (λ (b : Bool). Shape (withVariables (x .variables) t) (elim b as (λ y. State) [ true ↦ marked st | false ↦ closed true st ])) e Q;
-    tied = G .tied;
+    shape = subst (λ (b : Bool). Shape (spreadFound x) (elim b as (λ y. State) [ true ↦ marked st | false ↦ closed true st ])) e Q;
+    tied = spread-represented (G .rows) (G .tied);
     stamps = stale refl;
   }
   replied-held σ A x Q false e G = record {
@@ -142,8 +147,8 @@ module _ {f : List Clause} {t : Tables} {st : State} (H : Held f t st) where
     stamped = fresh σ 0;
     moves = G .moves;
     within = H .within;
-    shape = subst (λ (b : Bool). Shape (withVariables (x .variables) t) (elim b as (λ y. State) [ true ↦ marked st | false ↦ closed true st ])) e Q;
-    tied = G .tied;
+    shape = subst (λ (b : Bool). Shape (spreadFound x) (elim b as (λ y. State) [ true ↦ marked st | false ↦ closed true st ])) e Q;
+    tied = spread-represented (G .rows) (G .tied);
     stamps = from σ 0 A refl;
   }
 
@@ -155,7 +160,7 @@ module _ {f : List Clause} {t : Tables} {st : State} (H : Held f t st) where
       x : Found
       x = failedFrom (columns (t .times) (t .links)) (2 * st .v) (st .v) 0 (found (t .variables) 0 false)
 
-      by-stamps : {w : Freshness} → StampsOf t st w → Moves (st .v) (load f) spent (H .core) w → Held f (failedReply x t st .tables) (failedReply x t st .state)
+      by-stamps : {w : Freshness} → StampsOf t st w → Moves (st .v) (load f) spent (H .core) w → Held f (spreadFound x) (failedReply x t st .state)
       by-stamps (stale h) ms = absurd (false≢true (sym h ∙ e))
       by-stamps (from σ c A at) ms =
           let R = subst (λ (b : Bool). Represented (st .v) (st .n) b t (H .core)) (E .unmarked) (H .tied) in

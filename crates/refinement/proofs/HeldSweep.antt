@@ -27,6 +27,7 @@ use Rattle.entry.proofs.Entering.{Entered, opens-entered, resumes-entered}
 use Rattle.visits.specs.Formed.{Formed}
 use Rattle.visits.proofs.Entered.{NoMerge, entered-formed, entered-cursor}
 use Rattle.visits.proofs.Visiting.{SameStamps, visits-beside}
+use Rattle.shape.specs.Shape.{Spread}
 use Rattle.visits.proofs.StoreKeeps.{formed-shape-as}
 use Rattle.visits.proofs.Advancing.{advance-cases}
 use Rattle.sweep.specs.Sweep.{sweepFrom, sweepUnlessStale, sweepBy, sweepCall}
@@ -64,6 +65,9 @@ module _ {f : List Clause} {t : Tables} {st : State} (H : Held f t st) (F : Form
     B : SameStamps t t′
     B = visits-beside (sweepClause ρ) (sweep-shrinks ρ) m c t .stamps
 
+    values : Spread (st .v) (t′ .variables)
+    values = subst (Spread (st .v)) (sym (visits-beside (sweepClause ρ) (sweep-shrinks ρ) m c t .variables)) (H .shape .values)
+
     N : Nested (2 * st .v) ρ
     N = fresh-nested (t .times) (t .links) (st .v) stamps
 
@@ -82,7 +86,7 @@ module _ {f : List Clause} {t : Tables} {st : State} (H : Held f t st) (F : Form
       stamped = fresh σ (c + m);
       moves = go since (sweep m);
       within = H .within;
-      shape = formed-shape-as t t′ (opened (Sweep (c + m)) true st) B (H .shape .long .times) (H .shape .long .links) (λ e. stamps) formed (lt, refl);
+      shape = formed-shape-as t t′ (opened (Sweep (c + m)) true st) B (H .shape .long .times) (H .shape .long .links) (λ e. stamps) formed values (lt, refl);
       tied = tied;
       stamps = from σ (c + m) agree-still refl;
     }
@@ -93,7 +97,7 @@ module _ {f : List Clause} {t : Tables} {st : State} (H : Held f t st) (F : Form
       stamped = spent;
       moves = go (go since (sweep m)) spend;
       within = H .within;
-      shape = formed-shape-as t t′ (closed false st) B (H .shape .long .times) (H .shape .long .links) (λ e. absurd (false≢true e)) formed tt;
+      shape = formed-shape-as t t′ (closed false st) B (H .shape .long .times) (H .shape .long .links) (λ e. absurd (false≢true e)) formed values tt;
       tied = tied;
       stamps = stale refl;
     }

@@ -12,7 +12,8 @@ use borrow.Author.Tests.{eq-eqb}
 use Rattle.literal.specs.Literals.{Literal}
 use Rattle.literal.specs.Clauses.{distinct, tautology}
 use Rattle.tables.specs.Tables.{Tables, startOf, lengthOf, classOf, valueOf}
-use Rattle.shape.specs.Shape.{Parts, Literals, Variable}
+use Rattle.tables.specs.Values.{ownTruth}
+use Rattle.shape.specs.Shape.{Parts, Literals, Variable, Spread}
 use Rattle.visits.specs.Formed.{Formed, FitClause}
 use Rattle.visits.proofs.Fitting.{fit-none}
 use Rattle.repeats.proofs.Repeats.{All, distinct-short, distinct-none, distinct-all, distinct-once}
@@ -166,8 +167,11 @@ module _ (v : ℕ) (cs : List (List ℤ)) (t : Tables) (few : v ≤ 1024) (many 
         class = subst (Literal (u + 1)) (sym c) (record { above = omega arith; within = le-refl (u + 1) });
         own = ap (λ (z : ℤ). classOf (t′ .variables) (natAbs z)) c ∙ c ∙ ap (λ (z : ℤ). pos (natAbs z)) (sym c);
         value = subst (λ (z : ℤ). natAbs z ≤ 1) (sym x) (omega arith);
-        valued = λ d. absurd (d x);
       }
+
+  -- each variable is its own class, so that its value is that of its class literal
+  pub laid-spread : Spread v (t′ .variables)
+  laid-spread u h = sym (ap (ownTruth (t′ .variables)) (laid-class (u + 1) (omega arith) (omega arith)))
 
   pub laid-formed : Formed v n n (anyEmpty cs) (t′ .clauses) (t′ .literals) (t′ .variables)
   unfolding laid

@@ -3,6 +3,7 @@ pub mod Propagated
 pub mod Propagation
 pub mod Standing
 pub mod Equivalent
+pub mod ByOwn
 pub mod PropagateKeeps
 pub mod Swept
 pub mod Merged

@@ -1,7 +1,7 @@
 -- A literal of the tables and its slot: class, truth and falsehood are the same on both sides. Assumes nothing.
 use Prim.Native.Nat.{ℕ, zero, suc, _*_, _-_, _≤_, _<_}
 use native.Mathlib.Omega.{arith}
-use mathlib.Core.Path.{_≡_, refl, sym, ap, _∙_}
+use mathlib.Core.Path.{_≡_, refl, sym, ap, subst, _∙_}
 use mathlib.Core.Bool.{Bool, false, _||_}
 use mathlib.Core.Logic.{_⊎_, inl, inr, ⊎-elim}
 use mathlib.Core.List.{List}
@@ -15,12 +15,19 @@ use Rattle.base.specs.Decide.{same-or}
 use Rattle.literal.specs.Literals.{Literal, slotOf, litAt, twin, eqZ, signBy}
 use Rattle.literal.proofs.Laws.{lit-slot, slot-lit, slot-below, slot-twin, lit-var}
 use Rattle.literal.proofs.Signed.{abs-neg}
-use Rattle.tables.specs.Tables.{Tables, valueOf}
+use Rattle.tables.specs.Tables.{Tables, classOf, valueOf}
 use Rattle.tables.specs.Values.{classLiteral, ownTruth, isTrue, isFalse, setOwn}
 use Rattle.visits.specs.Formed.{Variables, Known}
-use Rattle.visits.proofs.Known.{class-ranged}
+use Rattle.visits.proofs.Known.{class-ranged, class-own}
+use Rattle.spread.specs.Spread.{spreadTables}
+use Rattle.spread.proofs.Alike.{class-same, truth-same}
+use Rattle.spread.proofs.Spreading.{spread-alike}
 use Rattle.moves.specs.Core as core
 use Rattle.refinement.specs.Represented.{Represented}
+
+-- a slot below 2v is that of a literal
+pub slot-literal : (v s : ℕ) → s < 2 * v → Literal v (litAt s)
+slot-literal v s h = record { above = omega (arith, lit-var s); within = omega (arith, lit-var s, h) }
 
 -- the complement of a value
 eqZ-neg : (x : ℤ) → eqZ (negℤ x) (pos 1) ≡ eqZ x (negsuc 0)
@@ -30,7 +37,7 @@ eqZ-neg (negsuc zero) = refl
 eqZ-neg (negsuc (suc n)) = ne-eqb (suc (suc n)) 1 (λ e. omega (arith, e)) ∙ sym (ne-eqb (suc n) 0 (λ e. omega (arith, e)))
 
 -- the value of a complement is the complement of the value
-own-neg : (w : List ℤ) (c : ℤ) → 0 < natAbs c → ownTruth w (negℤ c) ≡ negℤ (ownTruth w c)
+pub own-neg : (w : List ℤ) (c : ℤ) → 0 < natAbs c → ownTruth w (negℤ c) ≡ negℤ (ownTruth w c)
 own-neg w (pos zero) h = absurd (omega arith)
 own-neg w (pos (suc n)) h = refl
 own-neg w (negsuc n) h = sym (negℤ-negℤ (valueOf w (suc n)))
@@ -38,6 +45,12 @@ own-neg w (negsuc n) h = sym (negℤ-negℤ (valueOf w (suc n)))
 -- a complement is true where the literal is false
 pub complement-true : (w : List ℤ) (c : ℤ) → 0 < natAbs c → eqZ (ownTruth w (negℤ c)) (pos 1) ≡ eqZ (ownTruth w c) (negsuc 0)
 complement-true w c h = ap (λ (x : ℤ). eqZ x (pos 1)) (own-neg w c h) ∙ eqZ-neg (ownTruth w c)
+
+-- a class literal of a literal whose variable is its own class is that literal
+pub own-literal : (w : List ℤ) (l : ℤ) → 0 < natAbs l → classOf w (natAbs l) ≡ pos (natAbs l) → classLiteral w l ≡ l
+own-literal w (pos zero) h e = absurd (omega arith)
+own-literal w (pos (suc n)) h e = e
+own-literal w (negsuc n) h e = ap negℤ e
 
 module _ {v n : ℕ} {mark : Bool} {t : Tables} {k : core.Core} (R : Represented v n mark t k) (rows : Variables v (t .variables)) (l : ℤ) (L : Literal v l) where
   known : Known (t .variables) l
@@ -53,18 +66,24 @@ module _ {v n : ℕ} {mark : Bool} {t : Tables} {k : core.Core} (R : Represented
   unfolding known
   class-lit = class-ranged known
 
-  fact-is : (c : ℤ) → Literal v c → k .facts (slotOf c) ≡ eqZ (ownTruth (t .variables) c) (pos 1)
-  fact-is c C = R .facts (slotOf c) (slot-below c v (C .above) (C .within)) ∙ ap (λ (x : ℤ). eqZ (ownTruth (t .variables) x) (pos 1)) (lit-slot c (C .above))
+  -- a literal that is its own class literal
+  fact-is : (c : ℤ) → Literal v c → classOf (t .variables) (natAbs c) ≡ pos (natAbs c) → k .facts (slotOf c) ≡ eqZ (ownTruth (t .variables) c) (pos 1)
+  fact-is c C own =
+      R .facts (slotOf c) (slot-below c v (C .above) (C .within)) ∙ ap (isTrue (t .variables)) (lit-slot c (C .above))
+      ∙ ap (λ (x : ℤ). eqZ (ownTruth (t .variables) x) (pos 1)) (own-literal (t .variables) c (C .above) own)
 
   pub true-is : core.coreTrue k (slotOf l) ≡ isTrue (t .variables) l
-  true-is = ap (k .facts) class-is ∙ fact-is (classLiteral (t .variables) l) class-lit
+  unfolding known
+  true-is = ap (k .facts) class-is ∙ fact-is (classLiteral (t .variables) l) class-lit (class-own known)
 
   pub false-is : core.coreFalse k (slotOf l) ≡ isFalse (t .variables) l
+  unfolding known
   false-is =
       let c = classLiteral (t .variables) l in
       ap (λ (x : ℕ). k .facts (twin x)) class-is
       ∙ ap (k .facts) (sym (slot-twin c (class-lit .above)))
       ∙ fact-is (negℤ c) (record { above = omega (arith, abs-neg c, class-lit .above); within = omega (arith, abs-neg c, class-lit .within) })
+      (subst (λ (x : ℕ). classOf (t .variables) x ≡ pos x) (sym (abs-neg c)) (class-own known))
       ∙ complement-true (t .variables) c (class-lit .above)
 
 -- ---- a value set
@@ -119,3 +138,16 @@ module _ (w : List ℤ) (c : ℤ) (above : 0 < natAbs c) (room : 2 * natAbs c �
           differ (pos zero) a h = omega arith
           differ (pos (suc n)) a h = let z : _≡_ {A = ℕ} 0 1 = cc in omega arith
           differ (negsuc n) a h = let z : _≡_ {A = ℕ} 0 1 = cc in omega arith
+
+-- ---- values spread
+
+-- the values of class literals stay, so that what stands over slots does
+pub spread-represented : {v n : ℕ} {mark : Bool} {t : Tables} {k : core.Core} → Variables v (t .variables) → Represented v n mark t k → Represented v n mark (spreadTables v t) k
+spread-represented {v} {t = t} {k = k} rows R = record {
+  number = R .number;
+  clauses = R .clauses;
+  classes = λ s h. R .classes s h ∙ ap slotOf (sym (class-same rows (spread-alike rows) (litAt s) (slot-literal v s h)));
+  facts = λ s h. R .facts s h ∙ ap (λ (x : ℤ). eqZ x (pos 1)) (sym (truth-same rows (spread-alike rows) (litAt s) (slot-literal v s h)));
+  beyond = R .beyond;
+  marks = R .marks;
+}

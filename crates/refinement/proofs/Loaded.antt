@@ -19,6 +19,7 @@ use Rattle.state.specs.declared.State.{State}
 use Rattle.tables.specs.Tables.{Tables}
 use Rattle.tables.specs.Tables as T
 use Rattle.tables.specs.Long.{Long}
+use Rattle.tables.specs.Values.{ownTruth}
 use Rattle.tables.specs.Clauses.{literalsOf}
 use Rattle.tables.specs.Calls.{After}
 use Rattle.visits.specs.Formed.{Formed}
@@ -36,12 +37,11 @@ use Rattle.moves.specs.Core.{load, markedCore}
 use Rattle.moves.specs.Moves.{spent, conflict, change, stay, go}
 use Rattle.refinement.specs.Represented.{clauseOf, Represented}
 use Rattle.refinement.proofs.Propagated.{mark-represented, mem-map}
-use Rattle.refinement.proofs.Equivalent.{slot-literal}
+use Rattle.refinement.proofs.Literals.{slot-literal, own-literal}
 use Rattle.refinement.proofs.Standing.{Real, sat-slots, slots-sat}
-use Rattle.refinement.proofs.Shaping.{own-literal}
 use Rattle.refinement.proofs.Held.{stale, Held}
 use Rattle.refinement.proofs.Laid.{nth, before}
-use Rattle.refinement.proofs.LaidFormed.{rec, laid-class, laid-value, laid-formed}
+use Rattle.refinement.proofs.LaidFormed.{rec, laid-class, laid-value, laid-spread, laid-formed}
 
 -- the clause that stands for one of the text, on slots
 unfoldable pub clauseFor : List ℤ → Clause
@@ -106,7 +106,8 @@ module _ (v : ℕ) (cs : List (List ℤ)) (t : Tables) (few : v ≤ 1024) (many 
         sym (ap slotOf (own-literal (t′ .variables) (litAt s) (L .above) (laid-class v cs t few many fits each (natAbs (litAt s)) (L .above) (L .within))) ∙ slot-lit s);
     facts = λ s h.
         let L = slot-literal v s h in
-        sym (ap (λ (z : ℤ). eqZ (signBy (nonNeg (litAt s)) z) (pos 1)) (laid-value v cs t few many fits each (natAbs (litAt s)) (L .above) (L .within)) ∙ nought (nonNeg (litAt s)));
+        sym (ap (λ (z : ℤ). eqZ (ownTruth (t′ .variables) z) (pos 1)) (own-literal (t′ .variables) (litAt s) (L .above) (laid-class v cs t few many fits each (natAbs (litAt s)) (L .above) (L .within)))
+        ∙ ap (λ (z : ℤ). eqZ (signBy (nonNeg (litAt s)) z) (pos 1)) (laid-value v cs t few many fits each (natAbs (litAt s)) (L .above) (L .within)) ∙ nought (nonNeg (litAt s)));
     beyond = λ s h. (refl, refl);
     marks = refl;
   }
@@ -245,7 +246,7 @@ module _ (text : List ℕ) (v n body : ℕ) (accepted : judgeText text ≡ Fits 
         stamped = spent;
         moves = go stay (change (conflict (z .0) (z .2)));
         within = loaded-within v cs each;
-        shape = formed-shape (laid v cs t) (loadedState v (length cs) true) (subst (λ (b : Bool). Formed v (length cs) (length cs) b (laid v cs t .clauses) (laid v cs t .literals) (laid v cs t .variables)) e (laid-formed v cs t few many fits each)) (L .times) (L .links) tt (λ q. absurd (false≢true q));
+        shape = formed-shape (laid v cs t) (loadedState v (length cs) true) (subst (λ (b : Bool). Formed v (length cs) (length cs) b (laid v cs t .clauses) (laid v cs t .literals) (laid v cs t .variables)) e (laid-formed v cs t few many fits each)) (L .times) (L .links) (laid-spread v cs t few many fits each) tt (λ q. absurd (false≢true q));
         tied = mark-represented (loaded-represented v cs t few many fits each);
         stamps = stale refl;
       }
@@ -254,7 +255,7 @@ module _ (text : List ℕ) (v n body : ℕ) (accepted : judgeText text ≡ Fits 
     stamped = spent;
     moves = stay;
     within = loaded-within v cs each;
-    shape = formed-shape (laid v cs t) (loadedState v (length cs) false) (subst (λ (b : Bool). Formed v (length cs) (length cs) b (laid v cs t .clauses) (laid v cs t .literals) (laid v cs t .variables)) e (laid-formed v cs t few many fits each)) (L .times) (L .links) tt (λ q. absurd (false≢true q));
+    shape = formed-shape (laid v cs t) (loadedState v (length cs) false) (subst (λ (b : Bool). Formed v (length cs) (length cs) b (laid v cs t .clauses) (laid v cs t .literals) (laid v cs t .variables)) e (laid-formed v cs t few many fits each)) (L .times) (L .links) (laid-spread v cs t few many fits each) tt (λ q. absurd (false≢true q));
     tied = loaded-represented v cs t few many fits each;
     stamps = stale refl;
   }

@@ -6,33 +6,34 @@ use mathlib.Core.Path.{_≡_, refl, sym, ap, subst, _∙_}
 use mathlib.Core.Bool.{Bool, true, false}
 use mathlib.Core.List.{List, map}
 use lib.IntN.{ℤ, pos, negsuc, natAbs}
-use lib.Signed.{nonNeg}
-use Rattle.literal.specs.Literals.{Literal, slotOf, litAt, twin, signBy, eqZ}
+use Rattle.literal.specs.Literals.{Literal, slotOf, litAt, twin, eqZ}
 use Rattle.literal.specs.Clauses.{distinct, tautology}
-use Rattle.literal.proofs.Laws.{slot-lit, slot-twin, slot-below, lit-var}
+use Rattle.literal.proofs.Laws.{lit-slot, slot-lit, slot-twin, slot-below, lit-var}
 use Rattle.scc.specs.Groups.{leastMutual}
-use Rattle.tables.specs.Tables.{Tables, classOf, valueOf}
+use Rattle.tables.specs.Tables.{Tables, classOf}
 use Rattle.tables.specs.Tables as T
-use Rattle.tables.specs.Values.{classLiteral}
+use Rattle.tables.specs.Values.{classLiteral, ownTruth, truth}
 use Rattle.tables.specs.Fates.{Fate, store, visits}
 use Rattle.tables.specs.Fates as fates
+use Rattle.tables.specs.Passes.{firstUnsettled}
 use Rattle.moves.specs.Core as core
 use Rattle.moves.specs.Moves as moves
 use Rattle.moves.proofs.Groups.{least, least-in, least-out, least-grouped, least-twin, clash-found}
+use Rattle.visits.proofs.Known.{class-ranged}
 use Rattle.visits.proofs.Visiting.{visit-beside}
 use Rattle.visits.proofs.StoreKeeps.{FormedTo, formed-cases}
 use Rattle.merge.specs.Merge.{edgesOf, clashes, representative, mergedClasses}
 use Rattle.merge_visits.specs.Clause.{mergeClause}
-use Rattle.merge.proofs.Regrouped.{regrouped-class, regrouped-value}
+use Rattle.merge.proofs.Regrouped.{regrouped-class}
+use Rattle.merge.proofs.Merged.{classes-formed, truth-new, value-kept}
 use Rattle.merge_visits.proofs.Visiting.{merge-shrinks}
 use Rattle.merge_visits.proofs.VisitKeeps.{formed-visit}
 use Rattle.sound.specs.Formula.{graph}
 use Rattle.refinement.specs.Represented.{Represented}
-use Rattle.refinement.proofs.Literals.{class-lit}
+use Rattle.refinement.proofs.Literals.{slot-literal, class-lit}
 use Rattle.refinement.proofs.Propagated.{Simulated, literalsAt, mark-represented}
 use Rattle.refinement.proofs.Propagation.{moves-join}
 use Rattle.refinement.proofs.Merged.{classed, merged-left, merged-dropped}
-use Rattle.refinement.proofs.Equivalent.{slot-literal}
 use Rattle.refinement.proofs.Shaping.{shaped-of, graph-of, owned-of}
 
 -- ---- visits
@@ -105,20 +106,32 @@ module _ {v n : ℕ} {t : Tables} {k : core.Core} (F : FormedTo v n n t) (R : Re
             let s = leastMutual (edgesOf t n) (2 * v) (slotOf (classOf (t .variables) (w + 1))) in
             subst (λ (x : ℕ). 0 < natAbs (classOf (mergedClasses v n t .variables) x)) (add-one w) (subst (λ (z : ℤ). 0 < natAbs z) (sym e) (let q = lit-var s in omega (arith, q)))
 
-    pub opening-simulated : Simulated v n false (mergedClasses v n t) k
-    unfolding mergedClasses
-    opening-simulated = record {
-      to = core.regroup rep k;
-      moves = moves.go moves.stay (moves.change (least-grouped v k (shaped-of F R) (owned-of F R)));
-      tied = record {
-        number = R .number;
-        clauses = R .clauses;
-        classes = λ s h. ap rep (R .classes s h) ∙ new-literal (litAt s) (slot-literal v s h);
-        facts = λ s h. R .facts s h ∙ ap (λ (z : ℤ). eqZ (signBy (nonNeg (litAt s)) z) (pos 1)) (sym (value-same s));
-        beyond = λ s h. (ap rep (R .beyond s h .0) ∙ least-out v k (shaped-of F R) s h, R .beyond s h .1);
-        marks = R .marks;
-      };
-    }
-      where
-        value-same : (s : ℕ) → valueOf (mergedClasses v n t .variables) (natAbs (litAt s)) ≡ valueOf (t .variables) (natAbs (litAt s))
-        value-same s = subst (λ (x : ℕ). valueOf (mergedClasses v n t .variables) x ≡ valueOf (t .variables) x) (let q : s / 2 + 1 ≡ natAbs (litAt s) = sym (lit-var s) in q) (regrouped-value (representative (edgesOf t n) v) v (t .variables) (s / 2))
+    module _ (settled : firstUnsettled t n ≡ n) where
+      -- a literal is as true as before: where its class literal is another now, neither had a value
+      same-truth : (l : ℤ) → Literal v l → truth (t .variables) l ≡ truth (mergedClasses v n t .variables) l
+      unfolding mergedClasses
+      same-truth l L =
+          let c : ℤ = classLiteral (t .variables) l in
+          let C : Literal v c = class-lit R (F .vars) l L in
+          let new : List ℤ = mergedClasses v n t .variables in
+          let N : Literal v (classLiteral new l) = class-ranged (record { count = v; rows = classes-formed t F none settled .vars; ranged = L }) in
+          value-kept t F none settled c C
+          ∙ sym (truth-new t F (leastMutual (edgesOf t n) (2 * v) (slotOf c)))
+          ∙ ap (λ (s : ℕ). ownTruth new (litAt s))
+          (ap (λ (adj : ℕ → List ℕ). leastMutual adj (2 * v) (slotOf c)) (sym (graph-of F R)) ∙ sym (least-in v k (shaped-of F R) (slotOf c) (slot-below c v (C .above) (C .within))) ∙ new-literal l L)
+          ∙ ap (ownTruth new) (lit-slot (classLiteral new l) (N .above))
+
+      pub opening-simulated : Simulated v n false (mergedClasses v n t) k
+      unfolding mergedClasses
+      opening-simulated = record {
+        to = core.regroup rep k;
+        moves = moves.go moves.stay (moves.change (least-grouped v k (shaped-of F R) (owned-of F R)));
+        tied = record {
+          number = R .number;
+          clauses = R .clauses;
+          classes = λ s h. ap rep (R .classes s h) ∙ new-literal (litAt s) (slot-literal v s h);
+          facts = λ s h. R .facts s h ∙ ap (λ (z : ℤ). eqZ z (pos 1)) (same-truth (litAt s) (slot-literal v s h));
+          beyond = λ s h. (ap rep (R .beyond s h .0) ∙ least-out v k (shaped-of F R) s h, R .beyond s h .1);
+          marks = R .marks;
+        };
+      }

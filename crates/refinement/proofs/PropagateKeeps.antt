@@ -9,6 +9,7 @@ use Rattle.literal.specs.Assignments.{Assignment}
 use Rattle.state.specs.declared.State.{State}
 use Rattle.tables.specs.Tables.{Tables}
 use Rattle.tables.specs.Stands.{Stands}
+use Rattle.shape.specs.Shape.{Spread}
 use Rattle.entry.specs.Entry.{entryOf}
 use Rattle.entry.specs.declared.PassName.the-variants as own
 use Rattle.entry.specs.declared.Entry.{Entry}
@@ -16,6 +17,8 @@ use Rattle.entry.specs.declared.Entry.the-variants.{No, Opens, Resumes}
 use Rattle.entry.proofs.Entering.{opens-entered, resumes-entered}
 use Rattle.visits.specs.Formed.{Formed}
 use Rattle.visits.proofs.Entered.{entered-formed, entered-cursor}
+use Rattle.spread.specs.Spread.{spreadTables}
+use Rattle.spread.proofs.Spreading.{spread-done, spread-formed}
 use Rattle.propagate.specs.Propagate.{propagateFrom, replied, propagateBy, propagateCall}
 use Rattle.propagate_visits.specs.Visits.{Progress, going, settled, contradicted, begin, propagateVisits}
 use Rattle.propagate_visits.proofs.Stepping.{Good, visits-good}
@@ -23,32 +26,32 @@ use Rattle.propagate.proofs.Shaped.{begin-good}
 use Rattle.moves.specs.Core as core
 use Rattle.moves.proofs.Keeps.{moves-kept}
 use Rattle.refinement.specs.Represented.{Represented, coreOf}
+use Rattle.refinement.proofs.Literals.{spread-represented}
 use Rattle.refinement.proofs.Standing.{core-represented}
-use Rattle.refinement.proofs.Equivalent.{stands-core, core-stands}
+use Rattle.refinement.proofs.Equivalent.{tie}
+use Rattle.refinement.proofs.Propagated.{Simulated}
 use Rattle.refinement.proofs.Propagation.{Tied, Follows, visits-follow}
 
--- the tables and what they represent are satisfied alike
-tie : (st : State) (t : Tables) (k : core.Core) (s : ℕ) → Formed (st .v) (st .n) s (st .mark) (t .clauses) (t .literals) (t .variables) → Represented (st .v) (st .n) (st .mark) t k → (τ : Assignment) → Stands t st τ ↔ core.ModelOf k τ
-tie st t k s F R τ = (stands-core st t k s F R τ, core-stands st t k s F R τ)
-
-module _ (t : Tables) (st : State) (F : Formed (st .v) (st .n) (st .n) false (t .clauses) (t .literals) (t .variables)) (unmarked : st .mark ≡ false) (τ : Assignment) where
+module _ (t : Tables) (st : State) (F : Formed (st .v) (st .n) (st .n) false (t .clauses) (t .literals) (t .variables)) (values : Spread (st .v) (t .variables)) (unmarked : st .mark ≡ false) (τ : Assignment) where
   k : core.Core
   k = coreOf (st .v) (st .n) false t
 
   before-tie : Stands t st τ ↔ core.ModelOf k τ
   unfolding k
   before-tie =
-      tie st t (coreOf (st .v) (st .n) false t) (st .n) (subst (λ (b : Bool). Formed (st .v) (st .n) (st .n) b (t .clauses) (t .literals) (t .variables)) (sym unmarked) F)
+      tie st t (coreOf (st .v) (st .n) false t) (st .n) (subst (λ (b : Bool). Formed (st .v) (st .n) (st .n) b (t .clauses) (t .literals) (t .variables)) (sym unmarked) F) values
       (subst (λ (b : Bool). Represented (st .v) (st .n) b t (coreOf (st .v) (st .n) false t)) (sym unmarked) (core-represented (st .v) (st .n) false t)) τ
 
+  -- tables that the visits have reached, once their values are spread
+  reached-tie : (st′ : State) (t′ : Tables) → Formed (st′ .v) (st′ .n) (st .n) (st′ .mark) (t′ .clauses) (t′ .literals) (t′ .variables) → Simulated (st′ .v) (st′ .n) (st′ .mark) t′ k → Stands (spreadTables (st′ .v) t′) st′ τ ↔ Stands t st τ
+  reached-tie st′ t′ G S =
+      Iff·trans (tie st′ (spreadTables (st′ .v) t′) (S .to) (st .n) (spread-formed G) (spread-done (G .vars)) (spread-represented (G .vars) (S .tied)) τ) (Iff·trans (moves-kept (S .moves) tt .1 τ) (Iff·symm before-tie))
+
   -- wherever the visits end
-  after-tie : (fresh : Bool) (m : ℕ) (before : List ℕ) (q : Progress) → Good (st .v) (st .n) q → Follows (st .v) (st .n) q k → Stands (replied fresh before st m q .tables) (replied fresh before st m q .state) τ ↔ Stands t st τ
-  after-tie fresh m before (going i changed t′) G S =
-      Iff·trans (tie (replied fresh before st m (going i changed t′) .state) t′ (S .to) (st .n) (G .0) (S .tied) τ) (Iff·trans (moves-kept (S .moves) tt .1 τ) (Iff·symm before-tie))
-  after-tie fresh m before (settled t′) G S =
-      Iff·trans (tie (replied fresh before st m (settled t′) .state) t′ (S .to) (st .n) G (S .tied) τ) (Iff·trans (moves-kept (S .moves) tt .1 τ) (Iff·symm before-tie))
-  after-tie fresh m before (contradicted t′) G S =
-      Iff·trans (tie (replied fresh before st m (contradicted t′) .state) t′ (S .to) (st .n) G (S .tied) τ) (Iff·trans (moves-kept (S .moves) tt .1 τ) (Iff·symm before-tie))
+  after-tie : (fresh : Bool) (m : ℕ) (before : List ℕ) (q : Progress) → Good (st .v) (st .n) q → Follows (st .v) (st .n) q k → Stands (spreadTables (st .v) (replied fresh before st m q .tables)) (replied fresh before st m q .state) τ ↔ Stands t st τ
+  after-tie fresh m before (going i changed t′) G S = reached-tie (replied fresh before st m (going i changed t′) .state) t′ (G .0) (record { to = S .to; moves = S .moves; tied = S .tied })
+  after-tie fresh m before (settled t′) G S = reached-tie (replied fresh before st m (settled t′) .state) t′ G (record { to = S .to; moves = S .moves; tied = S .tied })
+  after-tie fresh m before (contradicted t′) G S = reached-tie (replied fresh before st m (contradicted t′) .state) t′ G (record { to = S .to; moves = S .moves; tied = S .tied })
 
   from-keeps : (fresh : Bool) (steps : ℕ) (p : Progress) → Good (st .v) (st .n) p → Tied (st .v) (st .n) p k → Stands (propagateFrom fresh steps p t st .tables) (propagateFrom fresh steps p t st .state) τ ↔ Stands t st τ
   unfolding propagateFrom
@@ -69,8 +72,8 @@ propagate-keeps steps t st τ = by (entryOf own.Propagate t st) refl
     by Opens q =
         let E = opens-entered own.Propagate t st q in
         let F = entered-formed E tt in
-        from-keeps t st F (E .unmarked) τ false steps (begin (st .n) t) (begin-good (st .v) (st .n) t F) (begin-tied (st .v) (st .n) t (coreOf (st .v) (st .n) false t) (core-represented (st .v) (st .n) false t))
+        from-keeps t st F (E .shape .values) (E .unmarked) τ false steps (begin (st .n) t) (begin-good (st .v) (st .n) t F) (begin-tied (st .v) (st .n) t (coreOf (st .v) (st .n) false t) (core-represented (st .v) (st .n) false t))
     by (Resumes i changed) q =
         let E = resumes-entered own.Propagate t st i changed q in
         let F = entered-formed E tt in
-        from-keeps t st F (E .unmarked) τ (st .fresh) steps (going i changed t) (F, entered-cursor E .0) (core-represented (st .v) (st .n) false t)
+        from-keeps t st F (E .shape .values) (E .unmarked) τ (st .fresh) steps (going i changed t) (F, entered-cursor E .0) (core-represented (st .v) (st .n) false t)

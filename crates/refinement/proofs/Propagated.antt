@@ -14,8 +14,8 @@ use lib.Signed.{nonNeg}
 use Rattle.base.specs.Decide.{same-or}
 use Rattle.base.specs.Lists.{any, filter}
 use Rattle.base.proofs.Lists.{mem-filter, any-out, in-filter, filter-sub, mem-getD}
-use Rattle.literal.specs.Literals.{Literal, slotOf, litAt, signBy}
-use Rattle.literal.proofs.Laws.{slot-below}
+use Rattle.literal.specs.Literals.{Literal, slotOf, litAt, eqZ, signBy}
+use Rattle.literal.proofs.Laws.{lit-slot, slot-below}
 use Rattle.tables.specs.Tables.{Tables, tables, lengthOf}
 use Rattle.tables.specs.Tables as T
 use Rattle.tables.specs.Values as values
@@ -33,7 +33,7 @@ use Rattle.sound.specs.Formula.{Clause, dropped, standing}
 use Rattle.moves.specs.Core as core
 use Rattle.moves.specs.Moves.{Change, satisfied, falsified, unit, conflict, spent, change, Moves, stay, go}
 use Rattle.refinement.specs.Represented.{clauseOf, Represented}
-use Rattle.refinement.proofs.Literals.{class-is, true-is, false-is, facts-set, complement-true}
+use Rattle.refinement.proofs.Literals.{slot-literal, class-is, true-is, false-is, facts-set, complement-true}
 
 -- ---- lists
 
@@ -115,9 +115,18 @@ module _ {v n : ℕ} {t : Tables} {k : core.Core} (R : Represented v n false t k
     clauses = R .clauses;
     classes = λ s h. R .classes s h ∙ ap (λ (y : ℤ). slotOf (signBy (nonNeg (litAt s)) y)) (sym (true-classes rows x X (natAbs (litAt s))));
     facts = λ s h.
-        ap (λ (y : ℕ). eqb s y || k .facts s) (class-is R rows x X)
-        ∙ facts-set (t .variables) c (class-ranged K .above) (known-place (known-class K)) s (k .facts s) (sym (R .facts s h)) (complement-true (t .variables) c (class-ranged K .above) ∙ kept);
-    beyond = λ s h. (R .beyond s h .0, ap (λ (b : Bool). b || k .facts s) (ne-eqb s (k .class (slotOf x)) (λ q. omega (arith, q, class-is R rows x X, slot-below c v (class-ranged K .above) (class-ranged K .within), h))) ∙ R .beyond s h .1);
+        let d : ℤ = values.classLiteral (t .variables) (litAt s) in
+        let back : litAt (slotOf d) ≡ d = lit-slot d (class-ranged (record { count = v; rows = rows; ranged = slot-literal v s h }) .above) in
+        ap (λ (y : ℕ). eqb (k .class s) y || k .facts s) (class-is R rows x X)
+        ∙ ap (λ (y : ℕ). eqb y (slotOf c) || k .facts s) (R .classes s h)
+        ∙ facts-set (t .variables) c (class-ranged K .above) (known-place (known-class K)) (slotOf d) (k .facts s)
+        (ap (λ (y : ℤ). eqZ (values.ownTruth (t .variables) y) (pos 1)) back ∙ sym (R .facts s h)) (complement-true (t .variables) c (class-ranged K .above) ∙ kept)
+        ∙ ap (λ (y : ℤ). eqZ (values.ownTruth (values.setTrue (t .variables) x) y) (pos 1))
+        (back ∙ ap (signBy (nonNeg (litAt s))) (sym (true-classes rows x X (natAbs (litAt s)))));
+    beyond = λ s h. (
+      R .beyond s h .0,
+      ap (λ (b : Bool). b || k .facts s) (ne-eqb (k .class s) (k .class (slotOf x)) (λ q. omega (arith, q, R .beyond s h .0, class-is R rows x X, slot-below c v (class-ranged K .above) (class-ranged K .within), h))) ∙ R .beyond s h .1,
+    );
     marks = R .marks;
   }
     where

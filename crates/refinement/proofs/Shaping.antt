@@ -25,15 +25,9 @@ use Rattle.sound.specs.Kept.{Shaped}
 use Rattle.moves.specs.Core as core
 use Rattle.moves.specs.Moves.{Owned}
 use Rattle.refinement.specs.Represented.{clauseOf, Represented}
-use Rattle.refinement.proofs.Literals.{class-is}
+use Rattle.refinement.proofs.Literals.{own-literal, class-is}
 use Rattle.refinement.proofs.Propagated.{literalsAt, mem-map, mem-at}
 use Rattle.refinement.proofs.Standing.{clause-stands}
-
--- a class literal of a literal whose variable is its own class is that literal
-pub own-literal : (w : List ℤ) (l : ℤ) → 0 < natAbs l → classOf w (natAbs l) ≡ pos (natAbs l) → classLiteral w l ≡ l
-own-literal w (pos zero) h e = absurd (omega arith)
-own-literal w (pos (suc n)) h e = e
-own-literal w (negsuc n) h e = ap negℤ e
 
 -- the clauses, one by one
 same-slots : (c : List ℕ) (l : List ℤ) (f : List Clause) (m i : ℕ) → length f ≡ m → ((j : ℕ) → j < m → literalsIn (getD f j dropped) ≡ slotsAt c l (i + j)) → map literalsIn f ≡ slotsFrom c l m i

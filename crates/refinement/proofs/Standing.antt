@@ -2,7 +2,7 @@
 use Prim.Native.Nat.{ℕ, zero, suc, _+_, _*_, _-_, _<_}
 use native.Mathlib.Omega.{arith}
 use native.Mathlib.Nat.{add-zero}
-use mathlib.Core.Path.{_≡_, refl, sym, ap, _∙_}
+use mathlib.Core.Path.{_≡_, refl, sym, ap, subst, _∙_}
 use mathlib.Core.Bool.{Bool, true, false, not, _||_}
 use mathlib.Core.Logic.{_⊎_, ⊎-elim}
 use mathlib.Core.List.{List, [], _∷_, map, List·Memᴰ, List·Memᴰ·head, List·Memᴰ·tail, List·Memᴰ·not-nil, List·Memᴰ·cases-cons, Memᴰ·map}
@@ -10,14 +10,14 @@ use lib.ListN.{length, getD}
 use lib.IntN.{ℤ, pos, negsuc, negℤ, natAbs, negℤ-negℤ}
 use native.Mathlib.Numerals.{add-one}
 use borrow.Author.Tests.{lt-ltb, le-ltb}
-use Rattle.literal.specs.Literals.{Literal, slotOf, litAt, eqZ}
+use Rattle.literal.specs.Literals.{Literal, slotOf, litAt}
 use Rattle.literal.specs.Assignments.{Assignment, trueUnder, someTrue}
 use Rattle.literal.proofs.Truth.{holds-neg}
 use Rattle.state.specs.declared.State.{State}
 use Rattle.tables.specs.Tables.{Tables, classOf, valueOf}
 use Rattle.tables.specs.Tables as T
-use Rattle.tables.specs.Stands.{Stands}
-use Rattle.tables.specs.Values.{classLiteral, ownTruth}
+use Rattle.tables.specs.Stands.{StandsByOwn}
+use Rattle.tables.specs.Values.{classLiteral, ownTruth, isTrue}
 use Rattle.tables.specs.Clauses.{literalsOf}
 use Rattle.visits.specs.Formed.{Variables}
 use Rattle.visits.proofs.Known.{known-row}
@@ -46,10 +46,10 @@ core-represented v n mark t = record {
   number = clauses-length (t .clauses) (t .literals) n 0;
   clauses = λ i h. clauses-at (t .clauses) (t .literals) n 0 i h ∙ ap (clauseOf (t .clauses) (t .literals)) (let e : 0 + i ≡ i = omega arith in e);
   classes = λ s h. ap (λ (b : Bool). elim b as (λ y. ℕ) [ true ↦ slotOf (classLiteral (t .variables) (litAt s)) | false ↦ s ]) (lt-ltb s (2 * v) h);
-  facts = λ s h. ap (λ (b : Bool). elim b as (λ y. Bool) [ true ↦ eqZ (ownTruth (t .variables) (litAt s)) (pos 1) | false ↦ false ]) (lt-ltb s (2 * v) h);
+  facts = λ s h. ap (λ (b : Bool). elim b as (λ y. Bool) [ true ↦ isTrue (t .variables) (litAt s) | false ↦ false ]) (lt-ltb s (2 * v) h);
   beyond = λ s h. (
     ap (λ (b : Bool). elim b as (λ y. ℕ) [ true ↦ slotOf (classLiteral (t .variables) (litAt s)) | false ↦ s ]) (le-ltb s (2 * v) h),
-    ap (λ (b : Bool). elim b as (λ y. Bool) [ true ↦ eqZ (ownTruth (t .variables) (litAt s)) (pos 1) | false ↦ false ]) (le-ltb s (2 * v) h),
+    ap (λ (b : Bool). elim b as (λ y. Bool) [ true ↦ isTrue (t .variables) (litAt s) | false ↦ false ]) (le-ltb s (2 * v) h),
   );
   marks = refl;
 }
@@ -99,7 +99,7 @@ stands-clause c l i e = ap (λ (x : ℕ). elim x as (λ y. Clause) [ zero ↦ dr
 
 -- ---- classes and values of a literal
 
-module _ (st : State) (t : Tables) (τ : Assignment) (S : Stands t st τ) (rows : Variables (st .v) (t .variables)) where
+module _ (st : State) (t : Tables) (τ : Assignment) (S : StandsByOwn t st τ) (rows : Variables (st .v) (t .variables)) where
   pub class-holds : (l : ℤ) → Literal (st .v) l → trueUnder τ l ≡ trueUnder τ (classLiteral (t .variables) l)
   class-holds (pos zero) L = absurd (omega (arith, L .above))
   class-holds (pos (suc n)) L = ap τ (sym (add-one n)) ∙ S .classes n (L .within) ∙ ap (λ (w : ℕ). trueUnder τ (classOf (t .variables) w)) (add-one n)
@@ -107,7 +107,9 @@ module _ (st : State) (t : Tables) (τ : Assignment) (S : Stands t st τ) (rows 
       ap not (ap τ (sym (add-one n)) ∙ S .classes n (L .within) ∙ ap (λ (w : ℕ). trueUnder τ (classOf (t .variables) w)) (add-one n))
       ∙ sym (holds-neg τ (classOf (t .variables) (suc n)) (known-row (record { count = st .v; rows = rows; ranged = L }) .class .above))
 
-  pub fact-holds : (l : ℤ) → Literal (st .v) l → ownTruth (t .variables) l ≡ pos 1 → trueUnder τ l ≡ true
-  fact-holds (pos zero) L e = absurd (omega (arith, L .above))
-  fact-holds (pos (suc n)) L e = ap τ (sym (add-one n)) ∙ S .truths n (L .within) (ap (valueOf (t .variables)) (add-one n) ∙ e)
-  fact-holds (negsuc n) L e = ap not (ap τ (sym (add-one n)) ∙ S .falsehoods n (L .within) (ap (valueOf (t .variables)) (add-one n) ∙ sym (negℤ-negℤ (valueOf (t .variables) (suc n))) ∙ ap negℤ e))
+  -- of a literal whose variable is its own class
+  pub fact-holds : (l : ℤ) → Literal (st .v) l → classOf (t .variables) (natAbs l) ≡ pos (natAbs l) → ownTruth (t .variables) l ≡ pos 1 → trueUnder τ l ≡ true
+  fact-holds (pos zero) L own e = absurd (omega (arith, L .above))
+  fact-holds (pos (suc n)) L own e = ap τ (sym (add-one n)) ∙ S .truths n (L .within) (subst (λ (x : ℕ). classOf (t .variables) x ≡ pos x) (sym (add-one n)) own) (ap (valueOf (t .variables)) (add-one n) ∙ e)
+  fact-holds (negsuc n) L own e =
+      ap not (ap τ (sym (add-one n)) ∙ S .falsehoods n (L .within) (subst (λ (x : ℕ). classOf (t .variables) x ≡ pos x) (sym (add-one n)) own) (ap (valueOf (t .variables)) (add-one n) ∙ sym (negℤ-negℤ (valueOf (t .variables) (suc n))) ∙ ap negℤ e))

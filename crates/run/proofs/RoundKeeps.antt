@@ -94,7 +94,7 @@ module _ {w : Standing} (R : Runs w) where
 
       go : (b : Bool) → st .fresh ≡ b → Rests (between (sweeping.sweepUnlessStale b (st .n) 0 t st))
       go true e =
-          let r = sweep-whole t st (runs-formed R) (stamped e) (R .shape .long .times) (R .shape .long .links) in
+          let r = sweep-whole t st (runs-formed R) (stamped e) (R .shape .long .times) (R .shape .long .links) (R .shape .values) in
           record { shape = r .0; idle = r .1 }
       go false e = runs-rests R
 

@@ -15,6 +15,7 @@ use Rattle.tables.specs.Tables.{tables}
 use Rattle.tables.specs.Clauses.{slotsAt, slotsFrom, standingCount, literalCount}
 use Rattle.tables.specs.Fates.{shortened, droppedAt, fateAt, visits}
 use Rattle.tables.specs.Passes.{advance}
+use Rattle.spread.specs.Spread.{spreadFrom, spread}
 use Rattle.propagate.specs.Propagate.{propagateFrom}
 use Rattle.propagate_visits.specs.Visits.{propagateClause, propagateVisit, propagateVisits}
 use Rattle.merge.specs.Merge.{clashes, representative, regrouped, mergedClasses, mergeOpen}
@@ -31,16 +32,16 @@ given =
     (pos 1 ∷ pos 0 ∷ pos 2 ∷ pos 0 ∷ pos 3 ∷ pos 0 ∷ pos 4 ∷ pos 0 ∷ []) (1 ∷ 2 ∷ []) (pos 1 ∷ pos 1 ∷ []))
     (state 4 5 Idle true false)
 
--- the first Merge makes the classes 1, 1, -1, 1 and leaves the unit 1, the second Propagate sets its value, and the second Merge finds only groups of one
+-- the first Merge makes the classes 1, 1, -1, 1 and leaves the unit 1, the second Propagate sets its value and with it those of 2, -3 and 4, and the second Merge finds only groups of one
 settled : Standing
 settled =
     standingIn
     (tables (0 ∷ 0 ∷ 0 ∷ 2 ∷ 0 ∷ 0 ∷ 4 ∷ 0 ∷ 0 ∷ 6 ∷ 0 ∷ 0 ∷ 8 ∷ 0 ∷ 0 ∷ []) (pos 0 ∷ pos 0 ∷ pos 0 ∷ pos 0 ∷ pos 0 ∷ pos 0 ∷ pos 0 ∷ pos 0 ∷ pos 0 ∷ pos 0 ∷ [])
-    (pos 1 ∷ pos 1 ∷ pos 1 ∷ pos 0 ∷ negsuc 0 ∷ pos 0 ∷ pos 1 ∷ pos 0 ∷ []) (1 ∷ 2 ∷ []) (pos 1 ∷ pos 1 ∷ []))
+    (pos 1 ∷ pos 1 ∷ pos 1 ∷ pos 1 ∷ negsuc 0 ∷ negsuc 0 ∷ pos 1 ∷ pos 1 ∷ []) (1 ∷ 2 ∷ []) (pos 1 ∷ pos 1 ∷ []))
     (state 4 5 Idle false false)
 
 settles : settle given ≡ settled
-unfolding given settled any filter first anyBelow twin arrive leave edge edges enters startWalk outs froms tos reaches connected cyclic leastMutual slotsAt slotsFrom standingCount literalCount shortened droppedAt fateAt visits advance propagateClause propagateVisit propagateVisits propagateFrom clashes representative regrouped mergedClasses mergeClause mergeOpen settleFor settle
+unfolding given settled any filter first anyBelow twin arrive leave edge edges enters startWalk outs froms tos reaches connected cyclic leastMutual slotsAt slotsFrom standingCount literalCount shortened droppedAt fateAt visits advance propagateClause propagateVisit propagateVisits spreadFrom spread propagateFrom clashes representative regrouped mergedClasses mergeClause mergeOpen settleFor settle
 settles = refl
 
 -- four variables are their own class before, one after
@@ -56,5 +57,5 @@ clashing =
     (state 2 4 Idle false false)
 
 marks : settle clashing ≡ standingIn (clashing .tables) (state 2 4 Idle false true)
-unfolding clashing any filter first anyBelow twin arrive leave edge edges enters startWalk outs froms tos reaches connected cyclic leastMutual slotsAt slotsFrom standingCount literalCount shortened droppedAt fateAt visits advance propagateClause propagateVisit propagateVisits propagateFrom clashes representative regrouped mergedClasses mergeClause mergeOpen settleFor settle
+unfolding clashing any filter first anyBelow twin arrive leave edge edges enters startWalk outs froms tos reaches connected cyclic leastMutual slotsAt slotsFrom standingCount literalCount shortened droppedAt fateAt visits advance propagateClause propagateVisit propagateVisits spreadFrom spread propagateFrom clashes representative regrouped mergedClasses mergeClause mergeOpen settleFor settle
 marks = refl

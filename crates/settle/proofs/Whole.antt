@@ -1,6 +1,6 @@
 -- What a whole Propagate leaves, as Settle uses it: it has ended, with the mark or with no clause unsettled; the tables are formed; and the stamp records and the classes are as they were. Assumes nothing.
 use Prim.Native.Nat.{ℕ}
-use mathlib.Core.Path.{_≡_, refl, subst}
+use mathlib.Core.Path.{_≡_, refl, subst, _∙_}
 use mathlib.Core.Bool.{false}
 use mathlib.Core.Logic.{_⊎_, inl, inr}
 use mathlib.Core.List.{List}
@@ -9,9 +9,13 @@ use Rattle.state.specs.declared.State.{State}
 use Rattle.state.specs.declared.Pass.the-variants.{Idle}
 use Rattle.tables.specs.Tables.{Tables, classOf}
 use Rattle.tables.specs.Passes.{firstUnsettled}
+use Rattle.shape.specs.Shape.{Spread}
 use Rattle.visits.specs.Formed.{Formed}
 use Rattle.visits.proofs.Visiting.{SameStamps}
 use Rattle.visits.proofs.StoreKeeps.{FormedIn}
+use Rattle.spread.specs.Spread.{spreadBehind}
+use Rattle.spread.proofs.Spreading.{spread-alike, spread-done, spread-formed}
+use Rattle.spread.proofs.Settled.{unsettled-spread}
 use Rattle.propagate.specs.Propagate.{replied, propagateFrom}
 use Rattle.propagate_visits.specs.Visits.{Progress, going, settled, contradicted, begin, Reached, propagateVisits}
 use Rattle.propagate_visits.proofs.Stepping.{Good}
@@ -30,12 +34,25 @@ pub record Ended (w p : Standing) : Type 0 where
   pub ending : (p .state ≡ marked (w .state)) ⊎ ((p .state ≡ closed false (w .state)) × (firstUnsettled (p .tables) (w .state .n) ≡ w .state .n))
   pub stamps : SameStamps (w .tables) (p .tables)
   pub classes : (j : ℕ) → classOf (p .tables .variables) j ≡ classOf (w .tables .variables) j
+  pub values : Spread (w .state .v) (p .tables .variables)
 
 replied-ended : (t : Tables) (st : State) (before : List ℕ) (m : ℕ) (q : Progress) → Final (st .v) (st .n) q → SameStamps t (tablesAt q) → ((j : ℕ) → classOf (tablesAt q .variables) j ≡ classOf (t .variables) j)
-    → Ended (record { tables = t; state = st }) (between (replied false before st m q))
+    → Ended (record { tables = t; state = st }) (between (spreadBehind (st .v) (replied false before st m q)))
 replied-ended t st before m (going k changed u) G S C = absurd G
-replied-ended t st before m (settled u) G S C = record { formed = G .0; ending = inr (refl, G .1); stamps = S; classes = C }
-replied-ended t st before m (contradicted u) G S C = record { formed = G; ending = inl refl; stamps = S; classes = C }
+replied-ended t st before m (settled u) G S C = record {
+  formed = spread-formed (G .0);
+  ending = inr (refl, unsettled-spread u (G .0) ∙ G .1);
+  stamps = record { times = S .times; links = S .links };
+  classes = λ j. spread-alike (G .0 .vars) .classes j ∙ C j;
+  values = spread-done (G .0 .vars);
+}
+replied-ended t st before m (contradicted u) G S C = record {
+  formed = spread-formed G;
+  ending = inl refl;
+  stamps = record { times = S .times; links = S .links };
+  classes = λ j. spread-alike (G .vars) .classes j ∙ C j;
+  values = spread-done (G .vars);
+}
 
 -- THE THEOREM
 pub whole : (t : Tables) (st : State) → FormedIn (st .v) (st .n) t → Ended (record { tables = t; state = st }) (propagated (record { tables = t; state = st }))

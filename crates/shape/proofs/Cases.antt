@@ -11,7 +11,7 @@ use Rattle.stamps.specs.Decision.{literal?, holds?, times?, parent?, start?, ne
 use Rattle.state.specs.States.{state}
 use Rattle.tables.specs.Tables.{Tables, tables}
 use Rattle.tables.specs.Long.{long?}
-use Rattle.shape.specs.Decision.{parts?, literals?, variable?, cursor?, clauses?, shape?, shapeOk}
+use Rattle.shape.specs.Decision.{parts?, literals?, variable?, spread?, cursor?, clauses?, shape?, shapeOk}
 use Rattle.state.specs.declared.State.{State}
 use Rattle.state.specs.declared.Pass.the-variants.{Idle, Merge, Sweep}
 
@@ -74,6 +74,13 @@ right = full clauses₂ literals₂ variables₂ times₂ links₂
 abbrev idle : State
 idle = state 4 3 Idle true false
 
+-- a fifth variable, of a class and a value, where variable 1 has a value
+abbrev merged : ℤ → ℤ → ℤ → Tables
+merged value₁ class value = full clauses₂ literals₂ (set variables₂ 1 value₁ ++ (class ∷ value ∷ [])) times₂ links₂
+
+abbrev five : State
+five = state 5 3 Idle false false
+
 abbrev cases : List Case
 cases =
     case right idle true
@@ -94,11 +101,18 @@ cases =
     ∷ case (variable 6 (negsuc 0)) idle false  -- the class of 4 is -1, and 4 stands in a clause
     ∷ case (variable 6 (negsuc 0)) (state 4 3 (Merge 2) true false) true  -- which an open Merge has still to visit
     ∷ case (variable 7 (negsuc 1)) idle false  -- a value of -2
+    ∷ case (merged (pos 1) (pos 1) (pos 1)) five true  -- the value of 5 is that of its class 1
+    ∷ case (merged (pos 1) (pos 1) (pos 0)) five false  -- not the base's zero
+    ∷ case (merged (pos 0) (pos 1) (pos 1)) five false  -- nor a value where the class has none
+    ∷ case (merged (pos 1) (negsuc 0) (negsuc 0)) five true  -- the class is -1: sign included
+    ∷ case (merged (pos 1) (negsuc 0) (pos 1)) five false  -- the sign left out
+    ∷ case (merged (negsuc 0) (negsuc 0) (pos 1)) five true
+    ∷ case (merged (pos 0) (negsuc 0) (pos 0)) five true
     ∷ case right (state 4 3 (Sweep 3) true false) false  -- a cursor past the last clause
     ∷ case right (state 4 3 (Sweep 2) true true) false  -- open under the mark
     ∷ case (tables (padℕ 12287 clauses₂) (padℤ 16384 literals₂) (padℤ 2048 variables₂) (padℕ 4096 times₂) (padℤ 4096 links₂)) idle false
     ∷ []
 
 holds : All cases
-unfolding shapeOk shape? long? clauses? parts? literals? variable? cursor? fresh? times? parent? start? nested? holds? literal? and? or? if? not? so? every? eqᵇ? eqℤ? ℕ-discrete decLe decLt
-holds = (refl, (refl, (refl, (refl, (refl, (refl, (refl, (refl, (refl, (refl, (refl, (refl, (refl, (refl, (refl, (refl, (refl, (refl, (refl, (refl, (refl, tt)))))))))))))))))))))
+unfolding shapeOk shape? long? clauses? parts? literals? variable? spread? cursor? fresh? times? parent? start? nested? holds? literal? and? or? if? not? so? every? eqᵇ? eqℤ? ℕ-discrete decLe decLt
+holds = (refl, (refl, (refl, (refl, (refl, (refl, (refl, (refl, (refl, (refl, (refl, (refl, (refl, (refl, (refl, (refl, (refl, (refl, (refl, (refl, (refl, (refl, (refl, (refl, (refl, (refl, (refl, (refl, tt))))))))))))))))))))))))))))

@@ -12,7 +12,8 @@ use Rattle.base.specs.Decide.{Decides, does, does-exact, agrees, and?, if?, not
 use Rattle.stamps.specs.Decision.{literal?, fresh?}
 use Rattle.tables.specs.Long.{long?}
 use Rattle.tables.specs.Tables.{Tables, startOf, lengthOf, standing, variableAt, classOf, valueOf}
-use Rattle.shape.specs.Shape.{Parts, Literals, Variable, settledTo, Cursor, Clauses, Shape}
+use Rattle.tables.specs.Values.{classValue}
+use Rattle.shape.specs.Shape.{Parts, Literals, Variable, Spread, settledTo, Cursor, Clauses, Shape}
 use Rattle.state.specs.declared.State.{State}
 use Rattle.state.specs.declared.Pass.{Pass}
 use Rattle.state.specs.declared.Pass.the-variants.{Idle, Propagate, Merge, Sweep}
@@ -40,12 +41,14 @@ literals? v literals variables settled start len =
 unfoldable pub variable? : (variables : List ℤ) (w : ℕ) → Dec (Variable variables w)
 variable? variables w =
     so?
-    (λ h. record { class = h .0; own = h .1 .0; value = h .1 .1 .0; valued = h .1 .1 .1 })
-    (λ (X : Variable variables w). (X .class, (X .own, (X .value, X .valued))))
+    (λ h. record { class = h .0; own = h .1 .0; value = h .1 .1 })
+    (λ (X : Variable variables w). (X .class, (X .own, X .value)))
     (and? (literal? w (classOf variables w))
     (and? (eqℤ? (classOf variables (natAbs (classOf variables w))) (pos (natAbs (classOf variables w))))
-    (and? (decLe (natAbs (valueOf variables w)) 1)
-    (if? (not? (eqℤ? (valueOf variables w) (pos 0))) (eqℤ? (classOf variables w) (pos w))))))
+    (decLe (natAbs (valueOf variables w)) 1)))
+
+unfoldable pub spread? : (v : ℕ) (variables : List ℤ) → Dec (Spread v variables)
+spread? v variables = every? v (λ w. eqℤ? (valueOf variables (w + 1)) (classValue variables (w + 1)))
 
 unfoldable pub cursor? : (p : Pass) (n : ℕ) (mark : Bool) → Dec (Cursor p n mark)
 cursor? Idle n mark = yes tt
@@ -65,15 +68,16 @@ clauses? v n settled mark clauses literals variables =
 unfoldable pub shape? : (t : Tables) (st : State) → Dec (Shape t st)
 shape? t st =
     so?
-    (λ h. record { long = h .0; v-limit = h .1 .0; n-limit = h .1 .1 .0; clauses = h .1 .1 .1 .0; variables = h .1 .1 .1 .1 .0; cursor = h .1 .1 .1 .1 .1 .0; stamps = h .1 .1 .1 .1 .1 .1 })
-    (λ (S : Shape t st). (S .long, (S .v-limit, (S .n-limit, (S .clauses, (S .variables, (S .cursor, S .stamps)))))))
+    (λ h. record { long = h .0; v-limit = h .1 .0; n-limit = h .1 .1 .0; clauses = h .1 .1 .1 .0; variables = h .1 .1 .1 .1 .0; values = h .1 .1 .1 .1 .1 .0; cursor = h .1 .1 .1 .1 .1 .1 .0; stamps = h .1 .1 .1 .1 .1 .1 .1 })
+    (λ (S : Shape t st). (S .long, (S .v-limit, (S .n-limit, (S .clauses, (S .variables, (S .values, (S .cursor, S .stamps))))))))
     (and? (long? t)
     (and? (decLe (st .v) 1024)
     (and? (decLe (st .n) 4096)
     (and? (clauses? (st .v) (st .n) (settledTo (st .pass) (st .n)) (st .mark) (t .clauses) (t .literals) (t .variables))
     (and? (every? (st .v) (λ w. variable? (t .variables) (w + 1)))
+    (and? (spread? (st .v) (t .variables))
     (and? (cursor? (st .pass) (st .n) (st .mark))
-    (if? (eqᵇ? (st .fresh) true) (fresh? (st .v) (t .times) (t .links)))))))))
+    (if? (eqᵇ? (st .fresh) true) (fresh? (st .v) (t .times) (t .links))))))))))
 
 -- refusal 1 is given exactly where this is false
 unfoldable pub shapeOk : Tables → State → Bool

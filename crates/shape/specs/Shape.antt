@@ -11,6 +11,7 @@ use Rattle.literal.specs.Literals.{Literal}
 use Rattle.stamps.specs.Fresh.{FreshStamps}
 use Rattle.tables.specs.Long.{Long}
 use Rattle.tables.specs.Tables.{Tables, startOf, lengthOf, standing, variableAt, classOf, valueOf}
+use Rattle.tables.specs.Values.{classValue}
 use Rattle.state.specs.declared.State.{State}
 use Rattle.state.specs.declared.Pass.{Pass}
 use Rattle.state.specs.declared.Pass.the-variants.{Idle, Propagate, Merge, Sweep}
@@ -29,12 +30,15 @@ pub record Literals (v : ℕ) (literals variables : List ℤ) (settled : Bool) (
   pub once : (k : ℕ) → k < len → (j : ℕ) → j < k → variableAt literals (start + j) ≡ variableAt literals (start + k) → ⊥
   pub own : settled ≡ true → (k : ℕ) → k < len → classOf variables (variableAt literals (start + k)) ≡ pos (variableAt literals (start + k))
 
--- variable w: its class is u or -u with u at most w and u its own class; its value is -1, 0 or 1, and 0 unless w is its own class
+-- variable w: its class is u or -u with u at most w and u its own class; its value is -1, 0 or 1
 pub record Variable (variables : List ℤ) (w : ℕ) : Type 0 where
   pub class : Literal w (classOf variables w)
   pub own : classOf variables (natAbs (classOf variables w)) ≡ pos (natAbs (classOf variables w))
   pub value : natAbs (valueOf variables w) ≤ 1
-  pub valued : (valueOf variables w ≡ pos 0 → ⊥) → classOf variables w ≡ pos w
+
+-- change request 4, in place of the base's zero: "The value of v is that of its class literal, sign included", for the variables 1 to v
+abbrev pub Spread : ℕ → List ℤ → Type 0
+Spread v variables = (w : ℕ) → w < v → valueOf variables (w + 1) ≡ classValue variables (w + 1)
 
 -- clauses from this one on may hold variables that are not their own class: those that an open Merge has still to visit
 abbrev pub settledTo : Pass → ℕ → ℕ
@@ -62,5 +66,6 @@ pub record Shape (t : Tables) (st : State) : Type 0 where
   pub n-limit : st .n ≤ 4096
   pub clauses : Clauses (st .v) (st .n) (settledTo (st .pass) (st .n)) (st .mark) (t .clauses) (t .literals) (t .variables)
   pub variables : (w : ℕ) → w < st .v → Variable (t .variables) (w + 1)
+  pub values : Spread (st .v) (t .variables)
   pub cursor : Cursor (st .pass) (st .n) (st .mark)
   pub stamps : st .fresh ≡ true → FreshStamps (st .v) (t .times) (t .links)

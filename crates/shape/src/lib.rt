@@ -6,10 +6,11 @@ ghost use lib.ListN.{length, replicate};
 ghost use lib.IntN.{pos};
 ghost use Rattle.base.specs.Decide.{Decides};
 ghost use Rattle.tables.specs.Tables.{classOf};
+ghost use Rattle.tables.specs.Values.{classValue};
 ghost use Rattle.tables.specs.Lent.{lent};
-ghost use Rattle.shape.specs.Shape.{Parts, Literals, Clauses, Variable, Cursor, settledTo};
+ghost use Rattle.shape.specs.Shape.{Parts, Literals, Clauses, Variable, Spread, Cursor, settledTo};
 ghost use Rattle.stamps.specs.Fresh.{FreshStamps};
-ghost use Rattle.shape.specs.Row.{Row, Below};
+ghost use Rattle.shape.specs.Row.{Row, Below, Classed};
 ghost use Rattle.shape.specs.Decision.{shapeOk};
 use state::Pass;
 use state::State;
@@ -213,9 +214,6 @@ fn variable_ok(variables: &[i32], w: usize) -> bool
     if value == 0 {
         return true;
     }
-    if class != w as i32 {
-        return false;
-    }
     if value == 1 {
         return true;
     }
@@ -225,18 +223,31 @@ fn variable_ok(variables: &[i32], w: usize) -> bool
     false
 }
 
-// Variables 1 to v.
+// The value of the class literal of variable w, sign included. The shape rule has the class and its value, here for the variables that were checked before.
+pub fn class_value(variables: &[i32], w: usize) -> i32
+    requires { ⌜ Classed (now variables) w ⌝ }
+    ensures { λ r. ⌜ r ≡ classValue (now (variables .entry)) w ⌝ }
+{
+    let class = variables[2 * w - 2];
+    let u = literal::var_of(class);
+    literal::signed_by(class, variables[2 * u - 1])
+}
+
+// Variables 1 to v: their records, and that the value of each is that of its class literal.
 fn variables_ok(variables: &[i32], v: u32) -> bool
     requires { ⌜ (v ≤ 1024) × (2 * v ≤ length (now variables)) ⌝ }
-    ensures { λ r. ⌜ Decides r ((w : ℕ) → w < v → Variable (now (variables .entry)) (w + 1)) ⌝ }
+    ensures { λ r. ⌜ Decides r (((w : ℕ) → w < v → Variable (now (variables .entry)) (w + 1)) × Spread v (now (variables .entry))) ⌝ }
 {
     let n = v as usize;
     let mut w = 0;
     while w < n {
-        if !variable_ok(variables, w + 1) {
+        w += 1;
+        if !variable_ok(variables, w) {
             return false;
         }
-        w += 1;
+        if variables[2 * w - 1] != class_value(variables, w) {
+            return false;
+        }
     }
     true
 }

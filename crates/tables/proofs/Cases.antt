@@ -4,7 +4,7 @@ use mathlib.Core.List.{List, [], _∷_, map}
 use lib.IntN.{ℤ, pos, negsuc}
 use Rattle.base.specs.Lists.{any, first}
 use Rattle.tables.specs.Tables.{Tables, tables}
-use Rattle.tables.specs.Values.{classLiteral, truth, setTrue}
+use Rattle.tables.specs.Values.{classLiteral, classValue, truth, setTrue}
 use Rattle.tables.specs.Clauses.{gone, standingCount, literalCount}
 use Rattle.tables.specs.Fates.{Fate, kept, left, dropped, unit, conflict, shortened, droppedAt, store, fateAt, visits}
 use Rattle.tables.specs.Passes.{firstUnsettled}
@@ -15,8 +15,9 @@ variables = pos 1 ∷ negsuc 0 ∷ negsuc 0 ∷ pos 0 ∷ pos 3 ∷ pos 0 ∷ []
 
 through-classes : (map (classLiteral variables) (pos 2 ∷ negsuc 1 ∷ pos 3 ∷ []) ≡ negsuc 0 ∷ pos 1 ∷ pos 3 ∷ [])
     × (map (truth variables) (pos 1 ∷ negsuc 0 ∷ pos 2 ∷ negsuc 1 ∷ pos 3 ∷ []) ≡ negsuc 0 ∷ pos 1 ∷ pos 1 ∷ negsuc 0 ∷ pos 0 ∷ [])
+    × (map (classValue variables) (1 ∷ 2 ∷ 3 ∷ []) ≡ negsuc 0 ∷ pos 1 ∷ pos 0 ∷ [])
 unfolding variables
-through-classes = (refl, refl)
+through-classes = (refl, refl, refl)
 
 -- 2 made true sets the value at its class literal, -1
 set-at-class : setTrue (pos 1 ∷ pos 0 ∷ negsuc 0 ∷ pos 0 ∷ []) (pos 2) ≡ pos 1 ∷ negsuc 0 ∷ negsuc 0 ∷ pos 0 ∷ []

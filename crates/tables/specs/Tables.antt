@@ -17,6 +17,10 @@ pub record Tables : Type 0 where
 abbrev pub tables : List ℕ → List ℤ → List ℤ → List ℕ → List ℤ → Tables
 tables c l v t k = record { clauses = c; literals = l; variables = v; times = t; links = k }
 
+-- the tables with other variable records
+abbrev pub withVariables : List ℤ → Tables → Tables
+withVariables variables t = tables (t .clauses) (t .literals) variables (t .times) (t .links)
+
 -- clause record i: where its literals start, how many they are, and whether it stands (1) or is dropped (0)
 abbrev pub startOf : List ℕ → ℕ → ℕ
 startOf clauses i = getD clauses (3 * i) 0

@@ -1,6 +1,6 @@
 -- Document 01: "The class literal of v is its class, of −v the complement of that. .. A literal is true or false as the value of its class literal says, and a value is set there."
 -- Assumes nothing: these are definitions.
-use Prim.Native.Nat.{_*_, _-_}
+use Prim.Native.Nat.{ℕ, _*_, _-_}
 use mathlib.Core.Bool.{Bool}
 use mathlib.Core.List.{List}
 use lib.ListN.{set}
@@ -16,6 +16,10 @@ classLiteral variables l = signBy (nonNeg l) (classOf variables (natAbs l))
 -- the value of the variable of c with c's sign
 abbrev pub ownTruth : List ℤ → ℤ → ℤ
 ownTruth variables c = signBy (nonNeg c) (valueOf variables (natAbs c))
+
+-- change request 4: "The value of v is that of its class literal, sign included": what the record of variable w has as its value
+abbrev pub classValue : List ℤ → ℕ → ℤ
+classValue variables w = ownTruth variables (classOf variables w)
 
 -- 1 for a true literal, -1 for a false one, 0 for one that has no value
 abbrev pub truth : List ℤ → ℤ → ℤ

@@ -14,7 +14,7 @@ use Rattle.literal.specs.Literals.{Literal}
 use Rattle.state.specs.declared.State.{State}
 use Rattle.tables.specs.Tables.{Tables, startOf, lengthOf, standing, classOf, valueOf}
 use Rattle.tables.specs.Clauses.{literalsOf}
-use Rattle.shape.specs.Shape.{Variable, settledTo, Cursor, Shape}
+use Rattle.shape.specs.Shape.{Variable, Spread, settledTo, Cursor, Shape}
 use Rattle.stamps.specs.Fresh.{FreshStamps}
 use Rattle.visits.specs.Formed.{Variables, Formed, FitClause, EachKnown}
 use Rattle.visits.proofs.Stores.{fit-view, recorded}
@@ -32,13 +32,14 @@ shape-formed S = record {
 }
 
 pub formed-shape : (t : Tables) (st : State) → Formed (st .v) (st .n) (settledTo (st .pass) (st .n)) (st .mark) (t .clauses) (t .literals) (t .variables) → 4096 ≤ length (t .times) → 4096 ≤ length (t .links)
-    → Cursor (st .pass) (st .n) (st .mark) → (st .fresh ≡ true → FreshStamps (st .v) (t .times) (t .links)) → Shape t st
-formed-shape t st F times links cursor stamps = record {
+    → Spread (st .v) (t .variables) → Cursor (st .pass) (st .n) (st .mark) → (st .fresh ≡ true → FreshStamps (st .v) (t .times) (t .links)) → Shape t st
+formed-shape t st F times links values cursor stamps = record {
   long = record { clauses = F .records; literals = F .places; variables = F .vars .room; times = times; links = links };
   v-limit = F .vars .few;
   n-limit = F .number;
   clauses = F .rule;
   variables = F .vars .each;
+  values = values;
   cursor = cursor;
   stamps = stamps;
 }
@@ -106,16 +107,15 @@ formed-values {v} {n} {s} {mark} {c} {l} {w} {w′} F same R = record {
 }
 
 -- a variable's record with another value
-variable-as : (w w′ : List ℤ) (u : ℕ) → ((k : ℕ) → classOf w′ k ≡ classOf w k) → Variable w u → natAbs (valueOf w′ u) ≤ 1 → ((valueOf w′ u ≡ pos 0 → ⊥) → classOf w u ≡ pos u) → Variable w′ u
-variable-as w w′ u same X tri own = record {
+variable-as : (w w′ : List ℤ) (u : ℕ) → ((k : ℕ) → classOf w′ k ≡ classOf w k) → Variable w u → natAbs (valueOf w′ u) ≤ 1 → Variable w′ u
+variable-as w w′ u same X tri = record {
   class = subst (Literal u) (sym (same u)) (X .class);
   own = ap (λ (z : ℤ). classOf w′ (natAbs z)) (same u) ∙ same (natAbs (classOf w u)) ∙ X .own ∙ ap (λ (z : ℤ). pos (natAbs z)) (sym (same u));
   value = tri;
-  valued = λ z. same u ∙ own z;
 }
 
--- a value of a variable that is its own class
-module _ {v : ℕ} {w : List ℤ} (R : Variables v w) (u : ℕ) (above : 0 < u) (within : u ≤ v) (own : classOf w u ≡ pos u) (x : ℤ) (tri : natAbs x ≤ 1) where
+-- the value of a variable set
+module _ {v : ℕ} {w : List ℤ} (R : Variables v w) (u : ℕ) (above : 0 < u) (within : u ≤ v) (x : ℤ) (tri : natAbs x ≤ 1) where
   pub set-classes : (k : ℕ) → classOf (set w (2 * u - 1) x) k ≡ classOf w k
   set-classes k = getD-set-other w (2 * u - 1) (2 * k - 2) x (pos 0) (λ e. omega (arith, e, above))
 
@@ -130,10 +130,9 @@ module _ {v : ℕ} {w : List ℤ} (R : Variables v w) (u : ℕ) (above : 0 < u) 
     few = R .few;
     room = simp length-set (R .room);
     each = λ k lt.
-        ⊎-elim
-        (λ (e : k + 1 ≡ u). variable-as w (set w (2 * u - 1) x) (k + 1) set-classes (R .each k lt) (subst (λ (y : ℕ). natAbs (valueOf (set w (2 * u - 1) x) y) ≤ 1) (sym e) (subst (λ (y : ℤ). natAbs y ≤ 1) (sym set-value) tri))
-        (λ z. subst (λ (y : ℕ). classOf w y ≡ pos y) (sym e) own))
-        (λ d. variable-as w (set w (2 * u - 1) x) (k + 1) set-classes (R .each k lt) (subst (λ (y : ℤ). natAbs y ≤ 1) (sym (set-others (k + 1) (omega arith) d)) (R .each k lt .value))
-        (λ z. R .each k lt .valued (λ e. z (set-others (k + 1) (omega arith) d ∙ e))))
-        (same-or (k + 1) u);
+        variable-as w (set w (2 * u - 1) x) (k + 1) set-classes (R .each k lt)
+        (⊎-elim
+        (λ (e : k + 1 ≡ u). subst (λ (y : ℕ). natAbs (valueOf (set w (2 * u - 1) x) y) ≤ 1) (sym e) (subst (λ (y : ℤ). natAbs y ≤ 1) (sym set-value) tri))
+        (λ d. subst (λ (y : ℤ). natAbs y ≤ 1) (sym (set-others (k + 1) (omega arith) d)) (R .each k lt .value))
+        (same-or (k + 1) u));
   }

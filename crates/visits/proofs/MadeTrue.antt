@@ -10,7 +10,7 @@ use Rattle.tables.specs.Tables.{classOf}
 use Rattle.tables.specs.Values.{classLiteral, setTrue}
 use Rattle.visits.specs.Formed.{Variables, Known}
 use Rattle.visits.proofs.Forming.{set-classes, set-variables}
-use Rattle.visits.proofs.Known.{abs-signed, class-ranged, class-own}
+use Rattle.visits.proofs.Known.{abs-signed, class-ranged}
 
 module _ {v : ℕ} {w : List ℤ} (R : Variables v w) (l : ℤ) (L : Literal v l) where
   abbrev K : Known w l
@@ -20,7 +20,7 @@ module _ {v : ℕ} {w : List ℤ} (R : Variables v w) (l : ℤ) (L : Literal v l
   tri = omega (arith, abs-signed (nonNeg (classLiteral w l)) (pos 1))
 
   pub true-classes : (u : ℕ) → classOf (setTrue w l) u ≡ classOf w u
-  true-classes = set-classes R (natAbs (classLiteral w l)) (class-ranged K .above) (class-ranged K .within) (class-own K) (signBy (nonNeg (classLiteral w l)) (pos 1)) tri
+  true-classes = set-classes R (natAbs (classLiteral w l)) (class-ranged K .above) (class-ranged K .within) (signBy (nonNeg (classLiteral w l)) (pos 1)) tri
 
   pub true-variables : Variables v (setTrue w l)
-  true-variables = set-variables R (natAbs (classLiteral w l)) (class-ranged K .above) (class-ranged K .within) (class-own K) (signBy (nonNeg (classLiteral w l)) (pos 1)) tri
+  true-variables = set-variables R (natAbs (classLiteral w l)) (class-ranged K .above) (class-ranged K .within) (signBy (nonNeg (classLiteral w l)) (pos 1)) tri

@@ -12,7 +12,7 @@ use Rattle.state.specs.declared.State.{State}
 use Rattle.tables.specs.Tables.{Tables, lengthOf, standing}
 use Rattle.tables.specs.Clauses.{literalsOf}
 use Rattle.tables.specs.Fates.{Fate, kept, fateAt, shortened, droppedAt}
-use Rattle.shape.specs.Shape.{settledTo, Cursor, Shape}
+use Rattle.shape.specs.Shape.{Spread, settledTo, Cursor, Shape}
 use Rattle.visits.specs.Formed.{Formed, FitClause}
 use Rattle.visits.proofs.Stores.{recorded, storedAt, stored-formed}
 use Rattle.visits.proofs.Fitting.{fit-none}
@@ -49,7 +49,7 @@ formed-cases t F k lt rule P none some = fate-cases rule k t P none (λ d. some 
 
 -- tables that are formed, and whose stamp records are those of tables that have them long enough, and fresh if the state says so
 pub formed-shape-as : (t u : Tables) (st : State) → SameStamps t u → 4096 ≤ length (t .times) → 4096 ≤ length (t .links) → (st .fresh ≡ true → FreshStamps (st .v) (t .times) (t .links))
-    → Formed (st .v) (st .n) (settledTo (st .pass) (st .n)) (st .mark) (u .clauses) (u .literals) (u .variables) → Cursor (st .pass) (st .n) (st .mark) → Shape u st
-formed-shape-as t u st S times links fresh F cursor =
-    formed-shape u st F (subst (λ (x : List ℕ). 4096 ≤ length x) (sym (S .times)) times) (subst (λ (x : List ℤ). 4096 ≤ length x) (sym (S .links)) links) cursor
+    → Formed (st .v) (st .n) (settledTo (st .pass) (st .n)) (st .mark) (u .clauses) (u .literals) (u .variables) → Spread (st .v) (u .variables) → Cursor (st .pass) (st .n) (st .mark) → Shape u st
+formed-shape-as t u st S times links fresh F values cursor =
+    formed-shape u st F (subst (λ (x : List ℕ). 4096 ≤ length x) (sym (S .times)) times) (subst (λ (x : List ℤ). 4096 ≤ length x) (sym (S .links)) links) values cursor
     (λ e. subst₂ (FreshStamps (st .v)) (sym (S .times)) (sym (S .links)) (fresh e))

@@ -7,8 +7,6 @@ use state::State;
 ghost use mathlib.Core.Path.{_≡_};
 ghost use Prim.Native.Nat.{_*_, _-_, _≤_, min, ℕ, _+_, _<_};
 ghost use lib.ListN.{take, length, set};
-ghost use lib.Signed.{nonNeg};
-ghost use Rattle.literal.specs.Literals.{Small, signBy};
 ghost use Rattle.tables.specs.Values.{classLiteral, ownTruth, truth, isTrue, isFalse, setTrue};
 ghost use Rattle.tables.specs.Clauses.{standingCount, literalCount};
 ghost use Rattle.visits.specs.Formed.{Known, Counted, EachKnown};
@@ -22,21 +20,13 @@ ghost use Rattle.tables.specs.Calls.{after};
 ghost use Rattle.visits.specs.Settled.{Asked};
 ghost use Rattle.visits.specs.Visited.{Placed, recordAfter, standsAt};
 
-// A number that is kept for a literal's variable, with the literal's sign.
-fn signed_by(l: i32, x: i32) -> i32
-    requires { ⌜ Small x ⌝ }
-    ensures { λ r. ⌜ r ≡ signBy (nonNeg l) x ⌝ }
-{
-    if l < 0 { -x } else { x }
-}
-
 // The class literal of l. Its variable has a record, and its class is a literal in range: the shape rule has both, here and in the functions on a literal below.
 pub fn class_literal(variables: &[i32], l: i32) -> i32
     requires { ⌜ Known (now variables) l ⌝ }
     ensures { λ r. ⌜ r ≡ classLiteral (now (variables .entry)) l ⌝ }
 {
     let w = literal::var_of(l);
-    signed_by(l, variables[2 * w - 2])
+    literal::signed_by(l, variables[2 * w - 2])
 }
 
 // The value of the variable of c, with c's sign.
@@ -45,7 +35,7 @@ fn own_truth(variables: &[i32], c: i32) -> i32
     ensures { λ r. ⌜ r ≡ ownTruth (now (variables .entry)) c ⌝ }
 {
     let w = literal::var_of(c);
-    signed_by(c, variables[2 * w - 1])
+    literal::signed_by(c, variables[2 * w - 1])
 }
 
 // 1 for a true literal, -1 for a false one, 0 for one that has no value: as the value of its class literal says.
@@ -80,7 +70,7 @@ pub fn set_true(variables: &mut [i32], l: i32)
 {
     let c = class_literal(variables, l);
     let w = literal::var_of(c);
-    variables[2 * w - 1] = signed_by(c, 1);
+    variables[2 * w - 1] = literal::signed_by(c, 1);
 }
 
 // ---- the record of a clause: that it lies in its table, and the clause's part in the literal table, follows from the shape rule, which a call checks first

@@ -37,7 +37,7 @@ variables-ok-requires : tie.Need-variables-ok-requires
 variables-ok-requires c κs = (c .before .before .before .if2 .left, omega (arith, c .before .before .before .if2 .left, long (c .before .before .before .before) .variables))
 
 returns-5 : tie.Need-returns-5
-returns-5 c = shape-agrees (lent (c .before .before .before .before .before .before .before .before .before .before)) (c .before .before .before .before .before .before .before .before .before .before .args .st) (says-no (λ S. c .before .variables-ok .ensures .fails (not-true _ (c .if5 .taken)) (S .variables)))
+returns-5 c = shape-agrees (lent (c .before .before .before .before .before .before .before .before .before .before)) (c .before .before .before .before .before .before .before .before .before .before .args .st) (says-no (λ S. c .before .variables-ok .ensures .fails (not-true _ (c .if5 .taken)) (S .variables, S .values)))
 
 cast-clauses-ok : tie.Need-cast-clauses-ok
 cast-clauses-ok c = search needs
@@ -70,7 +70,8 @@ returns-7 c = let s = c .before .before .before .before .before .before .before 
       v-limit = c .before .before .before .before .before .before .before .before .before .if2 .left;
       n-limit = c .before .before .before .before .before .before .before .before .if3 .left;
       clauses = (rw (c .before .before .before .settled-to .ensures) at (c .before .before .clauses-ok .ensures)) .holds (not-false _ (c .before .if6 .left));
-      variables = c .before .before .before .before .before .variables-ok .ensures .holds (not-false _ (c .before .before .before .before .if5 .left));
+      variables = c .before .before .before .before .before .variables-ok .ensures .holds (not-false _ (c .before .before .before .before .if5 .left)) .0;
+      values = c .before .before .before .before .before .variables-ok .ensures .holds (not-false _ (c .before .before .before .before .if5 .left)) .1;
       cursor = c .before .before .before .before .before .before .before .cursor-ok .ensures .holds (not-false _ (c .before .before .before .before .before .before .if4 .left));
       stamps = f;
     })

@@ -13,6 +13,7 @@ use Rattle.literal.specs.Literals.{inRange, Literal}
 use Rattle.literal.proofs.Signed.{in-range, InRange, read, bits-eq, is-lit}
 use Rattle.literal.proofs.Laws.{literal-tested}
 use Rattle.tables.specs.Tables.{classOf, valueOf}
+use Rattle.shape.specs.Shape.{Variable}
 use Rattle.shape.proofs.Clausing.{value-is, own-named, own-back}
 use Rattle.shape.proofs.variable_ok.Statement.{statement}
 use Rattle.shape.proofs.variable_ok.Tie as tie
@@ -98,26 +99,21 @@ cast-if2 c = let p = placed (c .before) in small-num (omega (arith, c .before .b
 returns-2 : tie.Need-returns-2
 returns-2 c = says-no (λ X. c .if2 .taken (ap (ofZ w32) (own-named (c .before .before .before .before .before .before .before .args .variables .now) (class (c .before .before .before .before .before .before .before)) (var-is (c .before .before)) (X .own))))
 
-returns-3 : tie.Need-returns-3
-returns-3 c = let e = is-lit {y = value (c .before .before .before .before .before .before .before .before)} (sfits-of (c .before .before .before .before .before .before .value .given)) (pos 0) tt (c .if3 .taken) in
-    says-yes (record { class = literal (c .before .before .before .before); own = own (c .before); value = omega (arith, ap natAbs e); valued = λ n. absurd (n e) })
+-- the record, where the value is one of the three
+right : (c : tie.Else2) → natAbs (value (c .before .before .before .before .before .before .before)) ≤ 1 → Variable (c .before .before .before .before .before .before .before .args .variables .now) (c .before .before .before .before .before .before .before .args .w)
+right c tri = record { class = literal (c .before .before .before); own = own c; value = tri }
 
-cast-if4 : tie.Need-cast-if4
-cast-if4 c = search needs
+returns-3 : tie.Need-returns-3
+returns-3 c = let e = is-lit {y = value (c .before .before .before .before .before .before .before .before)} (sfits-of (c .before .before .before .before .before .before .value .given)) (pos 0) tt (c .if3 .taken) in says-yes (right (c .before) (omega (arith, ap natAbs e)))
 
 returns-4 : tie.Need-returns-4
-returns-4 c = says-no (λ X. c .if4 .taken (ap (ofZ w32) (X .valued (λ e. c .before .if3 .left (ap (ofZ w32) e)))))
+returns-4 c = let e = is-lit {y = value (c .before .before .before .before .before .before .before .before .before)} (sfits-of (c .before .before .before .before .before .before .before .value .given)) (pos 1) tt (c .if4 .taken) in says-yes (right (c .before .before) (omega (arith, ap natAbs e)))
 
 returns-5 : tie.Need-returns-5
-returns-5 c = let e = is-lit {y = value (c .before .before .before .before .before .before .before .before .before .before)} (sfits-of (c .before .before .before .before .before .before .before .before .value .given)) (pos 1) tt (c .if5 .taken) in
-    says-yes (record { class = literal (c .before .before .before .before .before .before); own = own (c .before .before .before); value = omega (arith, ap natAbs e); valued = λ _. bits-eq (sfits-of (c .before .before .before .before .before .before .before .before .before .class .given)) (small-num (c .before .before .before .before .before .before .before .before .before .before .pre .1)) (c .before .if4 .left) })
+returns-5 c = let e = is-lit {y = value (c .before .before .before .before .before .before .before .before .before .before)} (sfits-of (c .before .before .before .before .before .before .before .before .value .given)) (negsuc 0) tt (c .if5 .taken) in says-yes (right (c .before .before .before) (omega (arith, ap natAbs e)))
 
 returns-6 : tie.Need-returns-6
-returns-6 c = let e = is-lit {y = value (c .before .before .before .before .before .before .before .before .before .before .before)} (sfits-of (c .before .before .before .before .before .before .before .before .before .value .given)) (negsuc 0) tt (c .if6 .taken) in
-    says-yes (record { class = literal (c .before .before .before .before .before .before .before); own = own (c .before .before .before .before); value = omega (arith, ap natAbs e); valued = λ _. bits-eq (sfits-of (c .before .before .before .before .before .before .before .before .before .before .class .given)) (small-num (c .before .before .before .before .before .before .before .before .before .before .before .pre .1)) (c .before .before .if4 .left) })
-
-returns-7 : tie.Need-returns-7
-returns-7 c = says-no (λ X. value-is (value (c .before .before .before .before .before .before .before .before .before .before .before)) (X .value) (λ e. c .before .before .before .if3 .left (ap (ofZ w32) e)) (λ e. c .before .if5 .left (ap (ofZ w32) e)) (λ e. c .if6 .left (ap (ofZ w32) e)))
+returns-6 c = says-no (λ X. value-is (value (c .before .before .before .before .before .before .before .before .before .before)) (X .value) (λ e. c .before .before .if3 .left (ap (ofZ w32) e)) (λ e. c .before .if4 .left (ap (ofZ w32) e)) (λ e. c .if5 .left (ap (ofZ w32) e)))
 
 pub variable-ok-spec : {M : Type 1} → statement M
 variable-ok-spec =
@@ -142,8 +138,6 @@ variable-ok-spec =
     cast-if2
     returns-2
     returns-3
-    cast-if4
     returns-4
     returns-5
-    returns-6
-    returns-7)
+    returns-6)

@@ -1,7 +1,7 @@
--- `visits::signed_by` meets its contract. Assumes nothing.
+-- `literal::signed_by` meets its contract. Assumes nothing.
 use Rattle.literal.proofs.Signed.{neg-fits, neg-is, back, tested-neg, tested-pos}
-use Rattle.visits.proofs.signed_by.Statement.{statement}
-use Rattle.visits.proofs.signed_by.Tie as tie
+use Rattle.literal.proofs.signed_by.Statement.{statement}
+use Rattle.literal.proofs.signed_by.Tie as tie
 
 sub-result : tie.Need-sub-result
 sub-result c = neg-fits (c .before .pre)
