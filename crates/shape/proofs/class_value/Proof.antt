@@ -1,14 +1,17 @@
 -- `shape::class_value` meets its contract. Assumes nothing.
 use Prim.Native.Nat.{_*_, _-_, _<_}
 use native.Mathlib.Omega.{arith}
-use mathlib.Core.Path.{_≡_}
+use mathlib.Core.Path.{_≡_, ap, _∙_}
+use mir.Syntax.{w32}
+use mir.Val.{ofZ, toZ}
 use mir.Facts.{toZ-ofZ}
 use lib.ListN.{length, getD}
 use lib.IntN.{ℤ, pos, natAbs}
+use lib.Signed.{nonNeg}
 use borrow.Author.Needs.{sfits-of, needs}
-use Rattle.literal.specs.Literals.{Small}
+use Rattle.literal.specs.Literals.{Small, signBy}
 use Rattle.literal.proofs.Signed.{read, back}
-use Rattle.tables.specs.Tables.{classOf}
+use Rattle.tables.specs.Tables.{classOf, valueOf}
 use Rattle.shape.proofs.class_value.Statement.{statement}
 use Rattle.shape.proofs.class_value.Tie as tie
 
@@ -55,8 +58,16 @@ shared-slice-copy-out-signed-by c = place c
 signed-by-requires : tie.Need-signed-by-requires
 signed-by-requires c κs = rw (back (entry (c .before))) (entry (c .before))
 
+-- what is answered: the sign is the class's, and the number the value of its variable
+said : (c : tie.After-signed-by) → c .signed-by .result ≡ signBy (nonNeg (class (c .before .before .before .before))) (valueOf (c .before .before .before .before .args .variables .now) (natAbs (class (c .before .before .before .before))))
+said c =
+    let vs = c .before .before .before .before .args .variables .now in
+    c .signed-by .ensures
+    ∙ ap (λ (z : ℤ). signBy (nonNeg z) (toZ w32 (ofZ w32 (getD vs (2 * c .before .before .var-of .result - 1) (pos 0))))) (read vs (2 * c .before .before .before .before .args .w - 2) (c .before .before .before .class .given))
+    ∙ ap (signBy (nonNeg (class (c .before .before .before .before)))) (back (entry (c .before .before)) ∙ ap (valueOf vs) (var (c .before .before)))
+
 returns : tie.Need-returns
-returns c = rw (toZ-ofZ (sfits-of (c .signed-by .ok))) (rw (back (entry (c .before .before)), var (c .before .before), read (c .before .before .before .before .args .variables .now) (2 * c .before .before .before .before .args .w - 2) (c .before .before .before .class .given)) at (c .signed-by .ensures))
+returns c = rw (toZ-ofZ (sfits-of (c .signed-by .ok))) (said c)
 
 pub class-value-spec : {M : Type 1} → statement M
 class-value-spec =
