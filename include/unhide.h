@@ -108,7 +108,8 @@ struct unhide_clause {
 };
 
 /* A variable: the literal that stands for its class of equivalent literals (the variable itself where it was not merged), and its value,
- * 1, -1 or 0 for none. Only a variable that stands for its class has a value. */
+ * 1 for true, -1 for false or 0 for none. After every accepted call the value of a variable is that of its class literal: for a class
+ * literal -w it is the value of w with the other sign. */
 struct unhide_variable {
     int32_t class_literal, value;
 };

@@ -68,7 +68,7 @@ call-held failed t st H = failed-held t st H
 call-held (sweep steps) t st H = sweep-held steps t st H
 
 -- a call on tables that break the shape rule, short ones among them, changes nothing
-call-refused : (c : Call) (t : Tables) (st : State) → shapeOk t st ≡ false → callOn c t st ≡ refuse refusal.Shape st t
+pub call-refused : (c : Call) (t : Tables) (st : State) → shapeOk t st ≡ false → callOn c t st ≡ refuse refusal.Shape st t
 unfolding propagateCall mergeCall stampCall failedCall sweepCall
 call-refused (propagate steps) t st e = ap (λ (x : Entry). propagateBy x steps t st) (entry-misshapen own.Propagate t st e)
 call-refused (merge steps) t st e = ap (λ (x : Entry). mergeBy x steps t st) (entry-misshapen own.Merge t st e)

@@ -8,7 +8,6 @@ use mathlib.Core.List.{List}
 use lib.IntN.{ℤ}
 use Rattle.walk.specs.Walk.{Stamps}
 use Rattle.stamp_columns.specs.Columns.{columns}
-use Rattle.stamps.specs.Fresh.{FreshStamps}
 use Rattle.hidden.proofs.Intervals.{Nested}
 use Rattle.hidden.proofs.Agree.{Agree}
 use Rattle.hidden.proofs.FreshColumns.{fresh-nested}
@@ -19,6 +18,7 @@ use Rattle.state.specs.declared.Pass.the-variants.{Idle, Propagate, Merge, Swee
 use Rattle.tables.specs.Tables.{Tables}
 use Rattle.tables.specs.Fates.{visits}
 use Rattle.tables.specs.Calls.{After}
+use Rattle.shape.specs.Shape.{Shape}
 use Rattle.entry.specs.Entry.{entryOf}
 use Rattle.entry.specs.declared.PassName.the-variants as own
 use Rattle.entry.specs.declared.Entry.{Entry}
@@ -27,13 +27,11 @@ use Rattle.entry.proofs.Entering.{Entered, opens-entered, resumes-entered}
 use Rattle.visits.specs.Formed.{Formed}
 use Rattle.visits.proofs.Entered.{NoMerge, entered-formed, entered-cursor}
 use Rattle.visits.proofs.Visiting.{SameStamps, visits-beside}
-use Rattle.shape.specs.Shape.{Spread}
-use Rattle.visits.proofs.StoreKeeps.{formed-shape-as}
 use Rattle.visits.proofs.Advancing.{advance-cases}
 use Rattle.sweep.specs.Sweep.{sweepFrom, sweepUnlessStale, sweepBy, sweepCall}
+use Rattle.sweep.proofs.Shaped.{from-shaped}
 use Rattle.sweep_visits.specs.Clause.{sweepClause}
 use Rattle.sweep_visits.proofs.Visiting.{sweep-shrinks}
-use Rattle.sweep_visits.proofs.VisitKeeps.{formed-visits}
 use Rattle.sound.specs.Formula.{Clause}
 use Rattle.sound.specs.Sweep as sound
 use Rattle.moves.specs.Core.{Core, load, withClauses}
@@ -45,7 +43,7 @@ use Rattle.refinement.proofs.Held.{At, StampsOf, stale, from, Held}
 -- ---- visits from the cursor on
 
 module _ {f : List Clause} {t : Tables} {st : State} (H : Held f t st) (F : Formed (st .v) (st .n) (st .n) false (t .clauses) (t .literals) (t .variables)) (R : Represented (st .v) (st .n) false t (H .core))
-    (stamps : FreshStamps (st .v) (t .times) (t .links)) (c : ℕ) (le : c ≤ st .n) where
+    (fresh-is : st .fresh ≡ true) (c : ℕ) (le : c ≤ st .n) where
   abbrev ρ : Stamps
   ρ = columns (t .times) (t .links)
 
@@ -65,14 +63,8 @@ module _ {f : List Clause} {t : Tables} {st : State} (H : Held f t st) (F : Form
     B : SameStamps t t′
     B = visits-beside (sweepClause ρ) (sweep-shrinks ρ) m c t .stamps
 
-    values : Spread (st .v) (t′ .variables)
-    values = subst (Spread (st .v)) (sym (visits-beside (sweepClause ρ) (sweep-shrinks ρ) m c t .variables)) (H .shape .values)
-
     N : Nested (2 * st .v) ρ
-    N = fresh-nested (t .times) (t .links) (st .v) stamps
-
-    formed : Formed (st .v) (st .n) (st .n) false (t′ .clauses) (t′ .literals) (t′ .variables)
-    formed = formed-visits t F ρ N m c ends
+    N = fresh-nested (t .times) (t .links) (st .v) (H .shape .stamps fresh-is)
 
     tied : Represented (st .v) (st .n) false t′ k′
     tied = sweeps-tied (st .v) (st .n) ρ σ N A m c ends t (H .core) F R
@@ -80,30 +72,32 @@ module _ {f : List Clause} {t : Tables} {st : State} (H : Held f t st) (F : Form
     agree-still : Agree (2 * st .v) (columns (t′ .times) (t′ .links)) σ
     agree-still = subst (λ (x : List ℕ). Agree (2 * st .v) (columns x (t′ .links)) σ) (sym (B .times)) (subst (λ (x : List ℤ). Agree (2 * st .v) (columns (t .times) x) σ) (sym (B .links)) A)
 
-    open-held : c + m < st .n → Held f t′ (opened (Sweep (c + m)) true st)
-    open-held lt = record {
+    open-held : Shape t′ (opened (Sweep (c + m)) true st) → Held f t′ (opened (Sweep (c + m)) true st)
+    open-held Q = record {
       core = k′;
       stamped = fresh σ (c + m);
       moves = go since (sweep m);
       within = H .within;
-      shape = formed-shape-as t t′ (opened (Sweep (c + m)) true st) B (H .shape .long .times) (H .shape .long .links) (λ e. stamps) formed values (lt, refl);
+      shape = Q;
       tied = tied;
       stamps = from σ (c + m) agree-still refl;
     }
 
-    done-held : Held f t′ (closed false st)
-    done-held = record {
+    done-held : Shape t′ (closed false st) → Held f t′ (closed false st)
+    done-held Q = record {
       core = k′;
       stamped = spent;
       moves = go (go since (sweep m)) spend;
       within = H .within;
-      shape = formed-shape-as t t′ (closed false st) B (H .shape .long .times) (H .shape .long .links) (λ e. absurd (false≢true e)) formed values tt;
+      shape = Q;
       tied = tied;
       stamps = stale refl;
     }
 
     from-held : Held f (sweepFrom steps c t st .tables) (sweepFrom steps c t st .state)
-    from-held = advance-cases Sweep true false (sweepClause ρ) steps c t st (λ (a : After). Held f (a .tables) (a .state)) (λ counts lt. open-held lt) (λ counts done. done-held)
+    from-held =
+        advance-cases Sweep true false (sweepClause ρ) steps c t st (λ (a : After). Shape (a .tables) (a .state) → Held f (a .tables) (a .state)) (λ counts lt. open-held) (λ counts done. done-held)
+        (from-shaped steps c t st (H .shape) F fresh-is le)
 
 -- ---- the call
 
@@ -132,7 +126,7 @@ sweep-held {f} steps t st H = by (entryOf own.Sweep t st) refl
         by-stamps : {w : Freshness} → StampsOf t st w → Moves (st .v) (load f) spent (H .core) w → Held f (sweepFrom steps k t st .tables) (sweepFrom steps k t st .state)
         by-stamps (stale h) ms = absurd (false≢true (sym h ∙ e))
         by-stamps (from σ c A at) ms =
-            from-held H (entered-formed E (begins-unmerged p k b)) (subst (λ (b : Bool). Represented (st .v) (st .n) b t (H .core)) (E .unmarked) (H .tied)) (H .shape .stamps e) k le σ A
+            from-held H (entered-formed E (begins-unmerged p k b)) (subst (λ (b : Bool). Represented (st .v) (st .n) b t (H .core)) (E .unmarked) (H .tied)) e k le σ A
             (subst (λ (x : ℕ). Moves (st .v) (load f) spent (H .core) (fresh σ x)) (at-cursor p c k (subst (λ (q : Pass). At q c) (E .pass) at) b) ms) steps
 
     unless : {p : Pass} → Entered p t st → (k : ℕ) → Begins p k → k ≤ st .n → (b : Bool) → st .fresh ≡ b → Held f (sweepUnlessStale b steps k t st .tables) (sweepUnlessStale b steps k t st .state)

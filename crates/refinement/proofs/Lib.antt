@@ -21,3 +21,4 @@ pub mod Fronts
 pub mod Demand3
 pub mod Made
 pub mod Running
+pub mod Values

@@ -89,12 +89,9 @@ module _ {w : Standing} (R : Runs w) where
   pub sweep-rests : Rests (between (sweeping.sweepUnlessStale (st .fresh) (st .n) 0 t st))
   sweep-rests = go (st .fresh) refl
     where
-      stamped : st .fresh ≡ true → Stamped (st .v) (t .times) (t .links)
-      stamped f = let S = R .shape in record { few = S .v-limit; timed = omega (arith, S .v-limit, S .long .times); linked = omega (arith, S .v-limit, S .long .links); fresh = S .stamps f }
-
       go : (b : Bool) → st .fresh ≡ b → Rests (between (sweeping.sweepUnlessStale b (st .n) 0 t st))
       go true e =
-          let r = sweep-whole t st (runs-formed R) (stamped e) (R .shape .long .times) (R .shape .long .links) (R .shape .values) in
+          let r = sweep-whole t st (R .shape) (runs-formed R) e in
           record { shape = r .0; idle = r .1 }
       go false e = runs-rests R
 
