@@ -87,6 +87,22 @@ static void compare_records(void) {
     compare("parent of -3", -3, (long)unhide_links_at(&tables, -3)->parent);
 }
 
+/* Variables 1 to 4 become one class, and a unit that Merge leaves gives it a value: each record has it, with its sign. */
+static void compare_values(void) {
+    static const long classes[] = {1, 1, -1, 1};
+    static const long values[] = {1, 1, -1, 1};
+    uint32_t v;
+    load("p cnf 4 5\n2 3 0\n-3 -1 0\n1 2 0\n-2 4 0\n-4 1 0\n");
+    compare_call("merge of four", 0, 5, unhide_tables_merge(&tables, 9, &answer));
+    compare_call("propagate to the value", 0, 3, unhide_tables_propagate(&tables, 3, &answer));
+    for (v = 1; v <= 4; v++) {
+        compare("class in a ring", classes[v - 1], (long)unhide_variable_at(&tables, v)->class_literal);
+        compare("value in a ring", values[v - 1], (long)unhide_variable_at(&tables, v)->value);
+    }
+    tables.variables[2].value = 1;
+    compare_call("value of another sign", UNHIDE_SHAPE, 0, unhide_tables_propagate(&tables, 1, &answer));
+}
+
 static void compare_refusals(void) {
     uint8_t out[64];
     static const int32_t repeated[] = {1, -1, 2, -2, 3, -3, 1, -4};
@@ -112,6 +128,7 @@ static void compare_refusals(void) {
 
 int main(void) {
     compare_passes();
+    compare_values();
     compare_records();
     compare_refusals();
     if (!differs)

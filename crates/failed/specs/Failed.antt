@@ -11,7 +11,6 @@ use Rattle.stamp_columns.specs.Columns.{columns}
 use Rattle.hidden.specs.Failed.{sameStart, failedSlot}
 use Rattle.state.specs.States.{closed, marked}
 use Rattle.state.specs.declared.State.{State}
-use Rattle.state.specs.declared.Pass.the-variants.{Idle}
 use Rattle.state.specs.declared.Refusal.the-variants.{Stale}
 use Rattle.state.specs.declared.Answer.the-variants.{Failed}
 use Rattle.tables.specs.Tables.{Tables, withVariables}

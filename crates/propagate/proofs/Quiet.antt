@@ -24,7 +24,7 @@ use Rattle.visits.proofs.Stores.{recorded, storedAt, stored-view, stored-other,
 use Rattle.visits.proofs.Placing.{shortened-same}
 use Rattle.visits.proofs.Forming.{part-inside, part-length, clause-fits, record-inside, stands-one, recorded-same, set-others}
 use Rattle.visits.proofs.Fitting.{filter-shorter, fit-member}
-use Rattle.visits.proofs.Known.{abs-signed, class-ranged, class-own}
+use Rattle.visits.proofs.Known.{abs-signed, class-ranged}
 use Rattle.visits.proofs.Visiting.{fate-dropped, fate-standing}
 use Rattle.visits.proofs.StoreKeeps.{FormedIn, formed-cases}
 use Rattle.visits.proofs.Looking.{dropped-settled, valued-unsettled, unit-unsettled}

@@ -15,12 +15,11 @@ use Rattle.tables.specs.Tables.{Tables, lengthOf, standing, withVariables}
 use Rattle.tables.specs.Values.{truth, isTrue, isFalse, setTrue}
 use Rattle.tables.specs.Clauses.{literalsOf}
 use Rattle.tables.specs.Fates.{Fate, kept, left, dropped, unit, conflict, store, fateAt, shortened, droppedAt}
-use Rattle.tables.specs.Calls.{After}
 use Rattle.visits.specs.Formed.{Variables, FitClause}
 use Rattle.visits.proofs.Forming.{clause-fits}
 use Rattle.visits.proofs.Fitting.{fit-member, fit-filter}
 use Rattle.visits.proofs.StoreKeeps.{FormedIn, formed-cases}
-use Rattle.spread.specs.Spread.{spread, spreadBehind}
+use Rattle.spread.specs.Spread.{spreadBehind}
 use Rattle.spread.proofs.Alike.{Alike, truth-same, true-alike}
 use Rattle.spread.proofs.Spreading.{spread-same}
 use Rattle.propagate.specs.Propagate.{replied}

@@ -6,7 +6,7 @@ use mathlib.Core.Path.{_≡_, refl, sym, ap, subst, _∙_}
 use mathlib.Core.Bool.{false}
 use mathlib.Core.List.{List, [], _∷_, map, List·Memᴰ}
 use lib.ListN.{length, getD}
-use lib.IntN.{ℤ, pos, negsuc, negℤ, natAbs}
+use lib.IntN.{ℤ, pos, natAbs}
 use borrow.Author.Tests.{lt-ltb}
 use Rattle.stamp_walk.proofs.Graphing.{once-slots}
 use Rattle.base.proofs.Lists.{mem-getD}
@@ -15,7 +15,6 @@ use Rattle.literal.proofs.Laws.{slot-below}
 use Rattle.implications.specs.Clauses.{Once, implications}
 use Rattle.tables.specs.Tables.{Tables, classOf}
 use Rattle.tables.specs.Tables as T
-use Rattle.tables.specs.Values.{classLiteral}
 use Rattle.tables.specs.Clauses.{slotsAt, slotsFrom}
 use Rattle.visits.specs.Formed.{Formed}
 use Rattle.visits.proofs.Forming.{clause-fits, part-length}

@@ -1,6 +1,5 @@
 -- Each pass of a run keeps the shape rule and leaves no pass open. So does a code of the programme, and what it leaves runs on unless the mark is set. Assumes nothing.
 use Prim.Native.Nat.{ℕ, _*_}
-use native.Mathlib.Omega.{arith}
 use mathlib.Core.Path.{_≡_, refl, sym, subst}
 use mathlib.Core.Bool.{Bool, true, false}
 use mathlib.Core.List.{List, [], _∷_}
@@ -16,7 +15,6 @@ use Rattle.tables.specs.Tables.{Tables}
 use Rattle.tables.specs.Clauses.{slotsFrom}
 use Rattle.tables.specs.Calls.{After}
 use Rattle.shape.specs.Shape.{Shape}
-use Rattle.clause_slots.specs.Stamped.{Stamped}
 use Rattle.stamp.specs.Stamp.{stampAcyclic, stampOrdered}
 use Rattle.stamp.specs.Asking.{askOrdered}
 use Rattle.stamp.specs.declared.Ruling.{Ruling}
@@ -27,7 +25,6 @@ use Rattle.failed.specs.Failed.{found, failedFrom, failedFresh}
 use Rattle.failed.specs.Failed as failing
 use Rattle.failed.proofs.Calling.{call-granted}
 use Rattle.failed.proofs.Shaping.{failed-shape}
-use Rattle.sweep.specs.Sweep.{sweepFrom}
 use Rattle.sweep.specs.Sweep as sweeping
 use Rattle.settle.specs.Settle.{Standing, between, settle}
 use Rattle.round_order.specs.Order.{orderOf}

@@ -21,7 +21,7 @@ use Rattle.visits.proofs.Entered.{entered-formed}
 use Rattle.spread.specs.Spread.{spreadTables, spreadBehind}
 use Rattle.spread.proofs.Spreading.{spread-alike}
 use Rattle.propagate.specs.Propagate.{replied, propagateFrom, propagateCall}
-use Rattle.propagate_visits.specs.Visits.{Progress, going, settled, contradicted, begin, propagateVisits, Reached, reached}
+use Rattle.propagate_visits.specs.Visits.{Progress, going, settled, contradicted, begin, propagateVisits, Reached}
 use Rattle.propagate_visits.proofs.Splitting.{settled-stays, contradicted-stays, visits-split, made-free}
 use Rattle.propagate.proofs.Calling.{call-opens, call-resumes}
 use Rattle.propagate_visits.proofs.Stepping.{Good, visits-good}

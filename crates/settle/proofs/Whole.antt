@@ -6,7 +6,6 @@ use mathlib.Core.Logic.{_⊎_, inl, inr}
 use mathlib.Core.List.{List}
 use Rattle.state.specs.States.{closed, marked}
 use Rattle.state.specs.declared.State.{State}
-use Rattle.state.specs.declared.Pass.the-variants.{Idle}
 use Rattle.tables.specs.Tables.{Tables, classOf}
 use Rattle.tables.specs.Passes.{firstUnsettled}
 use Rattle.shape.specs.Shape.{Spread}

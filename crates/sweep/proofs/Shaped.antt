@@ -9,7 +9,6 @@ use Rattle.stamp_columns.specs.Columns.{columns}
 use Rattle.hidden.proofs.FreshColumns.{fresh-nested}
 use Rattle.state.specs.States.{opened, closed}
 use Rattle.state.specs.declared.State.{State}
-use Rattle.state.specs.declared.Pass.{Pass}
 use Rattle.state.specs.declared.Pass.the-variants.{Sweep}
 use Rattle.tables.specs.Tables.{Tables}
 use Rattle.tables.specs.Fates.{visits}

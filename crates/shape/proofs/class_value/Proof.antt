@@ -8,7 +8,7 @@ use mir.Facts.{toZ-ofZ}
 use lib.ListN.{length, getD}
 use lib.IntN.{ℤ, pos, natAbs}
 use lib.Signed.{nonNeg}
-use borrow.Author.Needs.{sfits-of, needs}
+use borrow.Author.Needs.{sfits-of}
 use Rattle.literal.specs.Literals.{Small, signBy}
 use Rattle.literal.proofs.Signed.{read, back}
 use Rattle.tables.specs.Tables.{classOf, valueOf}

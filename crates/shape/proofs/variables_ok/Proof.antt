@@ -1,5 +1,5 @@
 -- `shape::variables_ok` meets its contract. The invariant: each variable passed is right, and its value is that of its class literal. Assumes nothing.
-use Prim.Native.Nat.{ℕ, _+_, _*_, _-_, _≤_, _<_}
+use Prim.Native.Nat.{ℕ, _+_, _-_, _≤_, _<_}
 use native.Mathlib.Omega.{arith}
 use mathlib.Core.Path.{_≡_, refl, ap, subst, sym, _∙_}
 use mathlib.Core.List.{List}
@@ -11,7 +11,6 @@ use borrow.Author.Count.{below-more, below-none}
 use Rattle.base.specs.Decide.{says-yes, says-no}
 use Rattle.literal.proofs.Signed.{bits-eq}
 use Rattle.tables.specs.Tables.{classOf, valueOf}
-use Rattle.tables.specs.Values.{classValue}
 use Rattle.shape.specs.Shape.{Variable, Spread}
 use Rattle.shape.specs.Row.{Classed}
 use borrow.Author.Needs.{sfits-of, needs}

@@ -1,5 +1,5 @@
 -- `spread::spread` meets its contract. The invariant: what is still to be spread makes the whole (`Spreading`). Assumes nothing.
-use Prim.Native.Nat.{_+_, _-_, _≤_}
+use Prim.Native.Nat.{_+_, _-_}
 use native.Mathlib.Omega.{arith}
 use mathlib.Core.Path.{_≡_, refl, subst, sym}
 use mathlib.Core.List.{List}
