@@ -1,3 +1,4 @@
 pub mod Alike
 pub mod Spreading
 pub mod Settled
+pub mod Cases
