@@ -1,7 +1,7 @@
 -- What a call that is not refused knows, and where it is not. Assumes nothing.
 use Prim.Native.Nat.{ℕ}
 use native.Mathlib.Omega.{arith}
-use mathlib.Core.Path.{_≡_, refl, sym, ap, _∙_}
+use mathlib.Core.Path.{_≡_, refl, sym, _∙_}
 use mathlib.Core.Bool.{Bool, true, false}
 use Rattle.state.specs.declared.State.{State}
 use Rattle.state.specs.declared.Pass.{Pass}
@@ -12,7 +12,7 @@ use Rattle.tables.specs.Tables.{Tables}
 use Rattle.shape.specs.Shape as S
 use Rattle.shape.specs.Decision.{shapeOk}
 use Rattle.shape.proofs.Reading.{shaped}
-use Rattle.entry.specs.Entry.{unlessMarked, entryBy, entryOf, openingBy, openingOf}
+use Rattle.entry.specs.Entry.{entryBy, entryOf, openingBy, openingOf}
 use Rattle.entry.specs.declared.PassName.{PassName}
 use Rattle.entry.specs.declared.PassName.the-variants as own
 use Rattle.entry.specs.declared.Entry.{Entry}

@@ -1,6 +1,5 @@
 -- Document 01, the lines of the refusal table that the five passes and Run share: 1 where a table is short or the shape rule fails, 4 where a pass is open other than the one that this call resumes, 5 under the mark.
 -- "Where several apply, the topmost line holds." Assumes nothing: these are definitions.
-use Prim.Native.Nat.{ℕ}
 use mathlib.Core.Bool.{Bool, true, false}
 use Rattle.state.specs.declared.State.{State}
 use Rattle.state.specs.declared.Pass.{Pass}

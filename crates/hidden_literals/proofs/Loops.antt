@@ -5,19 +5,17 @@ use native.Mathlib.Omega.{arith}
 use mathlib.Core.Path.{_≡_, refl, sym, ap, subst, _∙_}
 use mathlib.Core.Bool.{true, false}
 use mathlib.Core.Logic.{⊎-elim}
-use mathlib.Core.List.{List, [], _∷_, _++_, append-nil, map}
+use mathlib.Core.List.{List, [], _∷_, _++_, append-nil}
 use lib.ListN.{length, take, drop, getD, set, length-set, drop-of-length-le}
-use lib.Seq.{drop-cons, set-split, take-suc-set, take-set-le, getD-set-other, append-snoc, length-take-le, drop-at, drop-length, take-take, take-all}
+use lib.Seq.{drop-cons, set-split, take-suc-set, take-set-le, getD-set-other, append-snoc, length-take-le, drop-at, drop-length, take-take}
 use lib.Dec.{ltb, eqb}
-use lib.IntN.{ℤ, pos, negℤ, natAbs}
-use borrow.Author.Tests.{eq-eqb, ne-eqb, lt-ltb, le-ltb}
+use lib.IntN.{ℤ, pos, negℤ}
+use borrow.Author.Tests.{eq-eqb, ne-eqb}
 use Rattle.base.specs.Decide.{same-or, le-or}
 use Rattle.base.specs.Lists.{any}
 use Rattle.base.proofs.Lists.{filter-in, filter-out, any-here, any-next, take-same}
-use Rattle.literal.specs.Literals.{Literal, slotOf, Small}
+use Rattle.literal.specs.Literals.{Literal, slotOf}
 use Rattle.literal.proofs.Compact.{Compact, start, stay, gone}
-use Rattle.literal.proofs.Signed.{abs-neg, small-neg}
-use Rattle.literal.proofs.Laws.{slot-below}
 use Rattle.walk.specs.Walk.{Stamps}
 use Rattle.walk.specs.Forest.{discoveryAt, finishAt}
 use Rattle.stamp_columns.specs.Columns.{columns}

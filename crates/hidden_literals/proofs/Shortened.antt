@@ -4,22 +4,22 @@ use native.Mathlib.Omega.{arith}
 use mathlib.Core.Path.{_≡_, sym, ap, subst, _∙_}
 use mathlib.Core.Bool.{Bool, true, false, not}
 use mathlib.Core.Logic.{inl, inr, ⊎-elim}
-use mathlib.Core.List.{List, [], _∷_, _++_, map, List·Memᴰ, Memᴰ·of-map}
+use mathlib.Core.List.{List, [], _∷_, _++_, map, List·Memᴰ}
 use lib.ListN.{length, take, drop, getD, length-map, length-drop, replicate}
 use lib.Seq.{take-append-le}
 use lib.Dec.{ltb}
 use lib.IntN.{ℤ, pos, negℤ}
 use Rattle.base.specs.Decide.{same-or}
 use Rattle.base.specs.Lists.{filter}
-use Rattle.base.proofs.Lists.{mem-filter, getD-mem, each-mem}
-use Rattle.literal.specs.Literals.{Literal, slotOf, twin}
+use Rattle.base.proofs.Lists.{mem-filter, getD-mem}
+use Rattle.literal.specs.Literals.{slotOf, twin}
 use Rattle.literal.proofs.Laws.{slot-below, slot-twin}
 use Rattle.literal.proofs.Twins.{twin-below}
 use Rattle.walk.specs.Walk.{Stamps}
 use Rattle.walk.specs.Forest.{discoveryAt, finishAt, Parted}
 use Rattle.stamp_columns.specs.Columns.{columns}
 use Rattle.hidden.specs.Hidden.{byDiscovery, shorten}
-use Rattle.hidden.proofs.Intervals.{Nested, Within}
+use Rattle.hidden.proofs.Intervals.{Nested}
 use Rattle.hidden.proofs.Sorted.{Rising, sorted-out, sorted-rising}
 use Rattle.stamp_columns.specs.Slots.{Slots}
 use Rattle.discovery_order.proofs.Sorting.{length-sorted}

@@ -1,8 +1,8 @@
 // Hidden literals: figure 5 of 000 over the slots of one clause.
 ghost use mathlib.Core.Path.{_≡_};
 ghost use mathlib.Core.List.{List, [], _++_, map};
-ghost use Prim.Native.Nat.{ℕ, _+_, _*_, _-_, _<_, _≤_};
-ghost use lib.ListN.{length, getD, drop, take, replicate};
+ghost use Prim.Native.Nat.{_+_, _*_, _-_, _<_, _≤_};
+ghost use lib.ListN.{length, drop, take, replicate};
 ghost use lib.IntN.{ℤ, pos};
 ghost use Rattle.literal.specs.Literals.{slotOf, twin};
 ghost use Rattle.stamp_columns.specs.Columns.{columns};

@@ -8,7 +8,7 @@ use mathlib.Core.Logic.{_⊎_, inl, inr, ⊎-elim}
 use lib.ListN.{length, getD, set, length-set}
 use lib.Seq.{getD-set-same, getD-set-other}
 use Rattle.base.specs.Decide.{same-or, le-or}
-use Rattle.occurrences.specs.Chains.{nextOf, ownerOf, Chained}
+use Rattle.occurrences.specs.Chains.{nextOf, ownerOf}
 use Rattle.occurrences.specs.Pending.{Covered, Skippable, WalkableChains, HasChain, PendingAll}
 
 -- ---- one clause

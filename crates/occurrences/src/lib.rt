@@ -1,8 +1,7 @@
 // Where each variable occurs, and which clauses are pending: still to be visited. The places of a variable are a chain, from its last place to its first; pending clauses are searched by blocks of 64.
 ghost use mathlib.Core.Path.{_≡_};
 ghost use mathlib.Core.Bool.{false};
-ghost use mathlib.Core.List.{List};
-ghost use Prim.Native.Nat.{ℕ, _+_, _*_, _/_, _≤_, _<_};
+ghost use Prim.Native.Nat.{_+_, _*_, _/_, _≤_, _<_};
 ghost use lib.ListN.{length, getD, set};
 ghost use Rattle.occurrences.specs.Chains.{Linkable, Linking, ChainRoom};
 ghost use Rattle.occurrences.specs.Pending.{Covered, Skippable, HasChain, PendingAll};

@@ -1,15 +1,13 @@
 -- What the program prints, by the length of its input and by the answer of the call on texts. Assumes nothing.
 use Prim.Native.Nat.{ℕ, zero, suc, _≤_, _<_}
 use mathlib.Core.Path.{_≡_, refl, sym, ap, _∙_}
-use mathlib.Core.Bool.{Bool, true, false}
 use mathlib.Core.List.{List}
 use lib.ListN.{length, take, replicate}
-use lib.Dec.{ltb}
 use borrow.Author.Tests.{lt-ltb, le-ltb}
-use Rattle.state.specs.Answers.{Reply, replyOf, firstValue}
+use Rattle.state.specs.Answers.{replyOf, firstValue}
 use Rattle.state.specs.declared.Answer.{Answer}
 use Rattle.printing.specs.Printing.{refusedLine}
-use Rattle.write.specs.Write.{AfterWrite, afterWrite}
+use Rattle.write.specs.Write.{afterWrite}
 use Rattle.simplify.specs.Texts.{simplifyText, shown, shownAfter, unhideText}
 
 module _ (input : List ℕ) where

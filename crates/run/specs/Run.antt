@@ -6,7 +6,6 @@ use mathlib.Core.Bool.{Bool, true, false, _&&_, _||_}
 use mathlib.Core.List.{List, [], _∷_}
 use lib.ListN.{take}
 use lib.Dec.{eqb}
-use lib.IntN.{ℤ}
 use Rattle.base.specs.Lists.{allBelow, sameList}
 use Rattle.literal.specs.Literals.{eqZ}
 use Rattle.state.specs.declared.State.{State}

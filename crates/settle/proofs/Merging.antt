@@ -6,7 +6,7 @@ use mathlib.Core.List.{List}
 use lib.IntN.{ℤ}
 use Rattle.state.specs.States.{closed, marked}
 use Rattle.state.specs.declared.State.{State}
-use Rattle.state.specs.declared.Pass.the-variants.{Idle, Merge}
+use Rattle.state.specs.declared.Pass.the-variants.{Merge}
 use Rattle.tables.specs.Tables.{Tables}
 use Rattle.tables.specs.Fates.{visits}
 use Rattle.tables.specs.Passes.{firstUnsettled}

@@ -1,8 +1,8 @@
 -- The call is its definition: the ruling from the tests of the code, what a fit call knows, and the answer from the ruling. Assumes nothing.
-use Prim.Native.Nat.{ℕ, zero, suc, _+_, _*_, _≤_, _<_}
+use Prim.Native.Nat.{ℕ, _+_, _*_, _≤_, _<_}
 use native.Mathlib.Omega.{arith}
 use mathlib.Core.Path.{_≡_, refl, sym, ap, _∙_}
-use mathlib.Core.Bool.{Bool, true, false, false≢true}
+use mathlib.Core.Bool.{Bool, true, false}
 use mathlib.Core.List.{List, map}
 use lib.ListN.{length}
 use lib.Dec.{ltb, eqb}
@@ -12,7 +12,7 @@ use Rattle.state.specs.States.{closed}
 use Rattle.state.specs.declared.State.{State}
 use Rattle.state.specs.declared.Pass.the-variants.{Idle}
 use Rattle.state.specs.declared.Refusal.{Refusal}
-use Rattle.state.specs.declared.Refusal.the-variants.{Unsettled, Cyclic, Order, OtherPass, Shape as Misshapen}
+use Rattle.state.specs.declared.Refusal.the-variants.{Unsettled, Cyclic, Order}
 use Rattle.state.specs.declared.Answer.the-variants.{Stamped}
 use Rattle.literal.specs.Literals.{slotOf}
 use Rattle.implications.specs.Clauses.{implications}
@@ -22,7 +22,6 @@ use Rattle.tables.specs.Clauses.{slotsFrom}
 use Rattle.tables.specs.Passes.{firstUnsettled}
 use Rattle.tables.specs.Calls.{After, answered, after, refuse}
 use Rattle.entry.specs.Entry.{openingOf}
-use Rattle.shape.specs.Decision.{shapeOk}
 use Rattle.shape.specs.Shape.{Shape}
 use Rattle.entry.specs.declared.Opening.{Opening}
 use Rattle.entry.specs.declared.Opening.the-variants.{Denied, Granted}

@@ -10,7 +10,6 @@ use Rattle.literal.specs.Literals.{Literal, slotOf}
 use Rattle.walk.specs.Walk.{Stamps}
 use Rattle.state.specs.States.{closed}
 use Rattle.state.specs.declared.State.{State}
-use Rattle.state.specs.declared.Pass.the-variants.{Idle}
 use Rattle.state.specs.declared.Refusal.the-variants.{Unsettled, Cyclic, Order}
 use Rattle.state.specs.declared.Answer.the-variants.{Refused, Stamped}
 use Rattle.state.specs.declared.Outcome.{Outcome}

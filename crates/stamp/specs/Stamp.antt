@@ -14,7 +14,6 @@ use Rattle.implications.specs.Clauses.{implications, tos}
 use Rattle.scc.specs.Groups.{blank, cyclic}
 use Rattle.state.specs.States.{closed}
 use Rattle.state.specs.declared.State.{State}
-use Rattle.state.specs.declared.Pass.the-variants.{Idle}
 use Rattle.state.specs.declared.Refusal.the-variants.{Unsettled, Cyclic, Order}
 use Rattle.state.specs.declared.Answer.the-variants.{Stamped}
 use Rattle.tables.specs.Tables.{Tables, tables}

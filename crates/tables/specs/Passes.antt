@@ -10,7 +10,6 @@ use Rattle.literal.specs.Literals.{eqZ}
 use Rattle.state.specs.States.{opened, closed}
 use Rattle.state.specs.declared.State.{State}
 use Rattle.state.specs.declared.Pass.{Pass}
-use Rattle.state.specs.declared.Pass.the-variants.{Idle}
 use Rattle.state.specs.declared.Answer.the-variants.{Open, Done}
 use Rattle.tables.specs.Tables.{Tables, lengthOf, standing, valueOf}
 use Rattle.tables.specs.Clauses.{literalsOf, gone}

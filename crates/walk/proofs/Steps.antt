@@ -9,7 +9,7 @@ use mathlib.Core.List.{List, [], _∷_, List·Memᴰ, List·Memᴰ·head, List·
 use lib.ListN.{length, length-set}
 use lib.Seq.{getD-set-same, getD-set-other}
 use Rattle.base.specs.Decide.{same-or, le-or, zero-or}
-use Rattle.walk.specs.Walk.{Stamps, arrive, leave, edge, edges, enters, startWalk, fresh}
+use Rattle.walk.specs.Walk.{Stamps, arrive, leave, edge, edges, enters, fresh}
 use Rattle.walk.specs.Forest.{discoveryAt, finishAt, parentAt, startAt, Holds, Parted, Reach, here, on}
 use Rattle.walk.proofs.Run.{Less, less-refl, less-trans, edge-new, edge-old, enters-less, fresh-set}
 

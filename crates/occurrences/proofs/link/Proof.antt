@@ -1,9 +1,9 @@
 -- `occurrences::link` meets its contract. Assumes nothing.
 use Prim.Native.Nat.{ℕ, _≤_, _-_}
-use mathlib.Core.Path.{_≡_, refl, ap, subst, _∙_}
+use mathlib.Core.Path.{_≡_, refl, subst, _∙_}
 use lib.ListN.{length}
 use native.Mathlib.Omega.{arith}
-use Rattle.occurrences.specs.Chains.{Linkable, Linking, ChainRoom}
+use Rattle.occurrences.specs.Chains.{Linking}
 use Rattle.occurrences.proofs.Linking.{linkable-fewer}
 use borrow.Author.Needs.{needs}
 use Rattle.occurrences.proofs.link.Statement.{statement}

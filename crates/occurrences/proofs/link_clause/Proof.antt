@@ -1,10 +1,10 @@
 -- `occurrences::link_clause` meets its contract. Assumes nothing.
-use Prim.Native.Nat.{ℕ, _+_, _*_, _≤_, _-_}
-use mathlib.Core.Path.{_≡_, refl, sym, ap, subst, _∙_}
-use lib.ListN.{length, getD}
+use Prim.Native.Nat.{ℕ, _+_, _≤_, _-_}
+use mathlib.Core.Path.{_≡_, refl, subst, _∙_}
+use lib.ListN.{length}
 use Rattle.tables.specs.Tables.{startOf, lengthOf, variableAt}
 use native.Mathlib.Omega.{arith}
-use Rattle.occurrences.specs.Chains.{Linkable, Linking, ChainRoom}
+use Rattle.occurrences.specs.Chains.{Linking, ChainRoom}
 use Rattle.occurrences.proofs.Linking.{linking-next, place-small, place-room, linking-step}
 use mir.Facts.{toZ-ofZ}
 use borrow.Author.Needs.{needs, sfits-of}

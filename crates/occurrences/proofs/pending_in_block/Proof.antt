@@ -1,9 +1,9 @@
 -- `occurrences::pending_in_block` meets its contract. Assumes nothing.
-use Prim.Native.Nat.{ℕ, _+_, _*_, _/_, _≤_}
+use Prim.Native.Nat.{_+_, _*_, _/_, _≤_}
 use native.Mathlib.Omega.{arith}
-use mathlib.Core.Path.{_≡_, subst}
+use mathlib.Core.Path.{_≡_}
 use borrow.Author.Tests.{not-true}
-use Rattle.occurrences.specs.Pending.{Skippable, Covered}
+use Rattle.occurrences.specs.Pending.{Skippable}
 use Rattle.occurrences.proofs.Pending.{skippable-block, skippable-to, from-start, covered-block}
 use borrow.Author.Needs.{needs}
 use Rattle.occurrences.proofs.pending_in_block.Statement.{statement}

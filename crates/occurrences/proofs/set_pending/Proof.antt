@@ -1,7 +1,7 @@
 -- `occurrences::set_pending` meets its contract. Assumes nothing.
-use Prim.Native.Nat.{ℕ, _+_, _*_, _-_, _/_, _≤_, _<_}
+use Prim.Native.Nat.{_+_, _*_, _-_, _<_}
 use native.Mathlib.Omega.{arith}
-use mathlib.Core.Path.{_≡_, refl, _∙_}
+use mathlib.Core.Path.{_≡_, refl}
 use lib.ListN.{length, length-set}
 use Rattle.occurrences.proofs.Pending.{Walking, walking-none, walk-inside, walk-pending, walk-less, walking-next, walking-done}
 use borrow.Author.Needs.{needs}

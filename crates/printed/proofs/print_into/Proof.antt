@@ -1,12 +1,11 @@
 -- `printed::print_into` meets its contract. Assumes nothing.
-use Prim.Native.Nat.{ℕ, _≤_}
+use Prim.Native.Nat.{ℕ}
 use native.Mathlib.Omega.{arith}
 use mathlib.Core.Path.{_≡_, sym, ap, _∙_}
-use lib.ListN.{length, take, replicate, length-replicate}
-use Rattle.state.specs.Answers.{replyOf, firstValue}
+use lib.ListN.{length, take, length-replicate}
+use Rattle.state.specs.Answers.{replyOf}
 use Rattle.printing.specs.Printing.{refusedLine}
 use Rattle.printing.proofs.Storing.{refusal-short, stored-front}
-use Rattle.write.specs.Write.{afterWrite}
 use Rattle.simplify.specs.Texts.{simplifyText}
 use Rattle.printed.proofs.Printed.{long-printed, written-printed, refused-printed}
 use borrow.Author.Needs.{needs}
