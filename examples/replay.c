@@ -7,6 +7,7 @@
  *     failed
  *     write K                     into an output of K bytes, at most 131,072
  *     state, clauses, literals, variables, stamps
+ *     compare P Q                 how the intervals of two literals lie, by the stamps as they stand
  *     lend TABLE K                from now on the calls are lent the first K records of a table
  *     set TABLE RECORD FIELD VALUE, set state FIELD VALUE
  *
@@ -386,6 +387,22 @@ static int take_stamps(const struct line *line) {
     return 1;
 }
 
+/* No line where one of the two is not a literal of the variables, which have records: that the call refuses. */
+static int take_compare(const struct line *line) {
+    static const char *const answers[] = {"same", "holds", "held", "earlier", "later"};
+    const size_t stated = 2 * UNHIDE_SLOTS;
+    int64_t p, q;
+    if (!read_number(line->words[1], INT32_MIN, INT32_MAX, &p) || !read_number(line->words[2], INT32_MIN, INT32_MAX, &q))
+        return 0;
+    uint32_t *lent = lend(times, stated * sizeof times[0]);
+    int64_t relation = unhide_compare(lent, stated, state[V], (int32_t)p, (int32_t)q);
+    take_back(times, lent, stated * sizeof times[0]);
+    if (relation < 0)
+        return 0;
+    printf("%s\n", answers[relation]);
+    return 1;
+}
+
 /* ---- lines that change what is lent, the tables or the state */
 
 /* The table of this name, or TABLES. */
@@ -482,6 +499,7 @@ static const struct form forms[] = {
     {"literals", 1, take_literals},
     {"variables", 1, take_variables},
     {"stamps", 1, take_stamps},
+    {"compare", 3, take_compare},
     {"lend", 3, take_lend},
     {"set", 0, take_set},
 };

@@ -49,6 +49,7 @@ int64_t unhide_text(const uint8_t *text, size_t text_len, uint16_t rounds, uint8
  *   unhide_sweep       drops hidden tautologies and removes hidden literals, by fresh stamps, n clauses in a call; resumes an open Sweep
  *   unhide_run         at most `count` rounds of whole Propagate and Merge passes, Stamp, Failed and Sweep
  *   unhide_write       writes what stands as DIMACS text; changes neither tables nor state
+ *   unhide_compare     says how the intervals of two literals lie, by the stamps as they stand; needs no state and changes nothing
  *
  * A call of Propagate, Merge or Sweep opens its pass, or resumes it where it is open, and makes at most n visits to clauses; Propagate goes
  * through the clauses again until one time through changes nothing. Where the answer says open, visits are left, and another call
@@ -61,8 +62,8 @@ int64_t unhide_text(const uint8_t *text, size_t text_len, uint16_t rounds, uint8
  *
  * No pointer may be null, not even with a length of 0. Slices that are lent to one call must not overlap.
  *
- * Every call returns 0 where it was made, else the number of a refusal, negative. A refused call changes no table, no output and not
- * the state.
+ * Every call but Compare returns 0 where it was made, else the number of a refusal, negative. A refused call changes no table, no output
+ * and not the state.
  *
  * Nothing is kept between calls and nothing is allocated. Calls in several threads on tables of their own do not disturb each other;
  * two threads must not use the same tables at the same time. Run needs the most stack, 835,584 bytes (measured as above); 896 KiB are
@@ -79,7 +80,8 @@ enum {
 /* Refusals. Where several apply, the topmost holds; of -2 and -3 the one at the smaller offset. The place is 0 where none is named. */
 enum unhide_refusal {
     /* all calls: a slice is shorter than stated (an answer of fewer than four numbers stays as it is), a number of the state is none
-     * that it can have, or (but for Load) tables and state break the rules that every call keeps: then the caller has written into them */
+     * that it can have, or (but for Load) tables and state break the rules that every call keeps: then the caller has written into them.
+     * Compare looks at no rules: it refuses fewer times than stated and literals that are not of the variables */
     UNHIDE_SHAPE = -1,
     /* the passes and Run: a pass is open, other than the one that this call resumes */
     UNHIDE_OTHER_PASS = -4,
@@ -123,6 +125,19 @@ struct unhide_times {
 /* The links are the literal from which the walk entered it, and the literal at which it had started; there they are the literal itself. */
 struct unhide_links {
     int32_t parent, start;
+};
+
+/* How the interval of one literal, from its discovery to its finish, lies to that of another. They are tried in this order. */
+enum unhide_relation {
+    /* one beginning and one end */
+    UNHIDE_SAME = 0,
+    /* the first begins no later and ends no earlier */
+    UNHIDE_HOLDS = 1,
+    /* the second does */
+    UNHIDE_HELD = 2,
+    /* neither does: the first begins before the second, or behind it */
+    UNHIDE_EARLIER = 3,
+    UNHIDE_LATER = 4
 };
 
 enum unhide_pass {
@@ -211,6 +226,16 @@ int64_t unhide_write(const uint32_t *clauses, size_t clauses_len, const int32_t 
                      const uint32_t *times, size_t times_len, const int32_t *links, size_t links_len,
                      const uint32_t *state, size_t state_len, uint64_t *answer, size_t answer_len, uint8_t *out, size_t out_len);
 
+/* How the interval of literal p lies to that of literal q: a number of enum unhide_relation. Refused with UNHIDE_SHAPE where fewer than
+ * 4,096 times are lent, or where p or q is not v or -v with v from 1 to `variables`, at the most 1,024. It looks at the times alone, whether
+ * they are fresh or not.
+ *
+ * While the stamps are fresh: same exactly where p is q; holds exactly where p is another literal and an ancestor of q by parents, held
+ * where q is one of p; earlier and later where the walk had left the one before it entered the other (proved: law `compare-fresh`, crate `paper`).
+ * For q and p the answer is that for p and q with holds and held, earlier and later exchanged (law `compared-exchanged`, crate `compare`):
+ * of a pair it is enough to ask one way. */
+int64_t unhide_compare(const uint32_t *times, size_t times_len, uint32_t variables, int32_t p, int32_t q);
+
 /* ---- the calls on a struct of tables */
 
 /* A part of the tables as the calls take it: a pointer and a length in numbers. */
@@ -279,6 +304,11 @@ static inline int64_t unhide_tables_write(const struct unhide_tables *tables, ui
                         UNHIDE_LENT(const int32_t, tables->variables), UNHIDE_LENT(const uint32_t, tables->times),
                         UNHIDE_LENT(const int32_t, tables->links), UNHIDE_LENT(const uint32_t, tables->state),
                         UNHIDE_LENT(uint64_t, *answer), out, out_len);
+}
+
+static inline int64_t unhide_tables_compare(const struct unhide_tables *tables, int32_t p, int32_t q)
+{
+    return unhide_compare(UNHIDE_LENT(const uint32_t, tables->times), tables->state.variables, p, q);
 }
 
 #undef UNHIDE_LENT

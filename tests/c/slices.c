@@ -95,7 +95,28 @@ static void compare_longer(void) {
     }
 }
 
+/* Compare on times that no stamps have, and with fewer than stated, or literals that have no record. */
+static void compare_compare(void) {
+    const size_t stated = 2 * UNHIDE_SLOTS;
+    uint32_t kept[4] = {3, 7, 3, 6};
+    memcpy(times, kept, sizeof kept);
+    times[stated - 2] = 4;
+    times[stated - 1] = 4294967295u;
+    compare("compare, one beginning", UNHIDE_HOLDS, unhide_compare(times, stated, 1, 1, -1));
+    compare("compare, one beginning, turned", UNHIDE_HELD, unhide_compare(times, stated, 1, -1, 1));
+    compare("compare, the last record", UNHIDE_EARLIER, unhide_compare(times, stated, UNHIDE_VARIABLES, 1, -UNHIDE_VARIABLES));
+    compare("compare, more variables than records", UNHIDE_LATER, unhide_compare(times, stated, 4294967295u, -UNHIDE_VARIABLES, 1));
+    compare("compare, a literal without a record", UNHIDE_SHAPE, unhide_compare(times, stated, 4294967295u, UNHIDE_VARIABLES + 1, 1));
+    compare("compare, the smallest literal", UNHIDE_SHAPE, unhide_compare(times, stated, 4294967295u, 1, INT32_MIN));
+    compare("compare, no variables", UNHIDE_SHAPE, unhide_compare(times, stated, 0, 1, 1));
+    compare("compare, one time too few", UNHIDE_SHAPE, unhide_compare(times, stated - 1, 1, 1, 1));
+    compare("compare, no times", UNHIDE_SHAPE, unhide_compare(times, 0, 1, 1, 1));
+    compare("compare, times kept", 0, memcmp(times, kept, sizeof kept));
+    memset(times, 0, sizeof times);
+}
+
 int main(void) {
+    compare_compare();
     compare_refused("state of six numbers", 2, 0, 0, 6, 6);
     compare_refused("no state", 2, 0, 0, 0, 6);
     compare_refused("answer of three numbers", 2, 0, 0, 9, 3);

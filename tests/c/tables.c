@@ -87,6 +87,19 @@ static void compare_records(void) {
     compare("parent of -3", -3, (long)unhide_links_at(&tables, -3)->parent);
 }
 
+/* How the intervals of the sample lie: 1 is [1,6], 2 [2,5], 3 [3,4], -3 [7,12], -2 [8,11], -1 [9,10]. */
+static void compare_intervals(void) {
+    compare("2 to itself", UNHIDE_SAME, (long)unhide_tables_compare(&tables, 2, 2));
+    compare("1 to 3", UNHIDE_HOLDS, (long)unhide_tables_compare(&tables, 1, 3));
+    compare("3 to 1", UNHIDE_HELD, (long)unhide_tables_compare(&tables, 3, 1));
+    compare("-1 to -3", UNHIDE_HELD, (long)unhide_tables_compare(&tables, -1, -3));
+    compare("3 to -1", UNHIDE_EARLIER, (long)unhide_tables_compare(&tables, 3, -1));
+    compare("-4 to 4", UNHIDE_LATER, (long)unhide_tables_compare(&tables, -4, 4));
+    compare("literal 0", UNHIDE_SHAPE, (long)unhide_tables_compare(&tables, 0, 1));
+    compare("literal 5 of 4 variables", UNHIDE_SHAPE, (long)unhide_tables_compare(&tables, 1, 5));
+    compare("literal -5 of 4 variables", UNHIDE_SHAPE, (long)unhide_tables_compare(&tables, -5, 1));
+}
+
 /* Variables 1 to 4 become one class, and a unit that Merge leaves gives it a value: each record has it, with its sign. */
 static void compare_values(void) {
     static const long classes[] = {1, 1, -1, 1};
@@ -130,6 +143,7 @@ int main(void) {
     compare_passes();
     compare_values();
     compare_records();
+    compare_intervals();
     compare_refusals();
     if (!differs)
         printf("ok tables\n");

@@ -4,6 +4,7 @@
 
 mod calls;
 mod class_values;
+mod comparisons;
 mod damage;
 mod far;
 mod forest;
@@ -18,6 +19,8 @@ mod script;
 mod texts;
 mod valued;
 
+#[path = "../second/comparison.rs"]
+mod comparison;
 #[path = "../second/failed.rs"]
 mod failed;
 #[path = "../second/graph.rs"]

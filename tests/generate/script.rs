@@ -1,6 +1,7 @@
 //! The script: which line comes next.
 
 use crate::calls::{any, fitting, line, Call};
+use crate::comparisons;
 use crate::damage;
 use crate::far;
 use crate::formulas::{draft, odd_text, plain_text, Draft};
@@ -74,8 +75,7 @@ pub fn script(seed: u64, count: usize) -> Vec<u8> {
         script.next();
     }
     if script.random.once_in(2) {
-        let wrong = script.random.pick(&WRONG_LINES);
-        script.say(wrong);
+        script.wrong_line();
         script.say("state");
     }
     script.bytes
@@ -112,7 +112,27 @@ impl Script {
         self.say(line);
     }
 
+    /// A line behind which none is read.
+    fn wrong_line(&mut self) {
+        if self.random.below(4) > 0 {
+            let line = self.random.pick(&WRONG_LINES);
+            self.say(line);
+            return;
+        }
+        if self.random.once_in(4) {
+            // Of so many variables only 1,024 have records.
+            let variables = self.random.pick(&[1_025, u32::MAX]);
+            self.say(&format!("set state 0 {variables}"));
+        }
+        let line = comparisons::wrong(&mut self.random, &self.replay.formula);
+        self.say(&line);
+    }
+
     fn next(&mut self) {
+        // Before any other line, so that it meets tables and states of all kinds.
+        if self.random.once_in(40) {
+            self.compare();
+        }
         let formula = &self.replay.formula;
         if tables_are_lent(formula).is_err() {
             self.while_lent_short();
@@ -160,11 +180,43 @@ impl Script {
             .random
             .pick(&[stated - 1, short, 0, stated, stated + 1, stated + 16]);
         self.say(&format!("lend {table} {count}"));
+        if self.random.once_in(2) {
+            self.compare();
+        }
     }
 
     fn damage(&mut self) {
         let lines = damage::lines(&mut self.random, &self.replay.formula);
         self.undo = damage::undo(&self.replay.formula, &lines);
+        for line in &lines {
+            self.say(line);
+        }
+        if self.random.once_in(2) {
+            self.compare_damaged(&lines);
+        }
+    }
+
+    /// Compares a literal whose record these lines have damaged, or any if they
+    /// have damaged the state.
+    fn compare_damaged(&mut self, lines: &[String]) {
+        if let Some(line) = comparisons::behind(&mut self.random, &self.replay.formula, lines) {
+            self.say(&line);
+        } else if lines.iter().any(|line| line.starts_with("set state")) {
+            self.compare();
+        }
+    }
+
+    /// Compares two literals. This is not counted as a call: it takes none of the
+    /// formula's calls. Times are changed before only where stamps are not fresh,
+    /// so that the tables keep their shape.
+    fn compare(&mut self) {
+        let formula = &self.replay.formula;
+        let lines = if !formula.state.fresh && self.random.once_in(3) {
+            comparisons::near_lines(&mut self.random, formula)
+        } else {
+            let line = comparisons::line(&mut self.random, formula);
+            line.into_iter().collect()
+        };
         for line in lines {
             self.say(&line);
         }

@@ -5,6 +5,7 @@
 use crate::calls::{any, fitting, line, Call};
 use crate::compare_calls::{in_two_calls, run_by_passes};
 use crate::compare_figures::figures_agree;
+use crate::compare_intervals::{comparisons_agree, numbers_agree};
 use crate::compare_repeats::{loaded_agrees, merged_agrees};
 use crate::compare_values::{own_values, values_agree, values_stay, written_clauses};
 use crate::compare_walks::{groups_agree, is_subsequence, stamps_agree};
@@ -34,6 +35,10 @@ use crate::write::write;
 /// status.
 pub fn check(seed: u64, count: usize) -> i32 {
     let mut random = Random::new(seed);
+    if let Err(difference) = numbers_agree(&mut random, count) {
+        println!("differs: {difference}");
+        return 1;
+    }
     let truth = Truth::new();
     let mut calls = 0;
     let mut accepted = 0;
@@ -166,6 +171,9 @@ impl<'a> Check<'a> {
         if !shape::holds(&self.formula) {
             return Err("the shape rule fails".to_string());
         }
+        if self.formula.state.fresh {
+            comparisons_agree(&self.formula)?;
+        }
         values_agree(&self.formula)?;
         if self.truth.standing(&self.formula) != self.wanted {
             return Err("what stands has other satisfying assignments".to_string());
@@ -283,6 +291,7 @@ impl<'a> Check<'a> {
                     return Err("a random forest has not the shape".to_string());
                 }
                 figures_agree(&other)?;
+                comparisons_agree(&other)?;
             }
             (Call::Stamp(list), Outcome::Stamped) => {
                 groups_agree(before)?;

@@ -2,8 +2,9 @@
 //! 6, walked step by step. Figure 6 passes over pairs that the rule drops, so
 //! pairs are compared with the parents instead.
 
+use crate::compare_walks::steps_up;
 use crate::sweep::{is_hidden_tautology, without_hidden_literals};
-use crate::tables::{slot, Formula};
+use crate::tables::Formula;
 
 pub fn figures_agree(formula: &Formula) -> Result<(), String> {
     for record in 0..formula.n() {
@@ -28,17 +29,7 @@ pub fn figures_agree(formula: &Formula) -> Result<(), String> {
 
 /// The climb from q over the parents comes to p, in two steps or more.
 fn is_far_above(formula: &Formula, p: i32, q: i32) -> bool {
-    let mut steps = 0;
-    let mut literal = q;
-    while literal != p {
-        let parent = formula.stamps[slot(literal)].parent;
-        if parent == literal {
-            return false;
-        }
-        literal = parent;
-        steps += 1;
-    }
-    steps >= 2
+    steps_up(formula, q, p).is_some_and(|steps| steps >= 2)
 }
 
 /// The literals and their complements, each sorted by discovery, are walked

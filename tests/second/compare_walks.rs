@@ -30,6 +30,21 @@ fn reachability(formula: &Formula) -> Vec<Vec<bool>> {
     reaches
 }
 
+/// How many steps over the parents lead from q up to p, if they do.
+pub fn steps_up(formula: &Formula, q: i32, p: i32) -> Option<usize> {
+    let mut steps = 0;
+    let mut literal = q;
+    while literal != p {
+        let parent = formula.stamps[slot(literal)].parent;
+        if parent == literal {
+            return None;
+        }
+        literal = parent;
+        steps += 1;
+    }
+    Some(steps)
+}
+
 /// The groups are those of literals that reach each other.
 pub fn groups_agree(formula: &Formula) -> Result<(), String> {
     let reaches = reachability(formula);

@@ -3,7 +3,8 @@
 //!
 //! Without an argument it replays a list of calls; `unhide` is the program of
 //! that name; `check SEED COUNT` tries random calls against all assignments;
-//! `cases` runs the named cases, and `script` prints them as a list of calls.
+//! `cases` runs the named cases, `script` prints them as a list of calls, and
+//! `script NAME` prints one of them.
 
 mod tables;
 
@@ -14,6 +15,7 @@ mod load;
 mod text;
 mod write;
 
+mod comparison;
 mod failed;
 mod graph;
 mod merge;
@@ -30,6 +32,7 @@ mod cases;
 mod check;
 mod compare_calls;
 mod compare_figures;
+mod compare_intervals;
 mod compare_repeats;
 mod compare_values;
 mod compare_walks;
@@ -74,6 +77,10 @@ fn main() {
         },
         ["cases"] => exit(cases::cases()),
         ["script"] => print(&named::script()),
+        ["script", name] => match named::cases().iter().find(|case| case.name == name) {
+            Some(case) => print(&case.script()),
+            None => usage(),
+        },
         _ => usage(),
     }
 }
@@ -105,6 +112,6 @@ fn print(output: &[u8]) {
 }
 
 fn usage() {
-    eprintln!("usage: second [unhide | check SEED COUNT | cases | script]");
+    eprintln!("usage: second [unhide | check SEED COUNT | cases | script [NAME]]");
     exit(2);
 }

@@ -1,7 +1,7 @@
 //! Named cases: texts, good and bad, the pallet cases, refusals by call,
 //! repeated literals in loads and in Merge, pairs that a Sweep drops or keeps,
-//! values of classes that have several variables, and formulas at the limits;
-//! each with what a replay of it prints.
+//! values of classes that have several variables, how two intervals lie, and
+//! formulas at the limits; each with what a replay of it prints.
 
 /// The bytes of a load, the calls behind it, a line each, and what a replay of
 /// both prints.
@@ -27,11 +27,13 @@ impl Case {
 pub fn cases() -> Vec<Case> {
     let mut cases = short();
     cases.extend(large());
+    cases.extend(wrong_lines());
     cases
 }
 
-/// The script of all cases. Behind each short one it looks at the state and the
-/// tables, so that a refusal that changed something is seen.
+/// The script of all cases but those with a wrong line, behind which no line is
+/// read. Behind each short one it looks at the state and the tables, so that a
+/// refusal that changed something is seen.
 pub fn script() -> Vec<u8> {
     let mut script = Vec::new();
     for case in short() {
@@ -57,13 +59,22 @@ fn short() -> Vec<Case> {
         prints: prints.to_string(),
     });
     let passes = CALLS.iter().chain(REPEATS).chain(PAIRS).chain(VALUES);
-    let passes = passes.map(|&(name, text, calls, prints)| Case {
+    let passes = passes.chain(COMPARISONS).map(with_calls);
+    texts.chain(passes).collect()
+}
+
+/// Cases that end with a wrong line.
+fn wrong_lines() -> Vec<Case> {
+    WRONG_LINES.iter().map(with_calls).collect()
+}
+
+fn with_calls(&(name, text, calls, prints): &(&'static str, &str, &'static str, &str)) -> Case {
+    Case {
         name,
         text: text.as_bytes().to_vec(),
         calls,
         prints: prints.to_string(),
-    });
-    texts.chain(passes).collect()
+    }
 }
 
 /// A text, and what its load prints; behind a load stands what Write gives.
@@ -962,6 +973,430 @@ const VALUES: &[(&str, &str, &str, &str)] = &[
     ),
 ];
 
+/// How two intervals lie: a text, the calls behind its load, and what all of
+/// them print. Records 2v - 2 and 2v - 1 of the stamp table are those of v and
+/// -v. In the pallet case P2 1 is [1,6], 2 [2,5], 3 [3,4], -3 [7,12], -2 [8,11],
+/// -1 [9,10], 4 [13,14], -4 [15,16]; other intervals are those that `set` gives.
+const COMPARISONS: &[(&str, &str, &str, &str)] = &[
+    (
+        "P2-same",
+        "p cnf 4 3\n-1 2 0\n-2 3 0\n1 3 4 0\n",
+        "stamp 1 -1 2 -2 3 -3 4 -4\ncompare 1 1\ncompare 2 2\ncompare 3 3\ncompare -3 -3\ncompare -2 -2\ncompare -1 -1\ncompare 4 4\ncompare -4 -4\n",
+        "loaded 4 3 0\nstamped\nsame\nsame\nsame\nsame\nsame\nsame\nsame\nsame\n",
+    ),
+    (
+        "P2-holds",
+        "p cnf 4 3\n-1 2 0\n-2 3 0\n1 3 4 0\n",
+        "stamp 1 -1 2 -2 3 -3 4 -4\ncompare 1 2\ncompare 1 3\ncompare 2 3\ncompare -3 -2\ncompare -3 -1\ncompare -2 -1\n",
+        "loaded 4 3 0\nstamped\nholds\nholds\nholds\nholds\nholds\nholds\n",
+    ),
+    (
+        "P2-held",
+        "p cnf 4 3\n-1 2 0\n-2 3 0\n1 3 4 0\n",
+        "stamp 1 -1 2 -2 3 -3 4 -4\ncompare 2 1\ncompare 3 1\ncompare 3 2\ncompare -2 -3\ncompare -1 -3\ncompare -1 -2\n",
+        "loaded 4 3 0\nstamped\nheld\nheld\nheld\nheld\nheld\nheld\n",
+    ),
+    (
+        "P2-earlier",
+        "p cnf 4 3\n-1 2 0\n-2 3 0\n1 3 4 0\n",
+        "stamp 1 -1 2 -2 3 -3 4 -4\ncompare 1 -3\ncompare 1 -2\ncompare 1 -1\ncompare 1 4\ncompare 1 -4\ncompare 2 -3\ncompare 2 -2\ncompare 2 -1\ncompare 2 4\ncompare 2 -4\ncompare 3 -3\ncompare 3 -2\ncompare 3 -1\ncompare 3 4\ncompare 3 -4\ncompare -3 4\ncompare -3 -4\ncompare -2 4\ncompare -2 -4\ncompare -1 4\ncompare -1 -4\ncompare 4 -4\n",
+        "loaded 4 3 0\nstamped\nearlier\nearlier\nearlier\nearlier\nearlier\nearlier\nearlier\nearlier\nearlier\nearlier\nearlier\nearlier\nearlier\nearlier\nearlier\nearlier\nearlier\nearlier\nearlier\nearlier\nearlier\nearlier\n",
+    ),
+    (
+        "P2-later",
+        "p cnf 4 3\n-1 2 0\n-2 3 0\n1 3 4 0\n",
+        "stamp 1 -1 2 -2 3 -3 4 -4\ncompare -3 1\ncompare -2 1\ncompare -1 1\ncompare 4 1\ncompare -4 1\ncompare -3 2\ncompare -2 2\ncompare -1 2\ncompare 4 2\ncompare -4 2\ncompare -3 3\ncompare -2 3\ncompare -1 3\ncompare 4 3\ncompare -4 3\ncompare 4 -3\ncompare -4 -3\ncompare 4 -2\ncompare -4 -2\ncompare 4 -1\ncompare -4 -1\ncompare -4 4\n",
+        "loaded 4 3 0\nstamped\nlater\nlater\nlater\nlater\nlater\nlater\nlater\nlater\nlater\nlater\nlater\nlater\nlater\nlater\nlater\nlater\nlater\nlater\nlater\nlater\nlater\nlater\n",
+    ),
+    // 1 fails: it holds both literals of 2, and its complement
+    (
+        "P6-compared",
+        "p cnf 2 2\n-1 2 0\n-1 -2 0\n",
+        "stamp 1 -1 2 -2\ncompare 1 1\ncompare 1 -1\ncompare 1 2\ncompare 1 -2\ncompare -1 1\ncompare -1 -1\ncompare -1 2\ncompare -1 -2\ncompare 2 1\ncompare 2 -1\ncompare 2 2\ncompare 2 -2\ncompare -2 1\ncompare -2 -1\ncompare -2 2\ncompare -2 -2\n",
+        "loaded 2 2 0\nstamped\nsame\nholds\nholds\nholds\nheld\nsame\nheld\nearlier\nheld\nholds\nsame\nearlier\nheld\nlater\nlater\nsame\n",
+    ),
+    // all records are 0 as long as nothing has written them
+    (
+        "compare-before-any-stamp",
+        "p cnf 4 3\n-1 2 0\n-2 3 0\n1 3 4 0\n",
+        "compare 1 1\ncompare 1 -1\ncompare -1 1\ncompare 1 2\ncompare -4 3\ncompare 4 -4\n",
+        "loaded 4 3 0\nsame\nsame\nsame\nsame\nsame\nsame\n",
+    ),
+    // the records stay when stamps are spent
+    (
+        "stamps-spent-by-merge",
+        "p cnf 4 3\n-1 2 0\n-2 3 0\n1 3 4 0\n",
+        "stamp 1 -1 2 -2 3 -3 4 -4\nmerge 65535\nstate\ncompare 4 4\ncompare 1 3\ncompare 3 1\ncompare 1 -1\ncompare -1 1\n",
+        "loaded 4 3 0\nstamped\ndone 3 0 0\nstate 4 3 0 0 0 0 0\nsame\nholds\nheld\nearlier\nlater\n",
+    ),
+    (
+        "stamps-spent-by-propagate",
+        "p cnf 4 3\n-1 2 0\n-2 3 0\n1 3 4 0\n",
+        "stamp 1 -1 2 -2 3 -3 4 -4\npropagate 65535\nstate\ncompare 4 4\ncompare 1 3\ncompare 3 1\ncompare 1 -1\ncompare -1 1\n",
+        "loaded 4 3 0\nstamped\ndone 3 0 0\nstate 4 3 0 0 0 0 0\nsame\nholds\nheld\nearlier\nlater\n",
+    ),
+    (
+        "stamps-spent-by-sweep",
+        "p cnf 4 3\n-1 2 0\n-2 3 0\n1 3 4 0\n",
+        "stamp 1 -1 2 -2 3 -3 4 -4\nsweep 65535\nstate\ncompare 4 4\ncompare 1 3\ncompare 3 1\ncompare 1 -1\ncompare -1 1\n",
+        "loaded 4 3 0\nstamped\ndone 3 0 1\nstate 4 3 0 0 0 0 0\nsame\nholds\nheld\nearlier\nlater\n",
+    ),
+    (
+        "stamps-spent-by-run",
+        "p cnf 4 3\n-1 2 0\n-2 3 0\n1 3 4 0\n",
+        "run 1\nstate\ncompare 4 4\ncompare 1 3\ncompare 3 1\ncompare 1 -1\ncompare -1 1\n",
+        "loaded 4 3 0\nran 1\nstate 4 3 0 0 0 0 0\nsame\nholds\nheld\nearlier\nlater\n",
+    ),
+    (
+        "stamps-spent-by-load",
+        "p cnf 4 3\n-1 2 0\n-2 3 0\n1 3 4 0\n",
+        "stamp 1 -1 2 -2 3 -3 4 -4\nload 10\np cnf 4 0\n\nstate\ncompare 4 4\ncompare 1 3\ncompare 3 1\ncompare 1 -1\ncompare -1 1\n",
+        "loaded 4 3 0\nstamped\nloaded 4 0 0\nstate 4 0 0 0 0 0 0\nsame\nholds\nheld\nearlier\nlater\n",
+    ),
+    (
+        "compare-under-the-mark",
+        "p cnf 4 3\n-1 2 0\n-2 3 0\n1 3 4 0\n",
+        "stamp 1 -1 2 -2 3 -3 4 -4\nset state 6 1\ncompare 4 4\ncompare 1 3\ncompare 3 1\ncompare 1 -1\ncompare -1 1\nset state 5 0\ncompare 4 4\ncompare 1 3\ncompare 3 1\ncompare 1 -1\ncompare -1 1\n",
+        "loaded 4 3 0\nstamped\nsame\nholds\nheld\nearlier\nlater\nsame\nholds\nheld\nearlier\nlater\n",
+    ),
+    // a refused load leaves V, and a refused Stamp the records
+    (
+        "compare-behind-refusals",
+        "p cnf 4 3\n-1 2 0\n-2 3 0\n1 3 4 0\n",
+        "stamp 1 -1 2 -2 3 -3 4 -4\nload 1\nx\nstamp -1 1\nstamp -4 4 -3 3 -2 2 -1 -1\ncompare 4 4\ncompare 1 3\ncompare 3 1\ncompare 1 -1\ncompare -1 1\n",
+        "loaded 4 3 0\nstamped\nrefused 2 0\nrefused 8 0\nrefused 8 7\nsame\nholds\nheld\nearlier\nlater\n",
+    ),
+    // -4 is [1,2], 4 [3,4], -3 [5,10], -2 [6,9], -1 [7,8], 1 [11,16]
+    (
+        "compare-under-a-second-stamp",
+        "p cnf 4 3\n-1 2 0\n-2 3 0\n1 3 4 0\n",
+        "stamp 1 -1 2 -2 3 -3 4 -4\ncompare 1 -1\nstamp -4 4 -3 3 -2 2 -1 1\ncompare 1 -1\ncompare -1 1\ncompare -3 -1\ncompare 3 1\ncompare 4 -4\n",
+        "loaded 4 3 0\nstamped\nearlier\nstamped\nlater\nearlier\nholds\nheld\nlater\n",
+    ),
+    // 2 becomes 1; each of the four literals has an interval of its own
+    (
+        "compare-takes-no-class",
+        "p cnf 2 2\n-1 2 0\n-2 1 0\n",
+        "merge 65535\nstamp 1 -1 2 -2\ncompare 1 2\ncompare 2 1\ncompare -1 -2\ncompare 2 2\n",
+        "loaded 2 2 0\ndone 2 2 4\nstamped\nearlier\nlater\nearlier\nsame\n",
+    ),
+    (
+        "equal-beginnings",
+        "p cnf 4 0\n",
+        "set stamps 0 0 2\nset stamps 0 1 9\nset stamps 2 0 2\nset stamps 2 1 5\ncompare 1 2\ncompare 2 1\n",
+        "loaded 4 0 0\nholds\nheld\n",
+    ),
+    (
+        "equal-ends",
+        "p cnf 4 0\n",
+        "set stamps 0 0 2\nset stamps 0 1 9\nset stamps 2 0 4\nset stamps 2 1 9\ncompare 1 2\ncompare 2 1\n",
+        "loaded 4 0 0\nholds\nheld\n",
+    ),
+    (
+        "equal-intervals",
+        "p cnf 4 0\n",
+        "set stamps 0 0 2\nset stamps 0 1 9\nset stamps 3 0 2\nset stamps 3 1 9\ncompare 1 -2\ncompare -2 1\n",
+        "loaded 4 0 0\nsame\nsame\n",
+    ),
+    (
+        "crossing-intervals",
+        "p cnf 4 0\n",
+        "set stamps 0 0 2\nset stamps 0 1 6\nset stamps 2 0 4\nset stamps 2 1 9\ncompare 1 2\ncompare 2 1\n",
+        "loaded 4 0 0\nearlier\nlater\n",
+    ),
+    (
+        "one-ends-where-the-other-begins",
+        "p cnf 4 0\n",
+        "set stamps 0 0 2\nset stamps 0 1 4\nset stamps 2 0 4\nset stamps 2 1 9\nset stamps 4 0 4\nset stamps 4 1 4\ncompare 1 2\ncompare 2 1\ncompare 3 1\ncompare 1 3\ncompare 3 2\ncompare 2 3\ncompare 3 3\n",
+        "loaded 4 0 0\nearlier\nlater\nheld\nholds\nheld\nholds\nsame\n",
+    ),
+    // 1 and -3 are [5,2], -1 [3,4], 2 [6,1], -2 [6,3], 3 [4,1]
+    (
+        "end-before-the-beginning",
+        "p cnf 4 0\n",
+        "set stamps 0 0 5\nset stamps 0 1 2\nset stamps 1 0 3\nset stamps 1 1 4\nset stamps 2 0 6\nset stamps 2 1 1\nset stamps 3 0 6\nset stamps 3 1 3\nset stamps 4 0 4\nset stamps 4 1 1\nset stamps 5 0 5\nset stamps 5 1 2\ncompare 1 1\ncompare 1 -3\ncompare 1 -1\ncompare -1 1\ncompare 1 2\ncompare 2 1\ncompare 1 -2\ncompare -2 1\ncompare 1 3\ncompare 3 1\ncompare 2 -1\ncompare -1 2\n",
+        "loaded 4 0 0\nsame\nsame\nheld\nholds\nholds\nheld\nearlier\nlater\nlater\nearlier\nheld\nholds\n",
+    ),
+    // with m = 4294967295: 1 and 3 are [0,m], -1 [0,0], 2 [m,m], -2 [m,0], -3 [0,m-1], 4 [1,m]
+    (
+        "times-0-and-4294967295",
+        "p cnf 4 0\n",
+        "set stamps 0 0 0\nset stamps 0 1 4294967295\nset stamps 1 0 0\nset stamps 1 1 0\nset stamps 2 0 4294967295\nset stamps 2 1 4294967295\nset stamps 3 0 4294967295\nset stamps 3 1 0\nset stamps 4 0 0\nset stamps 4 1 4294967295\nset stamps 5 0 0\nset stamps 5 1 4294967294\nset stamps 6 0 1\nset stamps 6 1 4294967295\ncompare 1 3\ncompare 1 -1\ncompare -1 1\ncompare 1 2\ncompare 2 1\ncompare 1 -2\ncompare -2 1\ncompare -1 2\ncompare 2 -1\ncompare -1 -2\ncompare -2 -1\ncompare 2 -2\ncompare -2 2\ncompare 1 -3\ncompare -3 1\ncompare 1 4\ncompare 4 1\ncompare -3 4\ncompare 4 -3\n",
+        "loaded 4 0 0\nsame\nholds\nheld\nholds\nheld\nholds\nheld\nearlier\nlater\nholds\nheld\nholds\nheld\nholds\nheld\nholds\nheld\nearlier\nlater\n",
+    ),
+    // times are compared without a sign
+    (
+        "times-above-2147483647",
+        "p cnf 4 0\n",
+        "set stamps 0 0 2147483647\nset stamps 0 1 2147483647\nset stamps 2 0 2147483648\nset stamps 2 1 2147483648\nset stamps 4 0 2147483647\nset stamps 4 1 2147483648\ncompare 1 2\ncompare 2 1\ncompare 3 1\ncompare 3 2\ncompare 1 3\ncompare 2 3\n",
+        "loaded 4 0 0\nearlier\nlater\nholds\nholds\nheld\nheld\n",
+    ),
+    (
+        "parents-and-starts-not-compared",
+        "p cnf 4 3\n-1 2 0\n-2 3 0\n1 3 4 0\n",
+        "stamp 1 -1 2 -2 3 -3 4 -4\nset stamps 4 2 3\nset stamps 4 3 -4\nset stamps 0 2 3\nset stamps 0 3 -2147483648\ncompare 4 4\ncompare 1 3\ncompare 3 1\ncompare 1 -1\ncompare -1 1\n",
+        "loaded 4 3 0\nstamped\nsame\nholds\nheld\nearlier\nlater\n",
+    ),
+    (
+        "records-in-order",
+        "p cnf 3 0\n",
+        "set stamps 0 0 1\nset stamps 0 1 1\nset stamps 1 0 2\nset stamps 1 1 2\nset stamps 2 0 3\nset stamps 2 1 3\nset stamps 3 0 4\nset stamps 3 1 4\nset stamps 4 0 5\nset stamps 4 1 5\nset stamps 5 0 6\nset stamps 5 1 6\ncompare 1 -1\ncompare -1 2\ncompare 2 -2\ncompare -2 3\ncompare 3 -3\ncompare -3 3\ncompare 3 -2\ncompare -2 2\ncompare 2 -1\ncompare -1 1\n",
+        "loaded 3 0 0\nearlier\nearlier\nearlier\nearlier\nearlier\nlater\nlater\nlater\nlater\nlater\n",
+    ),
+    (
+        "compare-up-to-a-V-set-by-hand",
+        "p cnf 4 3\n-1 2 0\n-2 3 0\n1 3 4 0\n",
+        "stamp 1 -1 2 -2 3 -3 4 -4\nset state 0 5\nset stamps 8 0 14\nset stamps 8 1 15\nset stamps 9 0 1\nset stamps 9 1 16\ncompare 5 4\ncompare -5 5\ncompare 4 -5\nset state 0 1\ncompare 1 -1\ncompare -1 1\nset state 0 4\n",
+        "loaded 4 3 0\nstamped\nlater\nholds\nheld\nearlier\nlater\n",
+    ),
+    (
+        "compare-with-V-above-1024",
+        "p cnf 2 0\n",
+        "set state 0 1025\nset stamps 2046 0 1\nset stamps 2046 1 6\nset stamps 2047 0 2\nset stamps 2047 1 5\ncompare 1024 -1024\ncompare -1024 1024\nset state 0 4294967295\ncompare 1024 -1024\ncompare -1024 1024\ncompare 1024 1024\ncompare -1024 -1024\ncompare 1023 -1023\nset state 0 2\n",
+        "loaded 2 0 0\nholds\nheld\nholds\nheld\nsame\nsame\nsame\n",
+    ),
+    (
+        "compare-with-stamps-lent-short",
+        "p cnf 4 3\n-1 2 0\n-2 3 0\n1 3 4 0\n",
+        "stamp 1 -1 2 -2 3 -3 4 -4\nlend stamps 0\nfailed\ncompare 4 4\ncompare 1 3\ncompare 3 1\ncompare 1 -1\ncompare -1 1\nlend stamps 7\ncompare -4 4\ncompare 4 -4\nlend stamps 8\ncompare -4 4\nlend stamps 2047\ncompare -4 4\nlend stamps 2048\nfailed\n",
+        "loaded 4 3 0\nstamped\nrefused 1 0\nsame\nholds\nheld\nearlier\nlater\nlater\nearlier\nlater\nlater\nfailed 0\n",
+    ),
+    (
+        "compare-with-other-tables-lent-short",
+        "p cnf 4 3\n-1 2 0\n-2 3 0\n1 3 4 0\n",
+        "stamp 1 -1 2 -2 3 -3 4 -4\nlend clauses 0\nlend literals 0\nlend variables 0\nfailed\ncompare 4 4\ncompare 1 3\ncompare 3 1\ncompare 1 -1\ncompare -1 1\nlend clauses 4096\nlend literals 16384\nlend variables 1024\n",
+        "loaded 4 3 0\nstamped\nrefused 1 0\nsame\nholds\nheld\nearlier\nlater\n",
+    ),
+    // no shape is asked for
+    (
+        "compare-with-wrong-tables",
+        "p cnf 4 3\n-1 2 0\n-2 3 0\n1 3 4 0\n",
+        "stamp 1 -1 2 -2 3 -3 4 -4\nset clauses 0 0 4294967295\nset literals 0 0 0\nset variables 0 0 -2147483648\nset state 1 4294967295\nfailed\ncompare 4 4\ncompare 1 3\ncompare 3 1\ncompare 1 -1\ncompare -1 1\nset state 1 3\n",
+        "loaded 4 3 0\nstamped\nrefused 1 0\nsame\nholds\nheld\nearlier\nlater\n",
+    ),
+    (
+        "open-pass-left-alone",
+        "p cnf 4 3\n-1 2 0\n-2 3 0\n1 3 4 0\n",
+        "stamp 1 -1 2 -2 3 -3 4 -4\nset state 2 1\nset state 3 2\nset state 4 1\nstate\ncompare 1 2\nstate\n",
+        "loaded 4 3 0\nstamped\nstate 4 3 1 2 1 1 0\nholds\nstate 4 3 1 2 1 1 0\n",
+    ),
+    // of an open Merge a call returns no change flag
+    (
+        "change-flag-left-alone",
+        "p cnf 4 3\n-1 2 0\n-2 3 0\n1 3 4 0\n",
+        "stamp 1 -1 2 -2 3 -3 4 -4\nset state 2 2\nset state 3 1\nset state 4 1\ncompare 2 1\nstate\nwrite 0\nstate\n",
+        "loaded 4 3 0\nstamped\nheld\nstate 4 3 2 1 1 1 0\nrefused 10 32\nstate 4 3 2 1 0 1 0\n",
+    ),
+    // where no pass is open a call returns neither cursor nor change flag
+    (
+        "cursor-left-alone",
+        "p cnf 4 3\n-1 2 0\n-2 3 0\n1 3 4 0\n",
+        "stamp 1 -1 2 -2 3 -3 4 -4\nset state 3 4294967295\nset state 4 1\ncompare 1 -1\nstate\nwrite 0\nstate\n",
+        "loaded 4 3 0\nstamped\nearlier\nstate 4 3 0 4294967295 1 1 0\nrefused 10 32\nstate 4 3 0 0 0 1 0\n",
+    ),
+    (
+        "compare-in-an-open-sweep",
+        "p cnf 4 3\n-1 2 0\n-2 3 0\n1 3 4 0\n",
+        "stamp 1 -1 2 -2 3 -3 4 -4\nsweep 2\ncompare 1 3\nstate\nsweep 65535\ncompare 1 3\n",
+        "loaded 4 3 0\nstamped\nopen 2 0 0\nholds\nstate 4 3 3 2 0 1 0\ndone 1 0 1\nholds\n",
+    ),
+    (
+        "compare-in-an-open-merge",
+        "p cnf 4 3\n-1 2 0\n-2 3 0\n1 3 4 0\n",
+        "stamp 1 -1 2 -2 3 -3 4 -4\nmerge 0\ncompare 3 2\nstate\nmerge 65535\ncompare 3 2\n",
+        "loaded 4 3 0\nstamped\nopen 0 0 0\nheld\nstate 4 3 2 0 0 0 0\ndone 3 0 0\nheld\n",
+    ),
+    (
+        "compare-in-an-open-propagate",
+        "p cnf 4 3\n-1 2 0\n-2 3 0\n1 3 4 0\n",
+        "stamp 1 -1 2 -2 3 -3 4 -4\npropagate 1\ncompare -4 4\nstate\npropagate 65535\ncompare -4 4\n",
+        "loaded 4 3 0\nstamped\nopen 1 0 0\nlater\nstate 4 3 1 1 0 0 0\ndone 2 0 0\nlater\n",
+    ),
+];
+
+/// Lines of `compare` that are none: a text, the calls behind its load, and what
+/// all of them print. The wrong line is the last that is read.
+const WRONG_LINES: &[(&str, &str, &str, &str)] = &[
+    (
+        "compare-0-first",
+        "p cnf 4 3\n-1 2 0\n-2 3 0\n1 3 4 0\n",
+        "compare 0 1\nstate\n",
+        "loaded 4 3 0\nerror 2\n",
+    ),
+    (
+        "compare-0-second",
+        "p cnf 4 3\n-1 2 0\n-2 3 0\n1 3 4 0\n",
+        "compare 1 0\nstate\n",
+        "loaded 4 3 0\nerror 2\n",
+    ),
+    (
+        "compare-above-V-first",
+        "p cnf 4 3\n-1 2 0\n-2 3 0\n1 3 4 0\n",
+        "compare 5 1\nstate\n",
+        "loaded 4 3 0\nerror 2\n",
+    ),
+    (
+        "compare-above-V-second",
+        "p cnf 4 3\n-1 2 0\n-2 3 0\n1 3 4 0\n",
+        "compare 1 5\nstate\n",
+        "loaded 4 3 0\nerror 2\n",
+    ),
+    (
+        "compare-below-minus-V-first",
+        "p cnf 4 3\n-1 2 0\n-2 3 0\n1 3 4 0\n",
+        "compare -5 1\nstate\n",
+        "loaded 4 3 0\nerror 2\n",
+    ),
+    (
+        "compare-below-minus-V-second",
+        "p cnf 4 3\n-1 2 0\n-2 3 0\n1 3 4 0\n",
+        "compare 1 -5\nstate\n",
+        "loaded 4 3 0\nerror 2\n",
+    ),
+    (
+        "compare-V-0",
+        "p cnf 0 0\n",
+        "compare 1 1\nstate\n",
+        "loaded 0 0 0\nerror 2\n",
+    ),
+    (
+        "compare-0-with-V-0",
+        "p cnf 0 0\n",
+        "compare 0 0\nstate\n",
+        "loaded 0 0 0\nerror 2\n",
+    ),
+    (
+        "compare-V-0-by-hand",
+        "p cnf 4 3\n-1 2 0\n-2 3 0\n1 3 4 0\n",
+        "stamp 1 -1 2 -2 3 -3 4 -4\nset state 0 0\ncompare 1 1\nstate\n",
+        "loaded 4 3 0\nstamped\nerror 4\n",
+    ),
+    // the record of 4 is there, but V is 3
+    (
+        "compare-above-V-by-hand",
+        "p cnf 4 3\n-1 2 0\n-2 3 0\n1 3 4 0\n",
+        "stamp 1 -1 2 -2 3 -3 4 -4\nset state 0 3\ncompare 4 1\nstate\n",
+        "loaded 4 3 0\nstamped\nerror 4\n",
+    ),
+    (
+        "compare-1025",
+        "p cnf 4 3\n-1 2 0\n-2 3 0\n1 3 4 0\n",
+        "set state 0 1025\ncompare 1025 1\nstate\n",
+        "loaded 4 3 0\nerror 3\n",
+    ),
+    (
+        "compare-minus-1025",
+        "p cnf 4 3\n-1 2 0\n-2 3 0\n1 3 4 0\n",
+        "set state 0 1025\ncompare 1 -1025\nstate\n",
+        "loaded 4 3 0\nerror 3\n",
+    ),
+    (
+        "compare-1025-with-the-largest-V",
+        "p cnf 4 3\n-1 2 0\n-2 3 0\n1 3 4 0\n",
+        "set state 0 4294967295\ncompare 1 1025\nstate\n",
+        "loaded 4 3 0\nerror 3\n",
+    ),
+    (
+        "compare-smallest-number",
+        "p cnf 4 3\n-1 2 0\n-2 3 0\n1 3 4 0\n",
+        "compare -2147483648 1\nstate\n",
+        "loaded 4 3 0\nerror 2\n",
+    ),
+    (
+        "compare-smallest-number-with-the-largest-V",
+        "p cnf 4 3\n-1 2 0\n-2 3 0\n1 3 4 0\n",
+        "set state 0 4294967295\ncompare 1 -2147483648\nstate\n",
+        "loaded 4 3 0\nerror 3\n",
+    ),
+    // 1 by its last 32 bits
+    (
+        "compare-2-to-the-32-and-1",
+        "p cnf 4 3\n-1 2 0\n-2 3 0\n1 3 4 0\n",
+        "compare 4294967297 1\nstate\n",
+        "loaded 4 3 0\nerror 2\n",
+    ),
+    // 1 by its last 64 bits
+    (
+        "compare-2-to-the-64-and-1",
+        "p cnf 4 3\n-1 2 0\n-2 3 0\n1 3 4 0\n",
+        "compare 1 18446744073709551617\nstate\n",
+        "loaded 4 3 0\nerror 2\n",
+    ),
+    (
+        "compare-no-literal",
+        "p cnf 4 3\n-1 2 0\n-2 3 0\n1 3 4 0\n",
+        "compare\nstate\n",
+        "loaded 4 3 0\nerror 2\n",
+    ),
+    (
+        "compare-one-literal",
+        "p cnf 4 3\n-1 2 0\n-2 3 0\n1 3 4 0\n",
+        "compare 1\nstate\n",
+        "loaded 4 3 0\nerror 2\n",
+    ),
+    (
+        "compare-three-literals",
+        "p cnf 4 3\n-1 2 0\n-2 3 0\n1 3 4 0\n",
+        "compare 1 2 3\nstate\n",
+        "loaded 4 3 0\nerror 2\n",
+    ),
+    (
+        "compare-leading-zero",
+        "p cnf 4 3\n-1 2 0\n-2 3 0\n1 3 4 0\n",
+        "compare 01 1\nstate\n",
+        "loaded 4 3 0\nerror 2\n",
+    ),
+    (
+        "compare-minus-leading-zero",
+        "p cnf 4 3\n-1 2 0\n-2 3 0\n1 3 4 0\n",
+        "compare 1 -01\nstate\n",
+        "loaded 4 3 0\nerror 2\n",
+    ),
+    (
+        "compare-minus-nought",
+        "p cnf 4 3\n-1 2 0\n-2 3 0\n1 3 4 0\n",
+        "compare -0 1\nstate\n",
+        "loaded 4 3 0\nerror 2\n",
+    ),
+    (
+        "compare-plus",
+        "p cnf 4 3\n-1 2 0\n-2 3 0\n1 3 4 0\n",
+        "compare +1 1\nstate\n",
+        "loaded 4 3 0\nerror 2\n",
+    ),
+    (
+        "compare-letter",
+        "p cnf 4 3\n-1 2 0\n-2 3 0\n1 3 4 0\n",
+        "compare 1 x\nstate\n",
+        "loaded 4 3 0\nerror 2\n",
+    ),
+    (
+        "compare-two-spaces",
+        "p cnf 4 3\n-1 2 0\n-2 3 0\n1 3 4 0\n",
+        "compare 1  2\nstate\n",
+        "loaded 4 3 0\nerror 2\n",
+    ),
+    (
+        "compare-space-at-end",
+        "p cnf 4 3\n-1 2 0\n-2 3 0\n1 3 4 0\n",
+        "compare 1 2 \nstate\n",
+        "loaded 4 3 0\nerror 2\n",
+    ),
+    (
+        "compare-behind-good-lines",
+        "p cnf 4 3\n-1 2 0\n-2 3 0\n1 3 4 0\n",
+        "stamp 1 -1 2 -2 3 -3 4 -4\ncompare 2 3\ncompare 3 2\ncompare 2 5\nstate\n",
+        "loaded 4 3 0\nstamped\nholds\nheld\nerror 5\n",
+    ),
+    // the input ends inside the line
+    (
+        "compare-no-LF",
+        "p cnf 4 3\n-1 2 0\n-2 3 0\n1 3 4 0\n",
+        "compare 1 2",
+        "loaded 4 3 0\nerror 2\n",
+    ),
+];
+
 /// Cases at the limits and on all 1,024 variables. A text that Write gives is
 /// looked at by its length alone, which the refusal of an output of 0 bytes tells.
 fn large() -> Vec<Case> {
@@ -1065,6 +1500,20 @@ fn large() -> Vec<Case> {
                 "loaded 1024 1025 0\ndone 1025 1024 2049\ndone 2050 1 1\n{}refused 10 18272\n",
                 "1 1\n-1 -1\n".repeat(512)
             ),
+        ),
+        // Run stamps in the order 1, -1, 2, -2, ..: v is [v, 2049 - v] and -v [3073 - v, 3072 + v]
+        case(
+            "compare-along-the-chain",
+            chain(1_023, ""),
+            "run 1\ncompare 1 1024\ncompare 1024 1\ncompare 1023 1024\ncompare -1024 -1\ncompare -1 -1024\ncompare 1024 -1024\ncompare -1024 1024\ncompare 1 -1\ncompare -1 1\ncompare 1024 1024\ncompare -1024 -1024\n",
+            "loaded 1024 1023 0\nran 1\nholds\nheld\nholds\nholds\nheld\nearlier\nlater\nearlier\nlater\nsame\nsame\n",
+        ),
+        // the last two records
+        case(
+            "compare-1024-and-its-complement",
+            b"p cnf 1024 0\n".to_vec(),
+            "set stamps 2046 0 3\nset stamps 2046 1 4\nset stamps 2047 0 5\nset stamps 2047 1 6\ncompare 1024 -1024\ncompare -1024 1024\nset stamps 2047 0 2\ncompare 1024 -1024\ncompare -1024 1024\ncompare 1024 1024\ncompare -1024 -1024\n",
+            "loaded 1024 0 0\nearlier\nlater\nheld\nholds\nsame\nsame\n",
         ),
         // as many variables, clauses and literals as there may be: the ring makes all variables equal, so that Merge leaves units and drops the rest
         case(

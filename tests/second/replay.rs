@@ -1,5 +1,6 @@
 //! Replays a list of calls on one set of tables and prints every answer.
 
+use crate::comparison::compare;
 use crate::failed::failed;
 use crate::load::load;
 use crate::merge::merge;
@@ -125,6 +126,7 @@ impl Replay {
                     Err(refusal) => self.print_refusal(refusal),
                 }
             }
+            ["compare", first, second] => self.compare(first, second)?,
             ["state"] => self.print_state(),
             ["clauses"] => self.print_clauses(),
             ["literals"] => self.print_literals(),
@@ -178,6 +180,26 @@ impl Replay {
             Err(refusal) => self.print_refusal(refusal),
         }
         Ok(())
+    }
+
+    /// Looks at the whole table, whatever is lent, and is never refused. It takes
+    /// no state, so pass, cursor and change flag stay as they are.
+    fn compare(&mut self, first: &str, second: &str) -> Result<(), WrongLine> {
+        let first = self.literal(first)?;
+        let second = self.literal(second)?;
+        let formula = &self.formula;
+        let answer = compare(formula.interval(first), formula.interval(second));
+        self.print(answer.word().to_string());
+        Ok(())
+    }
+
+    /// A literal of the variables 1 to V that have records.
+    fn literal(&self, word: &str) -> Result<i32, WrongLine> {
+        let last = self.formula.v().min(MOST_VARIABLES) as i64;
+        match number(word, -last, last)? {
+            0 => Err(WrongLine),
+            literal => Ok(literal as i32),
+        }
     }
 
     fn lend(&mut self, table: &str, count: &str) -> Result<(), WrongLine> {

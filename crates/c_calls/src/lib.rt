@@ -1,4 +1,4 @@
-// The calls for C. Each function reads the state from its numbers (crate c_numbers), makes the call of the same name, and puts the state and the answer into theirs.
+// The calls for C. Each function reads the state from its numbers (crate c_numbers), makes the call of the same name, and puts the state and the answer into theirs; the last two have no state.
 ghost use mathlib.Core.Path.{_≡_};
 ghost use Rattle.tables.specs.Lent.{lent, returned};
 ghost use Rattle.load.specs.Load.{loadCall};
@@ -8,6 +8,7 @@ ghost use Rattle.stamp.specs.Stamp.{stampCall};
 ghost use Rattle.failed.specs.Failed.{failedCall};
 ghost use Rattle.sweep.specs.Sweep.{sweepCall};
 ghost use Rattle.run.specs.Run.{runCall};
+ghost use Rattle.compare.specs.Compare.{compareCall, comparisonResult};
 ghost use Rattle.simplify.specs.Texts.{simplifyText, resultOf};
 ghost use Rattle.c_numbers.specs.CCalls.{afterC, callC, afterWriteC, writeC};
 
@@ -194,6 +195,16 @@ pub extern "C" fn unhide_write(
     let st = c_numbers::state_at(state);
     let a = write::write(clauses, literals, variables, times, links, st, out);
     c_numbers::put_answer(answer, a)
+}
+
+// How the intervals of two literals of so many variables lie, by the times as they stand. The viewer asks between any two calls: no state is read, and nothing changes.
+#[no_mangle]
+pub extern "C" fn unhide_compare(times: &[u32], variables: u32, p: i32, q: i32) -> i64
+    ensures { λ r. ⌜ r ≡ comparisonResult (compareCall (now (times .entry)) variables p q) ⌝ }
+    ensures { λ _. ⌜ now (times .exit) ≡ now (times .entry) ⌝ }
+{
+    let comparison = compare::compare(times, variables, p, q);
+    compare::result(comparison)
 }
 
 // Load, run and write in one call, on tables of its own: text, round count and output; the length written or the refusal's number, negative.

@@ -3,23 +3,13 @@ use Prim.Native.Nat.{ℕ, suc, _+_, _≤_, _<_}
 use native.Mathlib.Numerals.{add-one}
 use native.Mathlib.Omega.{arith}
 use mathlib.Core.Path.{_≡_, sym, ap, _∙_}
-use mathlib.Core.Bool.{true, false}
 use mathlib.Core.List.{List, _∷_, _++_, append-nil, map}
 use lib.ListN.{length, take, drop, getD, set, length-set, drop-of-length-le}
 use lib.Seq.{drop-cons, take-suc-set, append-snoc, take-all}
-use lib.Dec.{ltb}
 use lib.IntN.{ℤ, negℤ, natAbs}
-use borrow.Author.Tests.{lt-ltb, le-ltb}
 use Rattle.literal.specs.Literals.{Literal, slotOf, Small}
 use Rattle.literal.proofs.Signed.{abs-neg, small-neg}
 use Rattle.literal.proofs.Laws.{slot-below}
-
--- what a test of two numbers says
-pub shown-lt : {a b d e : ℕ} → d ≡ a → e ≡ b → d < e → ltb a b ≡ true
-shown-lt {a} {b} p q h = lt-ltb a b (omega arith)
-
-pub shown-le : {a b d e : ℕ} → d ≡ a → e ≡ b → e ≤ d → ltb a b ≡ false
-shown-le {a} {b} p q h = le-ltb a b (omega arith)
 
 -- ---- a function of each element, put into another table
 

@@ -1,17 +1,17 @@
 -- Intervals of slots below a number: what the shape rule says of fresh stamps, and how two of them lie. Assumes nothing.
 use Prim.Native.Nat.{ℕ, _≤_, _<_}
 use native.Mathlib.Omega.{arith}
-use mathlib.Core.Path.{_≡_, sym, ap, _∙_}
-use mathlib.Core.Bool.{Bool, true, false, _&&_}
+use mathlib.Core.Path.{_≡_, refl, sym, ap, _∙_}
+use mathlib.Core.Bool.{true}
 use mathlib.Core.Logic.{_⊎_, inl, inr, ⊎-elim}
 use mathlib.Core.List.{List, List·Memᴰ}
-use lib.Dec.{leb}
-use borrow.Author.Tests.{leb-true, le-leb, lt-leb}
 use Rattle.base.specs.Decide.{same-or}
-use Rattle.base.proofs.Booleans.{and-left, and-right, and-both}
 use Rattle.literal.specs.Literals.{twin}
+use Rattle.intervals.specs.Intervals.{encloses}
+use Rattle.intervals.proofs.Comparing.{encloses-true, true-encloses}
 use Rattle.walk.specs.Walk.{Stamps}
 use Rattle.walk.specs.Forest.{discoveryAt, finishAt, Holds, Parted}
+use Rattle.stamp_columns.specs.Intervals.{intervalAt}
 use Rattle.hidden.specs.Hidden.{holds}
 
 -- the slots below size have intervals: each spans some time, and two are nested or apart
@@ -29,24 +29,15 @@ Below size xs = (x : ℕ) → List·Memᴰ x xs → x < size
 
 -- ---- the test on intervals is the relation
 
+pub encloses-holds : (σ : Stamps) (a b : ℕ) → encloses (intervalAt σ a) (intervalAt σ b) ≡ holds σ a b
+unfolding encloses holds
+encloses-holds σ a b = refl
+
 pub holds-true : (σ : Stamps) (a b : ℕ) → holds σ a b ≡ true → Holds σ a b
-unfolding holds
-holds-true σ a b h = (leb-true (discoveryAt σ a) (discoveryAt σ b) (and-left _ _ h), leb-true (finishAt σ b) (finishAt σ a) (and-right (leb (discoveryAt σ a) (discoveryAt σ b)) _ h))
+holds-true σ a b h = encloses-true (intervalAt σ a) (intervalAt σ b) (encloses-holds σ a b ∙ h)
 
 pub true-holds : (σ : Stamps) (a b : ℕ) → Holds σ a b → holds σ a b ≡ true
-unfolding holds
-true-holds σ a b h = and-both _ _ (le-leb (discoveryAt σ a) (discoveryAt σ b) (h .0)) (le-leb (finishAt σ b) (finishAt σ a) (h .1))
-
--- ---- the test of two intervals, by the numbers that the code reads
-
-module _ (σ : Stamps) (a b : ℕ) {d e : ℕ} (p : d ≡ discoveryAt σ b) (q : e ≡ discoveryAt σ a) where
-  pub begins-later : d < e → false ≡ holds σ a b
-  unfolding holds
-  begins-later h = ap (λ (t : Bool). t && leb (finishAt σ b) (finishAt σ a)) (sym (lt-leb (discoveryAt σ a) (discoveryAt σ b) (omega arith)))
-
-  pub begins-first : e ≤ d → {f g : ℕ} → f ≡ finishAt σ b → g ≡ finishAt σ a → leb f g ≡ holds σ a b
-  unfolding holds
-  begins-first h {f} {g} i j = ap (λ (t : ℕ). leb t g) i ∙ ap (leb (finishAt σ b)) j ∙ ap (λ (t : Bool). t && leb (finishAt σ b) (finishAt σ a)) (sym (le-leb (discoveryAt σ a) (discoveryAt σ b) (omega arith)))
+true-holds σ a b h = sym (encloses-holds σ a b) ∙ true-encloses (intervalAt σ a) (intervalAt σ b) h
 
 -- ---- two intervals
 

@@ -1,5 +1,6 @@
 pub mod Cases
 pub mod Intervals
+pub mod Relations
 pub mod Sorted
 pub mod Scan
 pub mod Pairs

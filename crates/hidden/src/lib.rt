@@ -12,8 +12,5 @@ pub fn holds(times: &[u32], a: u32, b: u32) -> bool
     requires { ⌜ (2 * a + 1 < length (now times)) × (2 * b + 1 < length (now times)) ⌝ }
     ensures { λ r. ⌜ ((links : List ℤ) → r ≡ holds (columns (now (times .entry)) links) a b) ⌝ }
 {
-    if stamp_columns::discovery(times, b) < stamp_columns::discovery(times, a) {
-        return false;
-    }
-    stamp_columns::finish(times, b) <= stamp_columns::finish(times, a)
+    stamp_columns::compare(times, a, b).contains()
 }

@@ -3,40 +3,40 @@ use Prim.Native.Nat.{ℕ, zero, suc, _*_, _-_, _≤_, _<_}
 use native.Mathlib.Omega.{arith}
 use mathlib.Core.Path.{_≡_, sym, ap, subst, _∙_}
 use mathlib.Core.Bool.{Bool, true, false, not}
-use mathlib.Core.Logic.{inl, inr, ⊎-elim}
 use mathlib.Core.List.{List, [], _∷_, _++_, map, List·Memᴰ}
 use lib.ListN.{length, take, drop, getD, length-map, length-drop, replicate}
 use lib.Seq.{take-append-le}
-use lib.Dec.{ltb}
 use lib.IntN.{ℤ, pos, negℤ}
-use Rattle.base.specs.Decide.{same-or}
 use Rattle.base.specs.Lists.{filter}
 use Rattle.base.proofs.Lists.{mem-filter, getD-mem}
 use Rattle.literal.specs.Literals.{slotOf, twin}
 use Rattle.literal.proofs.Laws.{slot-below, slot-twin}
 use Rattle.literal.proofs.Twins.{twin-below}
 use Rattle.walk.specs.Walk.{Stamps}
-use Rattle.walk.specs.Forest.{discoveryAt, finishAt, Parted}
+use Rattle.walk.specs.Forest.{discoveryAt, finishAt}
+use Rattle.intervals.specs.Intervals.{compare}
+use Rattle.intervals.specs.Relations.{wider}
 use Rattle.stamp_columns.specs.Columns.{columns}
+use Rattle.stamp_columns.specs.Intervals.{intervalAt}
 use Rattle.hidden.specs.Hidden.{byDiscovery, shorten}
-use Rattle.hidden.proofs.Intervals.{Nested}
+use Rattle.hidden.proofs.Relations.{same-discovery}
 use Rattle.hidden.proofs.Sorted.{Rising, sorted-out, sorted-rising}
 use Rattle.stamp_columns.specs.Slots.{Slots}
 use Rattle.discovery_order.proofs.Sorting.{length-sorted}
 use Rattle.clause_slots.specs.Stamped.{StampedSlots, StampedClause}
 use Rattle.clause_slots.proofs.Clause.{clause-literals, clause-within, clause-lits}
 use Rattle.hidden_literals.specs.Sorted.{Sorted}
-use Rattle.hidden_literals.specs.Figures.{least, inner, outer, keptBy}
+use Rattle.hidden_literals.specs.Figures.{innermost, inner, outermost, keptBy}
 use Rattle.hidden_literals.proofs.Hiding.{heldByOne, outer-filter}
 use Rattle.hidden_literals.proofs.Shortening.{innerSlots, outerTwins, inner-mem, twins-below, kept-shortened}
 
 -- what the three calls have given
 pub twins-given : (times xs t₁ t₂ : List ℕ) {n : ℕ} → t₁ ≡ map twin xs → ((links : List ℤ) → t₂ ≡ byDiscovery (columns times links) t₁)
-    → (t₃ : List ℕ) → (n ≤ length t₂) × ((links : List ℤ) → take n t₃ ≡ outer (columns times links) 0 t₂)
-    → (n ≤ length xs) × (take n t₃ ≡ outer (columns times []) 0 (byDiscovery (columns times []) (map twin xs)))
+    → (t₃ : List ℕ) → (n ≤ length t₂) × ((links : List ℤ) → take n t₃ ≡ outermost (columns times links) t₂)
+    → (n ≤ length xs) × (take n t₃ ≡ outermost (columns times []) (byDiscovery (columns times []) (map twin xs)))
 twins-given times xs t₁ t₂ {n} e h t₃ r = (
   omega (arith, r .0, ap length (h []), length-sorted (columns times []) t₁, ap length e, length-map xs twin),
-  r .1 [] ∙ ap (outer (columns times []) 0) (h [] ∙ ap (byDiscovery (columns times [])) e),
+  r .1 [] ∙ ap (outermost (columns times [])) (h [] ∙ ap (byDiscovery (columns times [])) e),
 )
 
 -- ---- lists that rise
@@ -56,22 +56,12 @@ rising-at σ (x ∷ xs) r j zero lt h = absurd (omega arith)
 rising-at σ (x ∷ xs) r zero (suc k) lt h = r .0 (getD xs k 0) (getD-mem xs k 0 (omega arith))
 rising-at σ (x ∷ xs) r (suc j) (suc k) lt h = rising-at σ xs (r .1) j k (omega arith) (omega arith)
 
--- slots that are discovered together are one
-same-discovery : (size : ℕ) (σ : Stamps) → Nested size σ → (a b : ℕ) → a < size → b < size → discoveryAt σ a ≡ discoveryAt σ b → a ≡ b
-same-discovery size σ N a b la lb e = ⊎-elim (λ q. q) (λ d. absurd (go (N .parted a b la lb d))) (same-or a b)
-  where
-    go : Parted σ a b → ⊥
-    go (inl h) = omega (arith, h, e, N .spans a la)
-    go (inr (inl h)) = omega (arith, h, e, N .spans b lb)
-    go (inr (inr (inl h))) = omega (arith, h .0, e)
-    go (inr (inr (inr h))) = omega (arith, h .0, e)
-
 -- ---- a clause
 
 inner-shorter : (σ : Stamps) (xs : List ℕ) → length (inner σ xs) ≤ length xs
 unfolding inner
 inner-shorter σ [] = omega arith
-inner-shorter σ (x ∷ xs) = go (ltb (least σ xs) (finishAt σ x)) (inner-shorter σ xs)
+inner-shorter σ (x ∷ xs) = go (wider (compare (intervalAt σ x) (innermost σ xs))) (inner-shorter σ xs)
   where
     go : (b : Bool) → length (inner σ xs) ≤ length xs → length {A = ℕ} (elim b [ true ↦ inner σ xs | false ↦ x ∷ inner σ xs ]) ≤ suc (length xs)
     go true h = omega arith
@@ -81,7 +71,7 @@ module _ {times : List ℕ} {C : List ℤ} (K : StampedClause times C) where
   abbrev σ : Stamps
   σ = columns times []
 
-  clause-small : (q : ℕ) → q < 2 * K .vars → finishAt (columns times []) q ≤ 4294967295
+  clause-small : (q : ℕ) → q < 2 * K .vars → finishAt (columns times []) q < 4294967295
   clause-small q lt = omega (arith, K .small q lt)
 
   pub clause-slots : Slots times (byDiscovery σ (map slotOf C))
@@ -132,9 +122,9 @@ module _ {times : List ℕ} {C : List ℤ} (K : StampedClause times C) {slots : 
   inner-few = omega (arith, inner-many, ap length inner-given, inner-length K)
 
   -- the complements that stay, in a table of which t₁ is the front
-  module _ (n : ℕ) (t₁ t₂ : List ℕ) (few : n ≤ length t₁) (outers : take n t₁ ≡ outer (columns times []) 0 (byDiscovery (columns times []) (map twin (drop first s₁)))) where
+  module _ (n : ℕ) (t₁ t₂ : List ℕ) (few : n ≤ length t₁) (outers : take n t₁ ≡ outermost (columns times []) (byDiscovery (columns times []) (map twin (drop first s₁)))) where
     pub outer-given : take n (t₁ ++ t₂) ≡ outerTwins (columns times []) C
-    outer-given = take-append-le n t₁ t₂ few ∙ outers ∙ ap (λ (l : List ℕ). outer (columns times []) 0 (byDiscovery (columns times []) (map twin l))) inner-given
+    outer-given = take-append-le n t₁ t₂ few ∙ outers ∙ ap (λ (l : List ℕ). outermost (columns times []) (byDiscovery (columns times []) (map twin l))) inner-given
 
   pub part-given : {K′ : List ℕ} {r : ℕ} {q : List ℤ} → K′ ≡ outerTwins (columns times []) C
       → (r ≡ length (keptBy K′ C)) × (q ≡ keptBy K′ C ++ replicate (length C - length (keptBy K′ C)) (pos 0))

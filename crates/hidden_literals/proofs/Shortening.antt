@@ -1,5 +1,5 @@
 -- What the code of figure 5 keeps is the two filters. Assumes nothing.
-use Prim.Native.Nat.{ℕ, _≤_, _<_}
+use Prim.Native.Nat.{ℕ, _<_}
 use mathlib.Core.Path.{_≡_, refl, sym, ap, subst, _∙_}
 use mathlib.Core.Bool.{Bool, true, not, _&&_}
 use mathlib.Core.List.{List, map, List·Memᴰ, Memᴰ·map, Memᴰ·of-map}
@@ -17,7 +17,7 @@ use Rattle.walk.specs.Forest.{finishAt}
 use Rattle.hidden.specs.Hidden.{holds, byDiscovery, unhidden, shorten}
 use Rattle.hidden.proofs.Intervals.{Nested, Within, Below}
 use Rattle.hidden.proofs.Sorted.{sorted-in, sorted-out, sorted-rising}
-use Rattle.hidden_literals.specs.Figures.{inner, outer, among, keptBy}
+use Rattle.hidden_literals.specs.Figures.{inner, outermost, among, keptBy}
 use Rattle.hidden_literals.proofs.Hiding.{holdsOne, heldByOne, inner-filter, outer-filter}
 
 -- ---- some element of a sorted list
@@ -54,9 +54,9 @@ abbrev pub innerSlots : Stamps → List ℤ → List ℕ
 innerSlots σ C = inner σ (byDiscovery σ (map slotOf C))
 
 abbrev pub outerTwins : Stamps → List ℤ → List ℕ
-outerTwins σ C = outer σ 0 (byDiscovery σ (map twin (innerSlots σ C)))
+outerTwins σ C = outermost σ (byDiscovery σ (map twin (innerSlots σ C)))
 
-module _ (size : ℕ) (σ : Stamps) (N : Nested size σ) (C : List ℤ) (w : Within size (map slotOf C)) (small : (q : ℕ) → q < size → finishAt σ q ≤ 4294967295) where
+module _ (size : ℕ) (σ : Stamps) (N : Nested size σ) (C : List ℤ) (w : Within size (map slotOf C)) (small : (q : ℕ) → q < size → finishAt σ q < 4294967295) where
   pub sorted-below : Below size (byDiscovery σ (map slotOf C))
   sorted-below x m = w x (sorted-out σ (map slotOf C) m) .0
 
@@ -66,7 +66,7 @@ module _ (size : ℕ) (σ : Stamps) (N : Nested size σ) (C : List ℤ) (w : Wit
 
   inner-is : innerSlots σ C ≡ filter stays (byDiscovery σ (map slotOf C))
   inner-is =
-      inner-filter size σ N (byDiscovery σ (map slotOf C)) sorted-below (sorted-rising σ (map slotOf C)) (λ x m. small x (sorted-below x m))
+      inner-filter size σ N small (byDiscovery σ (map slotOf C)) sorted-below (sorted-rising σ (map slotOf C))
       ∙ filter-same _ _ (byDiscovery σ (map slotOf C)) (λ x m. ap not (any-sorted σ _ (map slotOf C)))
 
   pub inner-mem : {x : ℕ} → List·Memᴰ x (innerSlots σ C) → List·Memᴰ x (map slotOf C)

@@ -2,27 +2,34 @@
 use Prim.Native.Nat.{ℕ}
 use mathlib.Core.Bool.{Bool, true, false}
 use mathlib.Core.List.{List, [], _∷_}
-use lib.Dec.{eqb, ltb}
+use lib.Dec.{eqb}
 use lib.IntN.{ℤ, negℤ}
 use Rattle.base.specs.Lists.{any, filter}
 use Rattle.literal.specs.Literals.{slotOf}
+use Rattle.intervals.specs.declared.Interval.{Interval}
+use Rattle.intervals.specs.Intervals.{interval, compare}
+use Rattle.intervals.specs.Relations.{wider}
 use Rattle.walk.specs.Walk.{Stamps}
-use Rattle.walk.specs.Forest.{finishAt}
+use Rattle.stamp_columns.specs.Intervals.{intervalAt}
 
--- the least finish in the list, or the largest 32-bit number
-unfoldable pub least : Stamps → List ℕ → ℕ
-least σ [] = 4294967295
-least σ (x ∷ xs) = elim (ltb (least σ xs) (finishAt σ x)) [ true ↦ least σ xs | false ↦ finishAt σ x ]
+-- the interval of the slot that stays last, from the last of the list to the first; of no slot, an interval behind all others
+unfoldable pub innermost : Stamps → List ℕ → Interval
+innermost σ [] = interval 4294967295 4294967295
+innermost σ (x ∷ xs) = elim (wider (compare (intervalAt σ x) (innermost σ xs))) [ true ↦ innermost σ xs | false ↦ intervalAt σ x ]
 
--- lines 1 to 4, from the last to the first: a slot that ends after one behind it goes
+-- lines 1 to 4, from the last to the first: a slot that holds the one that stayed last goes
 unfoldable pub inner : Stamps → List ℕ → List ℕ
 inner σ [] = []
-inner σ (x ∷ xs) = elim (ltb (least σ xs) (finishAt σ x)) [ true ↦ inner σ xs | false ↦ x ∷ inner σ xs ]
+inner σ (x ∷ xs) = elim (wider (compare (intervalAt σ x) (innermost σ xs))) [ true ↦ inner σ xs | false ↦ x ∷ inner σ xs ]
 
--- lines 5 to 8, from the first to the last: a slot that ends before one in front of it goes
-unfoldable pub outer : Stamps → ℕ → List ℕ → List ℕ
-outer σ finished [] = []
-outer σ finished (x ∷ xs) = elim (ltb (finishAt σ x) finished) [ true ↦ outer σ finished xs | false ↦ x ∷ outer σ (finishAt σ x) xs ]
+-- lines 5 to 8, from the first to the last: a slot that is held by the one that stayed last goes
+unfoldable pub outer : Stamps → Interval → List ℕ → List ℕ
+outer σ last [] = []
+outer σ last (x ∷ xs) = elim (wider (compare last (intervalAt σ x))) [ true ↦ outer σ last xs | false ↦ x ∷ outer σ (intervalAt σ x) xs ]
+
+-- from the first slot on: an interval of no time holds none
+abbrev pub outermost : Stamps → List ℕ → List ℕ
+outermost σ xs = outer σ (interval 0 0) xs
 
 -- s is in the list
 abbrev pub among : ℕ → List ℕ → Bool

@@ -1,4 +1,5 @@
 // Hidden literals: figure 5 of 000 over the slots of one clause.
+use intervals::Interval;
 ghost use mathlib.Core.Path.{_≡_};
 ghost use mathlib.Core.List.{List, [], _++_, map};
 ghost use Prim.Native.Nat.{_+_, _*_, _-_, _<_, _≤_};
@@ -9,46 +10,49 @@ ghost use Rattle.stamp_columns.specs.Columns.{columns};
 ghost use Rattle.hidden.specs.Hidden.{byDiscovery, shorten};
 ghost use Rattle.clause_slots.specs.Stamped.{StampedSlots, StampedClause};
 ghost use Rattle.hidden_literals.specs.Sorted.{Searched, Sorted};
-ghost use Rattle.hidden_literals.specs.Figures.{inner, outer, among, keptBy};
+ghost use Rattle.hidden_literals.specs.Figures.{inner, outermost, among, keptBy};
 ghost use Rattle.stamp_columns.specs.Slots.{Slots};
 
-// Lines 1 to 4, over slots by rising discovery, from the last to the first: one that ends after a later one holds it and goes. What stays moves to the end; returns where it starts.
+// Lines 1 to 4, over slots by rising discovery, from the last to the first: one that holds the slot that stayed last goes. What stays moves to the end; returns where it starts.
 fn keep_inner(slots: &mut [u32], times: &[u32]) -> usize
     requires { ⌜ Slots (now times) (now slots) ⌝ }
     ensures { λ r. ⌜ (r ≤ length (now (slots .entry))) × ((links : List ℤ) → drop r (now (slots .exit)) ≡ inner (columns (now (times .entry)) links) (now (slots .entry))) ⌝ }
 {
-    let mut finished: u32 = 4294967295;
+    let mut last = Interval {
+        begin: 4294967295,
+        end: 4294967295,
+    };
     let mut n = slots.len();
     let mut i = slots.len();
     while 0 < i {
         i -= 1;
         let x = slots[i];
-        let f = stamp_columns::finish(times, x);
-        if f <= finished {
+        let t = stamp_columns::interval(times, x);
+        if !t.compare(last).wider() {
             n -= 1;
             slots[n] = x;
-            finished = f;
+            last = t;
         }
     }
     n
 }
 
-// Lines 5 to 8, over slots by rising discovery, from the first to the last: one that ends before an earlier one is held and goes. What stays moves to the front; returns how many.
+// Lines 5 to 8, over slots by rising discovery, from the first to the last: one that is held by the slot that stayed last goes. What stays moves to the front; returns how many.
 fn keep_outer(slots: &mut [u32], times: &[u32]) -> usize
     requires { ⌜ Slots (now times) (now slots) ⌝ }
-    ensures { λ r. ⌜ (r ≤ length (now (slots .entry))) × ((links : List ℤ) → take r (now (slots .exit)) ≡ outer (columns (now (times .entry)) links) 0 (now (slots .entry))) ⌝ }
+    ensures { λ r. ⌜ (r ≤ length (now (slots .entry))) × ((links : List ℤ) → take r (now (slots .exit)) ≡ outermost (columns (now (times .entry)) links) (now (slots .entry))) ⌝ }
 {
-    let mut finished: u32 = 0;
+    let mut last = Interval { begin: 0, end: 0 };
     let mut n = 0;
     let mut i = 0;
     while i < slots.len() {
         let x = slots[i];
-        let f = stamp_columns::finish(times, x);
+        let t = stamp_columns::interval(times, x);
         i += 1;
-        if finished <= f {
+        if !last.compare(t).wider() {
             slots[n] = x;
             n += 1;
-            finished = f;
+            last = t;
         }
     }
     n
@@ -59,7 +63,7 @@ fn has_slot(slots: &[u32], times: &[u32], s: u32) -> bool
     requires { ⌜ Slots (now times) (now slots) × (2 * s + 1 < length (now times)) × Searched (now times) (now slots) s ⌝ }
     ensures { λ r. ⌜ r ≡ among s (now (slots .entry)) ⌝ }
 {
-    let d = stamp_columns::discovery(times, s);
+    let t = stamp_columns::interval(times, s);
     let mut low = 0;
     let mut high = slots.len();
     while low < high {
@@ -68,7 +72,7 @@ fn has_slot(slots: &[u32], times: &[u32], s: u32) -> bool
         if m == s {
             return true;
         }
-        if stamp_columns::discovery(times, m) < d {
+        if stamp_columns::interval(times, m).compare(t).begins_first() {
             low = mid + 1;
         } else {
             high = mid;
@@ -101,7 +105,7 @@ fn keep_part(part: &mut [i32], slots: &[u32], times: &[u32]) -> usize
 // The complements of slots, by rising discovery, without those that another holds: they are put in front; returns how many.
 fn outer_twins(slots: &[u32], twins: &mut [u32], times: &[u32]) -> usize
     requires { ⌜ StampedSlots (now times) (now slots) × (length (now twins) ≡ length (now slots)) ⌝ }
-    ensures { λ r. ⌜ (r ≤ length (now (slots .entry))) × (take r (now (twins .exit)) ≡ outer (columns (now (times .entry)) []) 0 (byDiscovery (columns (now (times .entry)) []) (map twin (now (slots .entry))))) ⌝ }
+    ensures { λ r. ⌜ (r ≤ length (now (slots .entry))) × (take r (now (twins .exit)) ≡ outermost (columns (now (times .entry)) []) (byDiscovery (columns (now (times .entry)) []) (map twin (now (slots .entry))))) ⌝ }
 {
     clause_slots::twins_of(slots, twins);
     discovery_order::sort_slots(twins, times);

@@ -3,7 +3,7 @@ use Prim.Native.Nat.{ℕ, _+_, _*_, _≤_, _<_}
 use native.Mathlib.Omega.{arith}
 use mathlib.Core.Path.{_≡_, refl, sym, ap, subst, _∙_}
 use mathlib.Core.Bool.{Bool}
-use mathlib.Core.List.{List, [], _∷_, map, List·Memᴰ}
+use mathlib.Core.List.{List, [], _∷_, map, List·Memᴰ, Memᴰ·of-map}
 use lib.ListN.{length, getD, length-map}
 use lib.IntN.{ℤ}
 use Rattle.base.proofs.Lists.{getD-mem}
@@ -17,8 +17,8 @@ use Rattle.hidden.proofs.Intervals.{Nested}
 use Rattle.hidden.proofs.FreshColumns.{fresh-nested}
 use Rattle.hidden.proofs.Scan.{tautology-figure}
 use Rattle.clause_slots.specs.Stamped.{Lits, StampedSlots, StampedClause}
-use Rattle.clause_slots.proofs.Clause.{inside-twins, clause-within, clause-lits}
-use Rattle.hidden_tautologies.specs.Judged.{Two, Judged}
+use Rattle.clause_slots.proofs.Clause.{clause-within, clause-lits}
+use Rattle.hidden_tautologies.specs.Judged.{Two, Scanned, Judged}
 
 module _ {times : List ℕ} {links C : List ℤ} (J : Judged times links C) where
   -- only the times count for the intervals
@@ -50,8 +50,15 @@ module _ {times : List ℕ} {links C : List ℤ} (J : Judged times links C) wher
     pub judged-slots : Slots times s
     judged-slots = subst (Slots times) (sym slots) (record { size = 2 * J .vars; few = omega (arith, J .stamped .few); room = omega (arith, J .stamped .few, J .long); each = λ x m. judged-below x m .0 })
 
-    pub judged-twins : Slots times (map twin s)
-    judged-twins = subst (λ (l : List ℕ). Slots times (map twin l)) (sym slots) (inside-twins judged-inside)
+    pub judged-scanned : Scanned times s (map twin s)
+    judged-scanned = subst (λ (l : List ℕ). Scanned times l (map twin l)) (sym slots) (record {
+      size = 2 * J .vars;
+      few = omega (arith, J .stamped .few);
+      room = omega (arith, J .stamped .few, J .long);
+      nested = timed;
+      one = λ x m. judged-below x m .0;
+      other = λ x m. let r = Memᴰ·of-map twin (map slotOf C) m in subst (λ (y : ℕ). y < 2 * J .vars) (r .2) (judged-below (r .0) (r .1) .1);
+    })
 
     pub judged-two : length C ≡ 2 → Two times links (getD s 0 0) (getD s 1 0)
     judged-two e = subst (λ (l : List ℕ). Two times links (getD l 0 0) (getD l 1 0)) (sym slots) (record {

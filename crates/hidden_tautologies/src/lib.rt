@@ -6,9 +6,8 @@ ghost use lib.ListN.{length};
 ghost use lib.IntN.{ℤ};
 ghost use Rattle.literal.specs.Literals.{slotOf, twin};
 ghost use Rattle.stamp_columns.specs.Columns.{columns};
-ghost use Rattle.stamp_columns.specs.Slots.{Slots};
 ghost use Rattle.hidden.specs.Hidden.{byDiscovery, scan, figure6, transitive, hiddenPair, hiddenTautology};
-ghost use Rattle.hidden_tautologies.specs.Judged.{Two, Judged};
+ghost use Rattle.hidden_tautologies.specs.Judged.{Two, Scanned, Judged};
 
 // Whether the stamps show that the edge from slot p to slot q is transitive: p holds q and is not its parent.
 fn transitive(times: &[u32], links: &[i32], p: u32, q: u32) -> bool
@@ -32,9 +31,10 @@ fn hidden_pair(times: &[u32], links: &[i32], a: u32, b: u32) -> bool
     transitive(times, links, literal::twin_of(b), a)
 }
 
-// The scan, over the sorted literals and the sorted complements: it stops with its verdict.
+// The scan, over the sorted literals and the sorted complements: it stops with its verdict. Where the complement does not hold the literal, the one of the two that begins first is passed:
+// a complement that begins first holds none of the literals to come, and a literal that does is held by none of the complements to come.
 fn scan(times: &[u32], pos: &[u32], neg: &[u32]) -> bool
-    requires { ⌜ Slots (now times) (now pos) × Slots (now times) (now neg) ⌝ }
+    requires { ⌜ Scanned (now times) (now pos) (now neg) ⌝ }
     ensures { λ r. ⌜ ((links : List ℤ) → r ≡ scan (columns (now (times .entry)) links) (now (pos .entry)) (now (neg .entry))) ⌝ }
 {
     let mut i = 0;
@@ -48,13 +48,14 @@ fn scan(times: &[u32], pos: &[u32], neg: &[u32]) -> bool
         }
         let p = pos[i];
         let q = neg[j];
-        if stamp_columns::discovery(times, p) < stamp_columns::discovery(times, q) {
-            i += 1;
-        } else {
-            if stamp_columns::finish(times, p) <= stamp_columns::finish(times, q) {
-                break true;
-            }
+        let lies = stamp_columns::compare(times, q, p);
+        if lies.contains() {
+            break true;
+        }
+        if lies.begins_first() {
             j += 1;
+        } else {
+            i += 1;
         }
     };
     verdict
@@ -62,7 +63,7 @@ fn scan(times: &[u32], pos: &[u32], neg: &[u32]) -> bool
 
 // Figure 6 over the slots of a clause, which are left sorted. `twins` is as long, and only worked in.
 fn figure_6(times: &[u32], slots: &mut [u32], twins: &mut [u32]) -> bool
-    requires { ⌜ Slots (now times) (now slots) × Slots (now times) (map twin (now slots)) × (length (now twins) ≡ length (now slots)) ⌝ }
+    requires { ⌜ Scanned (now times) (now slots) (map twin (now slots)) × (length (now twins) ≡ length (now slots)) ⌝ }
     ensures { λ r. ⌜ ((links : List ℤ) → (r ≡ figure6 (columns (now (times .entry)) links) (now (slots .entry))) × (now (slots .exit) ≡ byDiscovery (columns (now (times .entry)) links) (now (slots .entry)))) ⌝ }
 {
     clause_slots::twins_of(slots, twins);

@@ -1,21 +1,25 @@
--- Examples by computation, under 1, −1, 2, −2, ..: P2's interval of 1 holds that of 2, P3's third clause is hidden, and so is a pair that the figure 6 scan passed over. Assumes nothing.
+-- Examples by computation, under 1, −1, 2, −2, ..: P2's interval of 1 holds that of 2, and how its intervals lie, P3's third clause is hidden, and so is a pair that the figure 6 scan passed over. Assumes nothing.
 use Prim.Native.Nat.{ℕ}
 use native.Mathlib.Omega.{arith}
 use mathlib.Core.Path.{_≡_, refl}
-use mathlib.Core.List.{List, [], _∷_}
-use lib.IntN.{pos, negsuc}
+use mathlib.Core.List.{List, [], _∷_, map}
+use lib.IntN.{ℤ, pos, negsuc}
 use Rattle.base.specs.Lists.{filter, absent, evens, odds, interleave}
 use Rattle.literal.specs.Literals.{twin}
 use Rattle.walk.specs.Walk.{arrive, leave, edge, edges, enters, startWalk, stampAll}
 use Rattle.implications.specs.Edges.{outs}
 use Rattle.implications.specs.Clauses.{froms, tos}
+use Rattle.intervals.specs.declared.Relation.the-variants.{Same, Holds, Held, Earlier, Later}
+use Rattle.intervals.specs.Intervals.{same, encloses, compare}
+use Rattle.compare.specs.Compare.{intervalOf}
 use Rattle.stamp_columns.specs.Columns.{columns}
 use Rattle.hidden.specs.Hidden.{holds, transitive, hiddenPair, hiddenTautology}
 use Rattle.tables.specs.Tables.{Tables, tables}
 use Rattle.tables.specs.Fates.{dropped}
 use Rattle.stamp.specs.Stamp.{stampsOf, stampedTables}
 use Rattle.sweep_visits.specs.Clause.{sweepClause}
-use Rattle.paper.specs.Records.{discovered, finished, parent, Holds, Ancestor, self, up}
+use Rattle.paper.specs.Records.{discovered, finished, parent, Ancestor, self, up}
+use Rattle.paper.specs.Records as records
 use Rattle.paper.specs.Edges.{first}
 use Rattle.paper.specs.Sweeping.{HiddenPair}
 
@@ -31,9 +35,18 @@ intervals : (discovered p2 (pos 1) ≡ 1) × (finished p2 (pos 1) ≡ 6) × (dis
 unfolding filter absent interleave twin arrive leave edge edges enters startWalk stampAll outs froms tos stampsOf stampedTables
 intervals = (refl, refl, refl, refl, refl)
 
-one-holds-two : Holds p2 (pos 1) (pos 2) × Ancestor p2 (pos 1) (pos 2)
+one-holds-two : records.Holds p2 (pos 1) (pos 2) × Ancestor p2 (pos 1) (pos 2)
 unfolding filter absent interleave twin arrive leave edge edges enters startWalk stampAll outs froms tos stampsOf stampedTables
 one-holds-two = ((omega arith, omega arith), up self)
+
+-- document 02, CR 6: how the intervals of 2 and of −3 lie to those of 1, 2, 3 and −3
+compared : map (λ (q : ℤ). compare (intervalOf (p2 .times) (pos 2)) (intervalOf (p2 .times) q)) (pos 1 ∷ pos 2 ∷ pos 3 ∷ negsuc 2 ∷ []) ≡ Held ∷ Same ∷ Holds ∷ Earlier ∷ []
+unfolding filter absent interleave twin arrive leave edge edges enters startWalk stampAll outs froms tos stampsOf stampedTables same encloses compare
+compared = refl
+
+compared-later : map (λ (q : ℤ). compare (intervalOf (p2 .times) (negsuc 2)) (intervalOf (p2 .times) q)) (pos 1 ∷ pos 2 ∷ pos 3 ∷ negsuc 2 ∷ []) ≡ Later ∷ Later ∷ Later ∷ Same ∷ []
+unfolding filter absent interleave twin arrive leave edge edges enters startWalk stampAll outs froms tos stampsOf stampedTables same encloses compare
+compared-later = refl
 
 -- P3: (−1 2)(−2 3)(−1 3)
 abbrev p3 : Tables
@@ -57,6 +70,6 @@ third-hidden = record {
 abbrev over : Tables
 over = stamped 3 ((0 ∷ 2 ∷ []) ∷ (0 ∷ 3 ∷ []) ∷ (0 ∷ 4 ∷ []) ∷ (2 ∷ 4 ∷ []) ∷ []) 6 (0 ∷ 1 ∷ 2 ∷ 3 ∷ 4 ∷ 5 ∷ [])
 
-passed-over : Holds over (negsuc 0) (pos 3) × (parent over (pos 3) ≡ negsuc 1) × Holds over (negsuc 0) (pos 1) × (sweepClause (columns (over .times) (over .links)) (pos 1 ∷ pos 3 ∷ []) ≡ dropped)
+passed-over : records.Holds over (negsuc 0) (pos 3) × (parent over (pos 3) ≡ negsuc 1) × records.Holds over (negsuc 0) (pos 1) × (sweepClause (columns (over .times) (over .links)) (pos 1 ∷ pos 3 ∷ []) ≡ dropped)
 unfolding filter absent evens odds interleave twin arrive leave edge edges enters startWalk stampAll outs froms tos stampsOf stampedTables holds transitive hiddenPair hiddenTautology sweepClause
 passed-over = ((omega arith, omega arith), refl, (omega arith, omega arith), refl)

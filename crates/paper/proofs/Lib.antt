@@ -1,6 +1,8 @@
 pub mod Accepted
 pub mod Graph
 pub mod Walking
+pub mod Ancestors
+pub mod Compared
 pub mod Stamping
 pub mod StampAncestors
 pub mod Filters

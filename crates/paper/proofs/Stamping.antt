@@ -9,9 +9,8 @@ use lib.IntN.{ℤ}
 use Rattle.literal.specs.Literals.{Literal, slotOf, litAt}
 use Rattle.literal.proofs.Laws.{slot-below, slot-same, lit-slot}
 use Rattle.walk.specs.Walk.{Stamps}
-use Rattle.walk.specs.Forest.{discoveryAt, finishAt, parentAt, startAt, Above, self, up, here, on, Top, Under}
-use Rattle.walk.specs.Forest as forest
-use Rattle.walk.proofs.Theorems.{Stamped, above-holds, holds-above, start-starts, back-cycle, reach-down}
+use Rattle.walk.specs.Forest.{discoveryAt, finishAt, parentAt, startAt, here, on, Top, Under}
+use Rattle.walk.proofs.Theorems.{Stamped, start-starts, back-cycle, reach-down}
 use Rattle.implications.proofs.Implications.{no-self-edge}
 use Rattle.scc.specs.Groups.{cyclic}
 use Rattle.scc.proofs.Forward.{cyclic-none}
@@ -29,10 +28,10 @@ use Rattle.stamp.proofs.Writing.{full-lists}
 use Rattle.stamp.proofs.Freshness.{stamps-stamped, discoveries-size, finishes-size, parents-size, starts-size}
 use Rattle.stamp.proofs.Shaped.{written-fresh}
 use Rattle.moves.proofs.Records.{stamped-agree}
-use Rattle.paper.specs.Records.{discovered, finished, parent, start, Holds, Ancestor}
-use Rattle.paper.specs.Records as records
+use Rattle.paper.specs.Records.{discovered, finished, parent, start, Ancestor}
 use Rattle.paper.specs.Edges.{Edge}
 use Rattle.paper.specs.Stamping.{slotClauses, edgesFrom, walkOf, RecordOf, StampedAs}
+use Rattle.paper.proofs.Ancestors.{ancestor-holds, holds-ancestor}
 use Rattle.paper.proofs.Graph.{edge-literals, edge-slots, slots-edge, root-exact}
 use Rattle.paper.proofs.Walking.{stamps-walked}
 
@@ -95,28 +94,6 @@ module _ {order : List ℤ} {t : Tables} {st : State} (K : Known order t st) (un
     start-is = sym (lit-slot (start t′ p) (start-literal p L .above)) ∙ ap litAt (start-slot p L);
   }
 
-  -- ---- ancestors
-
-  to-walk : (p q : ℤ) → Literal (st .v) p → Literal (st .v) q → Holds t′ p q → forest.Holds σ (slotOf p) (slotOf q)
-  to-walk p q Lp Lq h = (omega (arith, h .0, discoveries-is p Lp, discoveries-is q Lq), omega (arith, h .1, finishes-is p Lp, finishes-is q Lq))
-
-  of-walk : (p q : ℤ) → Literal (st .v) p → Literal (st .v) q → forest.Holds σ (slotOf p) (slotOf q) → Holds t′ p q
-  of-walk p q Lp Lq h = (omega (arith, h .0, discoveries-is p Lp, discoveries-is q Lq), omega (arith, h .1, finishes-is p Lp, finishes-is q Lq))
-
-  above-ancestor : {a b : ℕ} → Above σ a b → (p q : ℤ) → Literal (st .v) p → Literal (st .v) q → slotOf p ≡ a → slotOf q ≡ b → Ancestor t′ p q
-  above-ancestor self p q Lp Lq e f = subst (Ancestor t′ p) (slot-same p q (Lp .above) (Lq .above) (e ∙ sym f)) records.self
-  above-ancestor (up {b = b} h) p q Lp Lq e f = records.up (above-ancestor h p (parent t′ q) Lp (parent-literal q Lq) e (parent-slot q Lq ∙ ap (parentAt σ) f))
-
-  ancestor-above : {p q : ℤ} → Ancestor t′ p q → Literal (st .v) q → Above σ (slotOf p) (slotOf q)
-  ancestor-above records.self L = self
-  ancestor-above {p} (records.up {q = q} h) L = up (subst (Above σ (slotOf p)) (parent-slot q L) (ancestor-above h (parent-literal q L)))
-
-  holds-ancestor : (p q : ℤ) → Literal (st .v) p → Literal (st .v) q → Holds t′ p q → Ancestor t′ p q
-  holds-ancestor p q Lp Lq h = above-ancestor (holds-above adj σ (S .forest) (on-walk Lp) (on-walk Lq) (to-walk p q Lp Lq h)) p q Lp Lq refl refl
-
-  ancestor-holds : (p q : ℤ) → Literal (st .v) p → Literal (st .v) q → Ancestor t′ p q → Holds t′ p q
-  ancestor-holds p q Lp Lq a = of-walk p q Lp Lq (above-holds adj σ (S .forest) (on-walk Lq) (ancestor-above a Lq) .1)
-
   -- ---- parents and starts
 
   parent-edge : (q : ℤ) → Literal (st .v) q → (parent t′ q ≡ q → ⊥) → Edge t (st .n) (parent t′ q) q
@@ -133,7 +110,7 @@ module _ {order : List ℤ} {t : Tables} {st : State} (K : Known order t st) (un
       let Ls = start-literal q L in
       let s = start-starts adj σ (S .forest) (slotOf q) (on-walk L) in
       let e = start-slot q L in (
-        holds-ancestor (start t′ q) q Ls L (of-walk (start t′ q) q Ls L (subst (λ (x : ℕ). forest.Holds σ x (slotOf q)) (sym e) (s .1))),
+        holds-ancestor (st .v) t′ F (start t′ q) q Ls L (F .start (slotOf q) (slot L) .0),
         slot-same (parent t′ (start t′ q)) (start t′ q) (parent-literal (start t′ q) Ls .above) (Ls .above) (parent-slot (start t′ q) Ls ∙ ap (parentAt σ) e ∙ s .2 .parent ∙ sym e),
       )
 
@@ -157,7 +134,7 @@ module _ {order : List ℤ} {t : Tables} {st : State} (K : Known order t st) (un
     walked = stamps-walked (slotClauses t st) (st .v) below (map slotOf order) (full-lists (K .full));
     written = refl;
     records = record-of;
-    ancestors = λ p q Lp Lq. (holds-ancestor p q Lp Lq, ancestor-holds p q Lp Lq);
+    ancestors = λ p q Lp Lq. (holds-ancestor (st .v) t′ F p q Lp Lq, ancestor-holds (st .v) t′ F Lq);
     parents = λ q L. (parent-literal q L, parent-edge q L);
     starts = λ q L. let s = start-own q L in (start-literal q L, s .0, s .1);
     edges = edge-down;

@@ -5,3 +5,4 @@ pub mod Figure1
 pub mod Stamping
 pub mod Sweeping
 pub mod Chains
+pub mod Comparing

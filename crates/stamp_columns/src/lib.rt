@@ -1,4 +1,6 @@
-// The stamps of a slot, as the walk's columns have them.
+// The stamps of a slot, as the walk's columns have them, and how the intervals of two slots lie.
+use intervals::Interval;
+use intervals::Relation;
 ghost use mathlib.Core.Path.{_≡_};
 ghost use mathlib.Core.List.{[]};
 ghost use Prim.Native.Nat.{_+_, _*_, _<_};
@@ -6,6 +8,7 @@ ghost use lib.ListN.{length};
 ghost use Rattle.walk.specs.Forest.{discoveryAt, finishAt, parentAt};
 ghost use Rattle.stamp_columns.specs.Columns.{columns};
 ghost use Rattle.stamp_columns.specs.Slots.{Child};
+ghost use Rattle.stamp_columns.specs.Intervals.{intervalAt, relation};
 
 // When slot s is discovered. The slot has times: it is one of the 2V of tables whose stamps are fresh.
 pub fn discovery(times: &[u32], s: u32) -> u32
@@ -16,11 +19,30 @@ pub fn discovery(times: &[u32], s: u32) -> u32
 }
 
 // When slot s is finished. The same holds for it.
-pub fn finish(times: &[u32], s: u32) -> u32
+fn finish(times: &[u32], s: u32) -> u32
     requires { ⌜ 2 * s + 1 < length (now times) ⌝ }
     ensures { λ r. ⌜ r ≡ finishAt (columns (now (times .entry)) []) s ⌝ }
 {
     times[2 * s as usize + 1]
+}
+
+// The interval of slot s, which has times.
+pub fn interval(times: &[u32], s: u32) -> Interval
+    requires { ⌜ 2 * s + 1 < length (now times) ⌝ }
+    ensures { λ r. ⌜ r ≡ intervalAt (columns (now (times .entry)) []) s ⌝ }
+{
+    Interval {
+        begin: discovery(times, s),
+        end: finish(times, s),
+    }
+}
+
+// How the interval of slot a lies to that of slot b. Both have times.
+pub fn compare(times: &[u32], a: u32, b: u32) -> Relation
+    requires { ⌜ (2 * a + 1 < length (now times)) × (2 * b + 1 < length (now times)) ⌝ }
+    ensures { λ r. ⌜ r ≡ relation (columns (now (times .entry)) []) a b ⌝ }
+{
+    interval(times, a).compare(interval(times, b))
 }
 
 // The slot of the parent of slot s. Its link is a literal, as fresh stamps have it.

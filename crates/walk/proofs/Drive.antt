@@ -36,9 +36,6 @@ pub record Starting (offsets targets rest whole : List ℕ) (size : ℕ) (σ₀ 
   pub fewer : fresh (σ .discoveries) ≤ fresh (σ₀ .discoveries)
   pub same : (n : ℕ) → fresh (σ₀ .discoveries) ≤ n → edges (startWalk n (adjOf offsets targets)) rest σ ≡ edges (startWalk n (adjOf offsets targets)) whole σ₀
 
-pub starting-none : (offsets targets whole : List ℕ) (size : ℕ) (σ : Stamps) → Columns size σ → Starting offsets targets whole whole size σ σ
-starting-none offsets targets whole size σ c = record { cols = c; fewer = le-refl _; same = λ n le. refl }
-
 pub starting-as : (offsets targets rest rest′ whole : List ℕ) (size : ℕ) (σ₀ σ : Stamps) → rest ≡ rest′ → Starting offsets targets rest whole size σ₀ σ → Starting offsets targets rest′ whole size σ₀ σ
 starting-as offsets targets rest rest′ whole size σ₀ σ e s = subst (λ (l : List ℕ). Starting offsets targets l whole size σ₀ σ) e s
 

@@ -1,28 +1,31 @@
 -- `hidden_literals::has_slot` meets its contract. Assumes nothing.
 use Rattle.discovery_order.proofs.Sorting.{slot-at}
-use Rattle.hidden_literals.proofs.Loops.{Halving, halving-done, halving-up, halving-down, among-at}
-use mathlib.Core.Path.{sym}
+use Rattle.hidden_literals.proofs.Loops.{Halving, halving-read, halving-done, halving-up, halving-down, among-at}
+use mathlib.Core.Path.{sym, _∙_}
 use native.Mathlib.Omega.{arith}
 use Prim.Native.Nat.{_+_, _-_, _/_, _≤_, _<_}
+use borrow.Author.Tests.{ltb-true, ltb-false}
 use borrow.Author.Needs.{needs}
 use Rattle.hidden_literals.proofs.has_slot.Statement.{statement}
 use Rattle.hidden_literals.proofs.has_slot.Tie as tie
 use Rattle.hidden_literals.proofs.has_slot.Reads as reads
 use Rattle.hidden_literals.proofs.has_slot.Lts as lts
-use Rattle.stamp_columns.proofs.discovery.Reads as discovery-reads
+use Rattle.intervals.proofs.Interval.compare.Reads as compare-reads
+use Rattle.intervals.proofs.Relation.begins_first.Reads as begins-first-reads
+use Rattle.stamp_columns.proofs.interval.Reads as interval-reads
 
 abbrev Inv-loop : tie.InvT-loop
-Inv-loop slots times s d low₀ high₀ low high = Halving slots s low high
+Inv-loop slots times s t low₀ high₀ low high = Halving slots s low high
 
 abbrev μ-loop : tie.MeasureT-loop
-μ-loop slots times s d low₀ high₀ low high = high - low
+μ-loop slots times s t low₀ high₀ low high = high - low
 
 -- the middle lies between
 middle : (c : tie.In-loop Inv-loop μ-loop) → (c .before .loop .low ≤ c .before .loop .low + (c .before .loop .high - c .before .loop .low) / 2) × (c .before .loop .low + (c .before .loop .high - c .before .loop .low) / 2 < c .before .loop .high)
 middle c = let h = c .loop-test .taken in (omega arith, omega arith)
 
-discovery-requires : tie.Need-discovery-requires Inv-loop μ-loop
-discovery-requires c κs = search needs
+interval-requires : tie.Need-interval-requires Inv-loop μ-loop
+interval-requires c κs = search needs
 
 loop-holds : tie.Need-loop-holds Inv-loop μ-loop
 loop-holds c = search needs
@@ -42,8 +45,14 @@ shared-slice-read-m c = search needs
 returns : tie.Need-returns Inv-loop μ-loop
 returns c = let m = middle (c .before .before) in sym (among-at (c .before .before .before .before .before .before .before .args .s) (c .before .before .before .before .before .before .before .args .slots .now) _ (omega (arith, m .1, c .before .before .before .loop .inv .within)) (c .if1 .taken))
 
-discovery-requires-2 : tie.Need-discovery-requires-2 Inv-loop μ-loop
-discovery-requires-2 c κs = let m = middle (c .before .before) in slot-at (c .before .before .before .before .before .before .before .pre .0) _ (omega (arith, m .1, c .before .before .before .loop .inv .within))
+interval-requires-2 : tie.Need-interval-requires-2 Inv-loop μ-loop
+interval-requires-2 c κs = let m = middle (c .before .before) in slot-at (c .before .before .before .before .before .before .before .pre .0) _ (omega (arith, m .1, c .before .before .before .loop .inv .within))
+
+compare-requires : tie.Need-compare-requires Inv-loop μ-loop
+compare-requires c κs = search needs
+
+begins-first-requires : tie.Need-begins-first-requires Inv-loop μ-loop
+begins-first-requires c κs = search needs
 
 add-low : tie.Need-add-low Inv-loop μ-loop
 add-low c = search needs
@@ -52,13 +61,13 @@ loop-less : tie.Need-loop-less Inv-loop μ-loop
 loop-less c = search needs
 
 loop-again : tie.Need-loop-again Inv-loop μ-loop
-loop-again c = let m = middle (c .before .before .before .before) in halving-up (c .before .before .before .before .before .loop .inv) (c .before .before .before .before .before .before .before .before .before .pre .2) _ (m .0) (m .1) (c .before .before .if1 .left) (omega (arith, c .if2 .taken, c .before .discovery2 .ensures, c .before .before .before .before .before .before .discovery .ensures))
+loop-again c = let m = middle (c .before .before .before .before .before .before) in halving-up (c .before .before .before .before .before .before .before .loop .inv) (c .before .before .before .before .before .before .before .before .before .before .before .pre .2) _ (m .0) (m .1) (c .before .before .before .before .if1 .left) (ltb-true _ _ (halving-read (c .before .before .before .before .before .before .before .loop .inv) (c .before .before .before .before .before .before .before .before .before .before .before .pre .2) _ (m .0) (m .1) (c .before .before .before .before .if1 .left) (c .before .before .before .interval2 .ensures) (c .before .before .before .before .before .before .before .before .interval .ensures) (c .before .before .compare .ensures) (c .before .begins-first .ensures) ∙ c .if2 .taken))
 
 loop-less-2 : tie.Need-loop-less-2 Inv-loop μ-loop
 loop-less-2 c = search needs
 
 loop-again-2 : tie.Need-loop-again-2 Inv-loop μ-loop
-loop-again-2 c = let m = middle (c .before .before .before .before) in halving-down (c .before .before .before .before .before .loop .inv) (c .before .before .before .before .before .before .before .before .before .pre .2) _ (m .0) (m .1) (c .before .before .if1 .left) (omega (arith, c .if2 .left, c .before .discovery2 .ensures, c .before .before .before .before .before .before .discovery .ensures))
+loop-again-2 c = let m = middle (c .before .before .before .before .before .before) in halving-down (c .before .before .before .before .before .before .before .loop .inv) (c .before .before .before .before .before .before .before .before .before .before .before .pre .2) _ (m .0) (m .1) (c .before .before .before .before .if1 .left) (ltb-false _ _ (halving-read (c .before .before .before .before .before .before .before .loop .inv) (c .before .before .before .before .before .before .before .before .before .before .before .pre .2) _ (m .0) (m .1) (c .before .before .before .before .if1 .left) (c .before .before .before .interval2 .ensures) (c .before .before .before .before .before .before .before .before .interval .ensures) (c .before .before .compare .ensures) (c .before .begins-first .ensures) ∙ c .if2 .left))
 
 returns-2 : tie.Need-returns-2 Inv-loop μ-loop
 returns-2 c = sym (halving-done (c .before .loop .inv) (c .loop-test .left))
@@ -69,14 +78,16 @@ has-slot-spec =
     (tie.spec
     Inv-loop
     μ-loop
-    discovery-requires
+    interval-requires
     loop-holds
     sub-mid
     add-mid
     mul-m
     shared-slice-read-m
     returns
-    discovery-requires-2
+    interval-requires-2
+    compare-requires
+    begins-first-requires
     add-low
     loop-less
     loop-again

@@ -3,18 +3,21 @@ use Rattle.hidden_literals.proofs.Loops.{Widening, widening-none, widen
 use lib.ListN.{length, length-set}
 use native.Mathlib.Omega.{arith}
 use Prim.Native.Nat.{_-_}
+use borrow.Author.Tests.{not-true, not-false}
 use borrow.Author.Needs.{needs}
 use Rattle.hidden_literals.proofs.keep_outer.Statement.{statement}
 use Rattle.hidden_literals.proofs.keep_outer.Tie as tie
 use Rattle.hidden_literals.proofs.keep_outer.Reads as reads
 use Rattle.hidden_literals.proofs.keep_outer.Lts as lts
-use Rattle.stamp_columns.proofs.finish.Reads as finish-reads
+use Rattle.intervals.proofs.Interval.compare.Reads as compare-reads
+use Rattle.intervals.proofs.Relation.wider.Reads as wider-reads
+use Rattle.stamp_columns.proofs.interval.Reads as interval-reads
 
 abbrev Inv-loop : tie.InvT-loop
-Inv-loop slots₀ times finished₀ n₀ i₀ slots finished n i = Widening times slots₀ slots finished n i
+Inv-loop slots₀ times last₀ n₀ i₀ slots last n i = Widening times slots₀ slots last n i
 
 abbrev μ-loop : tie.MeasureT-loop
-μ-loop slots₀ times finished₀ n₀ i₀ slots finished n i = length slots - i
+μ-loop slots₀ times last₀ n₀ i₀ slots last n i = length slots - i
 
 loop-holds : tie.Need-loop-holds Inv-loop μ-loop
 loop-holds c = widening-none (c .before .before .args .times .now) (c .before .before .args .slots .now)
@@ -25,11 +28,17 @@ mul-x c = search needs
 slice-read-x : tie.Need-slice-read-x Inv-loop μ-loop
 slice-read-x c = search needs
 
-finish-requires : tie.Need-finish-requires Inv-loop μ-loop
-finish-requires c κs = widening-time (c .before .before .loop .inv) (c .before .loop-test .taken) (c .before .before .before .before .before .pre)
+interval-requires : tie.Need-interval-requires Inv-loop μ-loop
+interval-requires c κs = widening-time (c .before .before .loop .inv) (c .before .loop-test .taken) (c .before .before .before .before .before .pre)
 
 add-i : tie.Need-add-i Inv-loop μ-loop
 add-i c = search needs
+
+compare-requires : tie.Need-compare-requires Inv-loop μ-loop
+compare-requires c κs = search needs
+
+wider-requires : tie.Need-wider-requires Inv-loop μ-loop
+wider-requires c κs = search needs
 
 mul-slots : tie.Need-mul-slots Inv-loop μ-loop
 mul-slots c = search needs
@@ -44,13 +53,13 @@ loop-less : tie.Need-loop-less Inv-loop μ-loop
 loop-less c = simp length-set (omega arith)
 
 loop-again : tie.Need-loop-again Inv-loop μ-loop
-loop-again c = widening-stays (c .before .before .before .before .loop .inv) (c .before .before .before .loop-test .taken) (c .before .finish .result) (c .before .finish .ensures) (c .if1 .taken)
+loop-again c = widening-stays (c .before .before .before .before .before .before .loop .inv) (c .before .before .before .before .before .loop-test .taken) (c .before .before .before .interval .result) (c .before .before .before .interval .ensures) (c .before .before .compare .ensures) (c .before .wider .ensures) (not-true _ (c .if1 .taken))
 
 loop-less-2 : tie.Need-loop-less-2 Inv-loop μ-loop
 loop-less-2 c = search needs
 
 loop-again-2 : tie.Need-loop-again-2 Inv-loop μ-loop
-loop-again-2 c = widening-goes (c .before .before .before .before .loop .inv) (c .before .before .before .loop-test .taken) (c .before .finish .result) (c .before .finish .ensures) (c .if1 .left)
+loop-again-2 c = widening-goes (c .before .before .before .before .before .before .loop .inv) (c .before .before .before .before .before .loop-test .taken) (c .before .before .before .interval .result) (c .before .before .before .interval .ensures) (c .before .before .compare .ensures) (c .before .wider .ensures) (not-false _ (c .if1 .left))
 
 same-length : tie.Need-same-length Inv-loop μ-loop
 same-length c = search needs
@@ -67,8 +76,10 @@ keep-outer-spec =
     loop-holds
     mul-x
     slice-read-x
-    finish-requires
+    interval-requires
     add-i
+    compare-requires
+    wider-requires
     mul-slots
     slice-write-slots
     add-n

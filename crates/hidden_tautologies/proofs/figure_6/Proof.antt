@@ -3,7 +3,7 @@ use mathlib.Core.Path.{sym, ap, subst, _∙_}
 use Rattle.stamp_columns.specs.Columns.{columns}
 use Rattle.stamp_columns.specs.Slots.{Slots}
 use Rattle.hidden.specs.Hidden.{byDiscovery}
-use Rattle.hidden_tautologies.proofs.Scanning.{slots-small, figure6-slots, figure6-is}
+use Rattle.hidden_tautologies.proofs.Scanning.{scanned-one, scanned-other, slots-small, figure6-scanned, figure6-is}
 use borrow.Author.Needs.{needs}
 use Rattle.hidden_tautologies.proofs.figure_6.Statement.{statement}
 use Rattle.hidden_tautologies.proofs.figure_6.Tie as tie
@@ -14,16 +14,16 @@ use Rattle.discovery_order.proofs.sort_slots.Reads as sort-slots-reads
 use Rattle.hidden_tautologies.proofs.scan.Reads as scan-reads
 
 twins-of-requires : tie.Need-twins-of-requires
-twins-of-requires c κs = (slots-small (c .before .before .before .before .before .pre .0), c .before .before .before .before .before .pre .2)
+twins-of-requires c κs = (slots-small (scanned-one (c .before .before .before .before .before .pre .0)), c .before .before .before .before .before .pre .1)
 
 sort-slots-requires : tie.Need-sort-slots-requires
-sort-slots-requires c κs = search needs
+sort-slots-requires c κs = scanned-one (c .before .before .before .before .before .before .before .before .before .pre .0)
 
 sort-slots-requires-2 : tie.Need-sort-slots-requires-2
-sort-slots-requires-2 c κs = subst (Slots (c .before .before .before .before .before .before .before .before .before .before .before .before .before .args .times .now)) (sym (c .before .before .before .before .before .before .before .twins-of .ensures)) (c .before .before .before .before .before .before .before .before .before .before .before .before .before .pre .1)
+sort-slots-requires-2 c κs = subst (Slots (c .before .before .before .before .before .before .before .before .before .before .before .before .before .args .times .now)) (sym (c .before .before .before .before .before .before .before .twins-of .ensures)) (scanned-other (c .before .before .before .before .before .before .before .before .before .before .before .before .before .pre .0))
 
 scan-requires : tie.Need-scan-requires
-scan-requires c κs = figure6-slots (c .before .before .before .before .before .before .before .before .before .before .before .before .before .before .before .before .before .before .args .times .now) (c .before .before .before .before .before .before .before .before .before .before .before .before .before .before .before .before .before .before .args .slots .now) (c .before .before .before .before .before .before .before .before .sort-slots .last .0) (c .before .before .before .before .sort-slots2 .last .0) (c .before .before .before .before .before .before .before .before .sort-slots .ensures) (λ links. c .before .before .before .before .sort-slots2 .ensures links ∙ ap (byDiscovery (columns (c .before .before .before .before .before .before .before .before .before .before .before .before .before .before .before .before .before .before .args .times .now) links)) (c .before .before .before .before .before .before .before .before .before .before .before .before .twins-of .ensures)) (c .before .before .before .before .before .before .before .before .before .before .before .before .before .before .before .before .before .before .pre .0) (c .before .before .before .before .before .before .before .before .before .before .before .before .before .before .before .before .before .before .pre .1)
+scan-requires c κs = figure6-scanned (c .before .before .before .before .before .before .before .before .before .before .before .before .before .before .before .before .before .before .args .times .now) (c .before .before .before .before .before .before .before .before .before .before .before .before .before .before .before .before .before .before .args .slots .now) (c .before .before .before .before .before .before .before .before .sort-slots .last .0) (c .before .before .before .before .sort-slots2 .last .0) (c .before .before .before .before .before .before .before .before .sort-slots .ensures) (λ links. c .before .before .before .before .sort-slots2 .ensures links ∙ ap (byDiscovery (columns (c .before .before .before .before .before .before .before .before .before .before .before .before .before .before .before .before .before .before .args .times .now) links)) (c .before .before .before .before .before .before .before .before .before .before .before .before .twins-of .ensures)) (c .before .before .before .before .before .before .before .before .before .before .before .before .before .before .before .before .before .before .pre .0)
 
 same-length : tie.Need-same-length
 same-length c = search needs

@@ -1,7 +1,7 @@
 -- `hidden_tautologies::hidden_tautology` meets its contract. Assumes nothing.
 use mathlib.Core.Path.{sym, _∙_}
 use mathlib.Core.List.{[]}
-use Rattle.hidden_tautologies.proofs.Judging.{judged-lits, judged-slots, judged-twins, judged-two, verdict-long, verdict-pair}
+use Rattle.hidden_tautologies.proofs.Judging.{judged-lits, judged-slots, judged-scanned, judged-two, verdict-long, verdict-pair}
 use borrow.Author.Needs.{needs}
 use Rattle.hidden_tautologies.proofs.hidden_tautology.Statement.{statement}
 use Rattle.hidden_tautologies.proofs.hidden_tautology.Tie as tie
@@ -16,7 +16,7 @@ slots-of-requires : tie.Need-slots-of-requires
 slots-of-requires c κs = (judged-lits (c .before .before .before .before .pre .0), c .before .before .before .before .pre .2)
 
 figure-6-requires : tie.Need-figure-6-requires
-figure-6-requires c κs = let s = c .before .before .before .before .before .slots-of in (judged-slots (c .before .before .before .before .before .before .before .before .before .before .pre .0) (s .last .1 .0) (s .ensures), judged-twins (c .before .before .before .before .before .before .before .before .before .before .pre .0) (s .last .1 .0) (s .ensures), c .before .before .before .before .before .before .before .before .before .before .pre .3 ∙ sym (c .before .before .before .before .before .before .before .before .before .before .pre .2) ∙ sym (s .kept .1 .0))
+figure-6-requires c κs = let s = c .before .before .before .before .before .slots-of in (judged-scanned (c .before .before .before .before .before .before .before .before .before .before .pre .0) (s .last .1 .0) (s .ensures), c .before .before .before .before .before .before .before .before .before .before .pre .3 ∙ sym (c .before .before .before .before .before .before .before .before .before .before .pre .2) ∙ sym (s .kept .1 .0))
 
 same-length : tie.Need-same-length
 same-length c = search needs
