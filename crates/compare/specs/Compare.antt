@@ -1,12 +1,12 @@
 -- Document 02, CR 6: "The viewer asks twice for each pair. The comparison is to give one of five answers". By the stamp records as they stand: literals v and -v have records 2v - 2 and 2v - 1.
 -- Assumes nothing: these are definitions.
-use Prim.Native.Nat.{ℕ}
+use Prim.Native.Nat.{ℕ, _≤_}
 use mathlib.Core.Bool.{Bool, true, false, _&&_}
 use mathlib.Core.List.{List}
 use lib.Dec.{leb}
 use lib.ListN.{length}
 use lib.IntN.{ℤ}
-use Rattle.literal.specs.Literals.{inRange, slotOf}
+use Rattle.literal.specs.Literals.{Literal, inRange, slotOf}
 use Rattle.state.specs.declared.Refusal.the-variants.{Shape}
 use Rattle.state.specs.Answers.{refusalNumber, resultBy}
 use Rattle.intervals.specs.declared.Interval.{Interval}
@@ -29,6 +29,14 @@ comparable times v p q = leb 4096 (length times) && (hasRecord v p && hasRecord 
 
 unfoldable pub compareCall : List ℕ → ℕ → ℤ → ℤ → Comparison
 compareCall times v p q = elim (comparable times v p q) [ true ↦ Answered (compare (intervalOf times p) (intervalOf times q)) | false ↦ Refused Shape ]
+
+-- the same as a rule: an answer is given exactly if it holds (law `compare-given`)
+pub record MayCompare (times : List ℕ) (v : ℕ) (p q : ℤ) : Type 0 where
+  pub long : 4096 ≤ length times
+  pub first : Literal v p
+  pub second : Literal v q
+  pub first-record : Literal 1024 p
+  pub second-record : Literal 1024 q
 
 -- the answer for the two literals the other way round
 abbrev pub otherWay : Comparison → Comparison
