@@ -1,9 +1,15 @@
 -- `hidden_literals::has_slot` meets its contract. Assumes nothing.
 use Rattle.discovery_order.proofs.Sorting.{slot-at}
 use Rattle.hidden_literals.proofs.Loops.{Halving, halving-read, halving-done, halving-up, halving-down, among-at}
-use mathlib.Core.Path.{sym, _∙_}
+use mathlib.Core.Path.{_≡_, sym, _∙_}
+use mathlib.Core.List.{[]}
 use native.Mathlib.Omega.{arith}
-use Prim.Native.Nat.{_+_, _-_, _/_, _≤_, _<_}
+use Prim.Native.Nat.{ℕ, _+_, _-_, _/_, _≤_, _<_}
+use lib.Dec.{ltb}
+use lib.ListN.{getD}
+use Rattle.walk.specs.Walk.{Stamps}
+use Rattle.walk.specs.Forest.{discoveryAt}
+use Rattle.stamp_columns.specs.Columns.{columns}
 use borrow.Author.Tests.{ltb-true, ltb-false}
 use borrow.Author.Needs.{needs}
 use Rattle.hidden_literals.proofs.has_slot.Statement.{statement}
@@ -23,6 +29,17 @@ abbrev μ-loop : tie.MeasureT-loop
 -- the middle lies between
 middle : (c : tie.In-loop Inv-loop μ-loop) → (c .before .loop .low ≤ c .before .loop .low + (c .before .loop .high - c .before .loop .low) / 2) × (c .before .loop .low + (c .before .loop .high - c .before .loop .low) / 2 < c .before .loop .high)
 middle c = let h = c .loop-test .taken in (omega arith, omega arith)
+
+-- whether the slot in the middle is discovered before s, as the loop has asked it
+module _ (c : tie.After-begins-first Inv-loop μ-loop) where
+  abbrev stamps : Stamps
+  stamps = columns (c .before .before .before .before .before .before .before .before .before .before .args .times .now) []
+
+  abbrev mid : ℕ
+  mid = c .before .before .before .before .before .before .loop .low + (c .before .before .before .before .before .before .loop .high - c .before .before .before .before .before .before .loop .low) / 2
+
+  first : ltb (discoveryAt stamps (getD (c .before .before .before .before .before .before .before .before .before .before .args .slots .now) mid 0)) (discoveryAt stamps (c .before .before .before .before .before .before .before .before .before .before .args .s)) ≡ c .begins-first .result
+  first = let m = middle (c .before .before .before .before .before) in halving-read (c .before .before .before .before .before .before .loop .inv) (c .before .before .before .before .before .before .before .before .before .before .pre .2) mid (m .0) (m .1) (c .before .before .before .if1 .left) (c .before .before .interval2 .ensures) (c .before .before .before .before .before .before .before .interval .ensures) (c .before .compare .ensures) (c .begins-first .ensures)
 
 interval-requires : tie.Need-interval-requires Inv-loop μ-loop
 interval-requires c κs = search needs
@@ -61,13 +78,13 @@ loop-less : tie.Need-loop-less Inv-loop μ-loop
 loop-less c = search needs
 
 loop-again : tie.Need-loop-again Inv-loop μ-loop
-loop-again c = let m = middle (c .before .before .before .before .before .before) in halving-up (c .before .before .before .before .before .before .before .loop .inv) (c .before .before .before .before .before .before .before .before .before .before .before .pre .2) _ (m .0) (m .1) (c .before .before .before .before .if1 .left) (ltb-true _ _ (halving-read (c .before .before .before .before .before .before .before .loop .inv) (c .before .before .before .before .before .before .before .before .before .before .before .pre .2) _ (m .0) (m .1) (c .before .before .before .before .if1 .left) (c .before .before .before .interval2 .ensures) (c .before .before .before .before .before .before .before .before .interval .ensures) (c .before .before .compare .ensures) (c .before .begins-first .ensures) ∙ c .if2 .taken))
+loop-again c = let m = middle (c .before .before .before .before .before .before) in halving-up (c .before .before .before .before .before .before .before .loop .inv) (c .before .before .before .before .before .before .before .before .before .before .before .pre .2) _ (m .0) (m .1) (c .before .before .before .before .if1 .left) (ltb-true _ _ (first (c .before) ∙ c .if2 .taken))
 
 loop-less-2 : tie.Need-loop-less-2 Inv-loop μ-loop
 loop-less-2 c = search needs
 
 loop-again-2 : tie.Need-loop-again-2 Inv-loop μ-loop
-loop-again-2 c = let m = middle (c .before .before .before .before .before .before) in halving-down (c .before .before .before .before .before .before .before .loop .inv) (c .before .before .before .before .before .before .before .before .before .before .before .pre .2) _ (m .0) (m .1) (c .before .before .before .before .if1 .left) (ltb-false _ _ (halving-read (c .before .before .before .before .before .before .before .loop .inv) (c .before .before .before .before .before .before .before .before .before .before .before .pre .2) _ (m .0) (m .1) (c .before .before .before .before .if1 .left) (c .before .before .before .interval2 .ensures) (c .before .before .before .before .before .before .before .before .interval .ensures) (c .before .before .compare .ensures) (c .before .begins-first .ensures) ∙ c .if2 .left))
+loop-again-2 c = let m = middle (c .before .before .before .before .before .before) in halving-down (c .before .before .before .before .before .before .before .loop .inv) (c .before .before .before .before .before .before .before .before .before .before .before .pre .2) _ (m .0) (m .1) (c .before .before .before .before .if1 .left) (ltb-false _ _ (first (c .before) ∙ c .if2 .left))
 
 returns-2 : tie.Need-returns-2 Inv-loop μ-loop
 returns-2 c = sym (halving-done (c .before .loop .inv) (c .loop-test .left))
