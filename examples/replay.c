@@ -5,11 +5,13 @@
  *     propagate N, merge N, sweep N, run N
  *     stamp L L ..                the order, at most 4,096 literals
  *     failed
+ *     programme C C ..            the codes that `run` follows, at most 64, each 0 to 255
  *     write K                     into an output of K bytes, at most 131,072
- *     state, clauses, literals, variables, stamps
+ *     state, codes, clauses, literals, variables, stamps
  *     compare P Q                 how the intervals of two literals lie, by the stamps as they stand
  *     lend TABLE K                from now on the calls are lent the first K records of a table
  *     set TABLE RECORD FIELD VALUE, set state FIELD VALUE
+ *     set programme FIELD VALUE   field 0 is the length, 1 to 32 are the codes; 0 to 255
  *
  * Words are separated by single spaces, numbers are decimal without leading zeros. A refused call prints `refused NUMBER PLACE`.
  * A line that is none of these prints `error LINE`, its number from 1, and ends the replay; an input of more than 1,048,576 bytes
@@ -27,7 +29,7 @@
 
 #include "unhide.h"
 
-enum { MOST_INPUT = 1048576, MOST_STEPS = 65535, MOST_LISTED = 4096, MOST_ROOM = 131072 };
+enum { MOST_INPUT = 1048576, MOST_STEPS = 65535, MOST_LISTED = 4096, MOST_ROOM = 131072, MOST_CODES = 64, MOST_CODE = 255 };
 
 /* ---- tables */
 
@@ -39,11 +41,13 @@ static int32_t literals[UNHIDE_LITERALS + EXTRA];
 static int32_t variables[2 * (UNHIDE_VARIABLES + EXTRA)];
 static uint32_t times[2 * (UNHIDE_SLOTS + EXTRA)];
 static int32_t links[2 * (UNHIDE_SLOTS + EXTRA)];
-static uint32_t state[7];
 static uint64_t answer[4];
 
-/* The numbers of the state. */
-enum { V, N, PASS, CURSOR, CHANGED, FRESH, MARK };
+/* The numbers of the state. Behind the length stand the codes of the programme, which is the constant one before the first load. */
+enum { V, N, PASS, CURSOR, CHANGED, FRESH, MARK, LENGTH, CODES };
+
+static uint32_t state[CODES + UNHIDE_CODES] = {
+    [LENGTH] = 4, [CODES] = UNHIDE_CODE_SETTLE, UNHIDE_CODE_STAMP, UNHIDE_CODE_FAILED, UNHIDE_CODE_SWEEP};
 
 enum table_name { CLAUSES, LITERALS, VARIABLES, STAMPS, TABLES };
 
@@ -316,6 +320,26 @@ static int take_run(const struct line *line) {
     return 1;
 }
 
+static int take_programme(const struct line *line) {
+    static uint32_t listed[MOST_CODES];
+    size_t count = line->count - 1;
+    if (count > MOST_CODES)
+        return 0;
+    for (size_t i = 0; i < count; i++) {
+        int64_t code;
+        if (!read_number(line->words[i + 1], 0, MOST_CODE, &code))
+            return 0;
+        listed[i] = (uint32_t)code;
+    }
+    struct loan loan = lend_all();
+    uint32_t *codes = lend(listed, count * sizeof listed[0]);
+    int64_t result = unhide_set_programme(LENT(loan), codes, count);
+    take_back(listed, codes, count * sizeof listed[0]);
+    take_all_back(loan);
+    print_answer(result, "set", 0);
+    return 1;
+}
+
 static int take_write(const struct line *line) {
     static uint8_t room[MOST_ROOM];
     int64_t length;
@@ -340,6 +364,15 @@ static int take_state(const struct line *line) {
     printf("state");
     for (int i = V; i <= MARK; i++)
         printf(" %" PRIu32, state[i]);
+    printf("\n");
+    return 1;
+}
+
+static int take_codes(const struct line *line) {
+    (void)line;
+    printf("codes");
+    for (uint32_t i = 0; i < state[LENGTH] && i < UNHIDE_CODES; i++)
+        printf(" %" PRIu32, state[CODES + i]);
     printf("\n");
     return 1;
 }
@@ -444,6 +477,12 @@ static int set_state(struct word field_word, struct word value) {
     return read_number(field_word, V, MARK, &field) && set_unsigned(&state[field], value, most[field]);
 }
 
+/* The length, or a code counted from 1. */
+static int set_programme(struct word field_word, struct word value) {
+    int64_t field;
+    return read_number(field_word, 0, UNHIDE_CODES, &field) && set_unsigned(&state[LENGTH + field], value, MOST_CODE);
+}
+
 /* A number of a stamp: discovery and finish are times, parent and start are links. */
 static int set_stamp(int64_t record, int64_t field, struct word value) {
     return field < 2 ? set_unsigned(&times[2 * record + field], value, UINT32_MAX) : set_signed(&links[2 * record + field - 2], value);
@@ -472,6 +511,8 @@ static int take_set(const struct line *line) {
     const struct word *words = line->words;
     if (line->count == 4 && is_word(words[1], "state"))
         return set_state(words[2], words[3]);
+    if (line->count == 4 && is_word(words[1], "programme"))
+        return set_programme(words[2], words[3]);
     enum table_name table = line->count == 5 ? find_table(words[1]) : TABLES;
     return table != TABLES && set_record(table, words[2], words[3], words[4]);
 }
@@ -493,8 +534,10 @@ static const struct form forms[] = {
     {"stamp", 0, take_stamp},
     {"failed", 1, take_failed},
     {"run", 2, take_run},
+    {"programme", 0, take_programme},
     {"write", 2, take_write},
     {"state", 1, take_state},
+    {"codes", 1, take_codes},
     {"clauses", 1, take_clauses},
     {"literals", 1, take_literals},
     {"variables", 1, take_variables},

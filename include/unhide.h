@@ -25,40 +25,43 @@ extern "C" {
  *    -3   the formula is larger than the limits above, names a variable that its header does not have,
  *         or has more or fewer clauses than its header says
  *   -10   the output is shorter than the text to write
- * The other refusals of the library, -1 and -4 to -9, are about tables, passes and stamps that a caller lends; here none of these is lent.
+ * The other refusals of the library, -1, -4 to -9 and -12, are about tables, passes, stamps and programmes that a caller lends; here none
+ * of these is lent, and the rounds are those of the constant programme.
  * The same law says that nothing else is returned.
  *
  * A formula that has an empty clause is written without a round, as `p cnf V 1` and the clause `0`; a formula that turns out
  * to have no satisfying assignment is written alike.
  *
  * Nothing is kept between calls, nothing is allocated, and calls in several threads do not disturb each other. The tables
- * lie on the stack, and a walk through the formula's implications goes as deep as they do: a call takes 991,232 bytes of stack at the most
+ * lie on the stack, and a walk through the formula's implications goes as deep as they do: a call takes 995,328 bytes of stack at the most
  * (tests/c/stack.c measures it, on a formula whose walk enters 2,047 literals before it leaves one). A stack of 1 MiB is enough. */
 int64_t unhide_text(const uint8_t *text, size_t text_len, uint16_t rounds, uint8_t *out, size_t out_len);
 
 /* ---- calls on tables that the caller lends
  *
  * The tables hold a formula, the state says what is known about them, and every call leaves both so that the next can go on.
- * All tables and the state zero is a formula of no variables and no clauses, with no pass open; a load brings in another.
+ * A first load may be given tables and a state that are all zero. The other calls refuse that state, since a programme has at least
+ * one code.
  *
- *   unhide_load        reads a DIMACS text into the tables, whatever they hold; closes any pass
- *   unhide_propagate   unit propagation, n clauses in a call; resumes an open Propagate
- *   unhide_merge       equivalent literals become one, n clauses in a call; resumes an open Merge
- *   unhide_stamp       stamps all literals in the order given; the stamps are then fresh
- *   unhide_failed      sets the complements of failed literals, by fresh stamps
- *   unhide_sweep       drops hidden tautologies and removes hidden literals, by fresh stamps, n clauses in a call; resumes an open Sweep
- *   unhide_run         at most `count` rounds of whole Propagate and Merge passes, Stamp, Failed and Sweep
- *   unhide_write       writes what stands as DIMACS text; changes neither tables nor state
- *   unhide_compare     says how the intervals of two literals lie, by the stamps as they stand; needs no state and changes nothing
+ *   unhide_load            reads a DIMACS text into the tables, whatever they hold; closes any pass, puts the constant programme back
+ *   unhide_propagate       unit propagation, n clauses in a call; resumes an open Propagate
+ *   unhide_merge           equivalent literals become one, n clauses in a call; resumes an open Merge
+ *   unhide_stamp           stamps all literals in the order given; the stamps are then fresh
+ *   unhide_failed          sets the complements of failed literals, by fresh stamps
+ *   unhide_sweep           drops hidden tautologies and removes hidden literals, by fresh stamps, n clauses in a call; resumes an open Sweep
+ *   unhide_run             at most `count` rounds of the state's programme
+ *   unhide_set_programme   replaces the state's programme; changes nothing else
+ *   unhide_write           writes what stands as DIMACS text; changes neither tables nor state
+ *   unhide_compare         says how the intervals of two literals lie, by the stamps as they stand; needs no state and changes nothing
  *
  * A call of Propagate, Merge or Sweep opens its pass, or resumes it where it is open, and makes at most n visits to clauses; Propagate goes
  * through the clauses again until one time through changes nothing. Where the answer says open, visits are left, and another call
- * goes on where this one stopped. While a pass is open the other passes and Run are refused; Load and Write are not. Opening Propagate
- * or Merge, the end of Sweep, the mark and a load spend the stamps: they are fresh no more.
+ * goes on where this one stopped. While a pass is open the other passes and Run are refused; Load, Write and Set programme are not.
+ * Opening Propagate or Merge, the end of Sweep, the mark and a load spend the stamps: they are fresh no more.
  *
  * Most callers use unhide_tables_load and so on, further below, with one `struct unhide_tables`. The calls that these make take a pointer
  * and a length, in numbers, for each slice: clauses, literals, variables, times, links, the state and the answer. The stated lengths
- * are 12,288, 16,384, 2,048, 4,096, 4,096, 7 and 4 numbers; what is lent beyond them is neither read nor written.
+ * are 12,288, 16,384, 2,048, 4,096, 4,096, 40 and 4 numbers; what is lent beyond them is neither read nor written.
  *
  * No pointer may be null, not even with a length of 0. Slices that are lent to one call must not overlap.
  *
@@ -66,21 +69,24 @@ int64_t unhide_text(const uint8_t *text, size_t text_len, uint16_t rounds, uint8
  * and not the state.
  *
  * Nothing is kept between calls and nothing is allocated. Calls in several threads on tables of their own do not disturb each other;
- * two threads must not use the same tables at the same time. Run needs the most stack, 835,584 bytes (measured as above); 896 KiB are
+ * two threads must not use the same tables at the same time. Run needs the most stack, 839,680 bytes (measured as above); 896 KiB are
  * enough. A thread that makes these calls should have 2 MiB. */
 
-/* The most that a formula may have, and the records of each table. There is a slot for each literal: 2v - 2 for v, 2v - 1 for -v. */
+/* The most that a formula may have, and the records of each table. There is a slot for each literal: 2v - 2 for v, 2v - 1 for -v.
+ * Last the most codes that a programme may have. */
 enum {
     UNHIDE_CLAUSES = 4096,
     UNHIDE_LITERALS = 16384,
     UNHIDE_VARIABLES = 1024,
-    UNHIDE_SLOTS = 2048
+    UNHIDE_SLOTS = 2048,
+    UNHIDE_CODES = 32
 };
 
 /* Refusals. Where several apply, the topmost holds; of -2 and -3 the one at the smaller offset. The place is 0 where none is named. */
 enum unhide_refusal {
-    /* all calls: a slice is shorter than stated (an answer of fewer than four numbers stays as it is), a number of the state is none
-     * that it can have, or (but for Load) tables and state break the rules that every call keeps: then the caller has written into them.
+    /* all calls: a slice is shorter than stated (an answer of fewer than four numbers stays as it is), a number of the state, its programme
+     * apart, is none that it can have, or (but for Load) tables and state, its programme included, break the rules that every call keeps:
+     * then nothing was loaded, or the caller has written into them.
      * Compare looks at no rules: it refuses fewer times than stated and literals that are not of the variables */
     UNHIDE_SHAPE = -1,
     /* the passes and Run: a pass is open, other than the one that this call resumes */
@@ -100,7 +106,9 @@ enum unhide_refusal {
     /* Load: the text is beyond a limit, or has more or fewer clauses than its header says. Place: the offset in the text */
     UNHIDE_LIMIT = -3,
     /* Write: the output is too short. Place: the length that is needed, at most 135,184 */
-    UNHIDE_OUTPUT = -10
+    UNHIDE_OUTPUT = -10,
+    /* Set programme: the codes break the rules of a programme. Place: the index of the first wrong code, 0 for a wrong length */
+    UNHIDE_PROGRAMME = -12
 };
 
 /* A clause: its `length` literals stand in the table of literals from `start` on. `standing` is 1, or 0 for a clause that was dropped,
@@ -147,6 +155,18 @@ enum unhide_pass {
     UNHIDE_SWEEP = 3
 };
 
+/* What the codes of a programme stand for. Settle is whole Propagate and Merge passes until a Merge finds no equivalent literals. Stamp
+ * takes the order 1, -1, 2, -2, .. in the first round, turned left by one place more in each that follows. Failed and Sweep are whole passes.
+ *
+ * A programme has 1 to 32 codes. Each stamp directly follows a settle. Each failed and each sweep has a stamp before it, with no settle and
+ * no sweep between. The constant programme is settle, stamp, failed, sweep. */
+enum unhide_code {
+    UNHIDE_CODE_SETTLE = 1,
+    UNHIDE_CODE_STAMP = 2,
+    UNHIDE_CODE_FAILED = 3,
+    UNHIDE_CODE_SWEEP = 4
+};
+
 struct unhide_state {
     /* V and N, dropped clauses counted */
     uint32_t variables, clauses;
@@ -155,9 +175,13 @@ struct unhide_state {
     uint32_t pass, cursor, changed;
     /* 1 or 0: the stamps are fresh; no assignment satisfies the formula */
     uint32_t fresh, mark;
+    /* what each round of Run follows: so many codes, numbers of enum unhide_code. A load and Set programme leave 0 behind them; what stands
+     * there is not looked at */
+    uint32_t programme_length;
+    uint32_t programme[UNHIDE_CODES];
 };
 
-/* All that a formula needs. These are 155,676 bytes: too many for a small stack. */
+/* All that a formula needs. These are 155,808 bytes: too many for a small stack. */
 struct unhide_tables {
     struct unhide_clause clauses[UNHIDE_CLAUSES];
     int32_t literals[UNHIDE_LITERALS];
@@ -180,7 +204,7 @@ typedef char unhide_clause_has_no_padding[sizeof(struct unhide_clause) == 3 * si
 typedef char unhide_variable_has_no_padding[sizeof(struct unhide_variable) == 2 * sizeof(int32_t) ? 1 : -1];
 typedef char unhide_times_has_no_padding[sizeof(struct unhide_times) == 2 * sizeof(uint32_t) ? 1 : -1];
 typedef char unhide_links_has_no_padding[sizeof(struct unhide_links) == 2 * sizeof(int32_t) ? 1 : -1];
-typedef char unhide_state_has_no_padding[sizeof(struct unhide_state) == 7 * sizeof(uint32_t) ? 1 : -1];
+typedef char unhide_state_has_no_padding[sizeof(struct unhide_state) == 40 * sizeof(uint32_t) ? 1 : -1];
 typedef char unhide_answer_has_no_padding[sizeof(struct unhide_answer) == 4 * sizeof(uint64_t) ? 1 : -1];
 
 /* ---- the calls on slices */
@@ -220,6 +244,14 @@ int64_t unhide_run(uint32_t *clauses, size_t clauses_len, int32_t *literals, siz
                    int32_t *variables, size_t variables_len,
                    uint32_t *times, size_t times_len, int32_t *links, size_t links_len,
                    uint32_t *state, size_t state_len, uint64_t *answer, size_t answer_len, uint16_t count);
+
+/* The state's programme becomes these codes. Refused with UNHIDE_SHAPE, then with UNHIDE_PROGRAMME where they break the rules of a programme
+ * (enum unhide_code); an open pass and the mark do not matter. `codes` is a slice that is lent: not the codes in the state. */
+int64_t unhide_set_programme(const uint32_t *clauses, size_t clauses_len, const int32_t *literals, size_t literals_len,
+                             const int32_t *variables, size_t variables_len,
+                             const uint32_t *times, size_t times_len, const int32_t *links, size_t links_len,
+                             uint32_t *state, size_t state_len, uint64_t *answer, size_t answer_len,
+                             const uint32_t *codes, size_t codes_len);
 
 int64_t unhide_write(const uint32_t *clauses, size_t clauses_len, const int32_t *literals, size_t literals_len,
                      const int32_t *variables, size_t variables_len,
@@ -296,6 +328,15 @@ static inline int64_t unhide_tables_run(struct unhide_tables *tables, uint16_t c
                       UNHIDE_LENT(int32_t, tables->variables), UNHIDE_LENT(uint32_t, tables->times),
                       UNHIDE_LENT(int32_t, tables->links), UNHIDE_LENT(uint32_t, tables->state),
                       UNHIDE_LENT(uint64_t, *answer), count);
+}
+
+static inline int64_t unhide_tables_set_programme(struct unhide_tables *tables, const uint32_t *codes, size_t codes_len,
+                                                  struct unhide_answer *answer)
+{
+    return unhide_set_programme(UNHIDE_LENT(const uint32_t, tables->clauses), UNHIDE_LENT(const int32_t, tables->literals),
+                                UNHIDE_LENT(const int32_t, tables->variables), UNHIDE_LENT(const uint32_t, tables->times),
+                                UNHIDE_LENT(const int32_t, tables->links), UNHIDE_LENT(uint32_t, tables->state),
+                                UNHIDE_LENT(uint64_t, *answer), codes, codes_len);
 }
 
 static inline int64_t unhide_tables_write(const struct unhide_tables *tables, uint8_t *out, size_t out_len, struct unhide_answer *answer)

@@ -1,5 +1,6 @@
 /* What the calls on slices do with a state that is none and with slices of other lengths: refusal 1 with place 0, before anything else is looked at,
- * and no number that they should not touch is touched. What differs is printed, and the exit status is then 1. */
+ * and no number that they should not touch is touched. Then programmes: those that no call but Load takes, and those that are set or refused.
+ * What differs is printed, and the exit status is then 1. */
 #include <stdio.h>
 #include <string.h>
 
@@ -14,69 +15,104 @@ static void compare(const char *name, long expected, long found) {
     differs = 1;
 }
 
+/* The numbers of the state, and how many it is lent with: two more than stated. */
+enum { PASS = 2, CURSOR = 3, CHANGED = 4, FRESH = 5, MARK = 6, LENGTH = 7, CODES = 8, STATED = 40, LENT = 42 };
+
 static uint32_t clauses[3 * UNHIDE_CLAUSES];
 static int32_t literals[UNHIDE_LITERALS];
 static int32_t variables[2 * UNHIDE_VARIABLES];
 static uint32_t times[2 * UNHIDE_SLOTS];
 static int32_t links[2 * UNHIDE_SLOTS];
-static uint32_t state[9];
+static uint32_t state[LENT];
 static uint64_t answer[6];
 static uint8_t out[64];
 
 static const uint8_t text[] = "p cnf 4 3\n-1 2 0\n-2 3 0\n1 3 4 0\n";
+static const uint32_t constant[] = {UNHIDE_CODE_SETTLE, UNHIDE_CODE_STAMP, UNHIDE_CODE_FAILED, UNHIDE_CODE_SWEEP};
+static const uint32_t other[] = {UNHIDE_CODE_SETTLE, UNHIDE_CODE_STAMP, UNHIDE_CODE_SWEEP};
 
 #define TABLES clauses, 3 * UNHIDE_CLAUSES, literals, UNHIDE_LITERALS, variables, 2 * UNHIDE_VARIABLES, times, 2 * UNHIDE_SLOTS, links, 2 * UNHIDE_SLOTS
 
-enum { CALLS = 8 };
+enum { LOAD, PROPAGATE, MERGE, STAMP, FAILED, SWEEP, RUN, SET_PROGRAMME, WRITE, CALLS };
 
-static const char *const names[CALLS] = {"load", "propagate", "merge", "stamp", "failed", "sweep", "run", "write"};
+static const char *const names[CALLS] = {"load", "propagate", "merge", "stamp", "failed", "sweep", "run", "set programme", "write"};
 
 static int64_t call(int which, size_t state_len, size_t answer_len) {
     switch (which) {
-    case 0:
+    case LOAD:
         return unhide_load(text, sizeof text - 1, TABLES, state, state_len, answer, answer_len);
-    case 1:
+    case PROPAGATE:
         return unhide_propagate(TABLES, state, state_len, answer, answer_len, 1);
-    case 2:
+    case MERGE:
         return unhide_merge(TABLES, state, state_len, answer, answer_len, 1);
-    case 3:
+    case STAMP:
         return unhide_stamp(TABLES, state, state_len, answer, answer_len, literals, 0);
-    case 4:
+    case FAILED:
         return unhide_failed(TABLES, state, state_len, answer, answer_len);
-    case 5:
+    case SWEEP:
         return unhide_sweep(TABLES, state, state_len, answer, answer_len, 1);
-    case 6:
+    case RUN:
         return unhide_run(TABLES, state, state_len, answer, answer_len, 1);
+    case SET_PROGRAMME:
+        return unhide_set_programme(TABLES, state, state_len, answer, answer_len, other, 3);
     default:
         return unhide_write(TABLES, state, state_len, answer, answer_len, out, sizeof out);
     }
 }
 
-/* The state of an empty formula, with 7 behind it, and an answer of 7s. */
-static void prepare(void) {
+/* A state of zeros with 7 behind it, and an answer of 7s. */
+static void prepare_zeros(void) {
     memset(state, 0, sizeof state);
-    state[7] = state[8] = 7;
+    state[STATED] = state[STATED + 1] = 7;
     for (int i = 0; i < 6; i++)
         answer[i] = 7;
 }
 
-/* Each call, with one number of the state changed, is refused with 1 and changes nothing but the place. */
-static void compare_refused(const char *what, int field, uint32_t pass, uint32_t value, size_t state_len, size_t answer_len) {
+/* The state of an empty formula, with the constant programme. */
+static void prepare(void) {
+    prepare_zeros();
+    state[LENGTH] = 4;
+    memcpy(state + CODES, constant, sizeof constant);
+}
+
+/* A call on the state as it is: refused with 1, and nothing changes but the place. */
+static void compare_unmade(const char *what, int which, size_t state_len, size_t answer_len) {
     static const uint64_t untouched[6] = {7, 7, 7, 7, 7, 7};
+    char name[64];
+    uint32_t before[LENT];
+    memcpy(before, state, sizeof state);
+    sprintf(name, "%s, %s", names[which], what);
+    int64_t result = call(which, state_len, answer_len);
+    int place = answer_len < 4 ? answer[0] == 7 : answer[0] == 0;
+    int rest = memcmp(answer + 1, untouched + 1, 5 * sizeof answer[0]) == 0;
+    int same = memcmp(state, before, sizeof state) == 0;
+    compare(name, -1, result == -1 && place && rest && same ? -1 : 0);
+}
+
+/* Each call, with one number of the state changed, is refused. */
+static void compare_refused(const char *what, int field, uint32_t pass, uint32_t value, size_t state_len, size_t answer_len) {
     for (int which = 0; which < CALLS; which++) {
-        char name[64];
-        uint32_t before[9];
         prepare();
-        state[2] = pass;
+        state[PASS] = pass;
         state[field] = value;
-        memcpy(before, state, sizeof state);
-        sprintf(name, "%s, %s", names[which], what);
-        int64_t result = call(which, state_len, answer_len);
-        int place = answer_len < 4 ? answer[0] == 7 : answer[0] == 0;
-        int rest = memcmp(answer + 1, untouched + 1, 5 * sizeof answer[0]) == 0;
-        int same = memcmp(state, before, sizeof state) == 0;
-        compare(name, -1, result == -1 && place && rest && same ? -1 : 0);
+        compare_unmade(what, which, state_len, answer_len);
     }
+}
+
+static void compare_states(void) {
+    compare_refused("state of 39 numbers", PASS, 0, 0, STATED - 1, 6);
+    compare_refused("no state", PASS, 0, 0, 0, 6);
+    compare_refused("answer of three numbers", PASS, 0, 0, LENT, 3);
+    compare_refused("no answer", PASS, 0, 0, LENT, 0);
+    compare_refused("pass 4", PASS, 0, 4, LENT, 6);
+    compare_refused("pass 4294967295", PASS, 0, 4294967295u, LENT, 6);
+    compare_refused("cursor without a pass", CURSOR, 0, 1, LENT, 6);
+    compare_refused("change without a pass", CHANGED, 0, 1, LENT, 6);
+    compare_refused("change in Merge", CHANGED, 2, 1, LENT, 6);
+    compare_refused("change in Sweep", CHANGED, 3, 1, LENT, 6);
+    compare_refused("change 2", CHANGED, 1, 2, LENT, 6);
+    compare_refused("fresh 2", FRESH, 0, 2, LENT, 6);
+    compare_refused("mark 2", MARK, 0, 2, LENT, 6);
 }
 
 /* With longer slices a call is made, and what is behind stays. */
@@ -84,14 +120,15 @@ static void compare_longer(void) {
     for (int which = 0; which < CALLS; which++) {
         char name[64];
         prepare();
-        int64_t result = call(which, 9, 6);
-        int kept = state[7] == 7 && state[8] == 7 && answer[4] == 7 && answer[5] == 7;
+        int64_t result = call(which, LENT, 6);
+        int kept = state[STATED] == 7 && state[STATED + 1] == 7 && answer[4] == 7 && answer[5] == 7;
         /* the stamps are not fresh */
-        int64_t expected = which == 4 || which == 5 ? UNHIDE_STALE : 0;
+        int64_t expected = which == FAILED || which == SWEEP ? UNHIDE_STALE : 0;
         sprintf(name, "%s, longer slices", names[which]);
         compare(name, expected, result);
         compare(name, 1, kept);
         compare(name, result == 0 ? 0 : 7, (long)(answer[1] | answer[2] | answer[3]));
+        compare(name, which == SET_PROGRAMME ? 3 : 4, (long)state[LENGTH]);
     }
 }
 
@@ -115,22 +152,125 @@ static void compare_compare(void) {
     memset(times, 0, sizeof times);
 }
 
+/* ---- programmes */
+
+/* A load on the state as it is: made, and the state has the constant programme with zeros behind it. */
+static void compare_loaded(const char *what) {
+    uint32_t expected[LENT] = {4, 3, 0, 0, 0, 0, 0, 4, 1, 2, 3, 4};
+    char name[64];
+    expected[STATED] = expected[STATED + 1] = 7;
+    sprintf(name, "load, %s", what);
+    compare(name, 0, (long)call(LOAD, LENT, 6));
+    compare(name, 0, memcmp(state, expected, sizeof state));
+}
+
+/* A state of zeros: Load takes it, every other call refuses it. */
+static void compare_zeros(void) {
+    prepare_zeros();
+    compare_loaded("state of zeros");
+    for (int which = LOAD + 1; which < CALLS; which++) {
+        prepare_zeros();
+        compare_unmade("state of zeros", which, LENT, 6);
+    }
+}
+
+/* The same for the constant programme with one number changed. */
+static void compare_damaged(const char *what, int field, uint32_t value) {
+    prepare();
+    state[field] = value;
+    compare_loaded(what);
+    for (int which = LOAD + 1; which < CALLS; which++) {
+        prepare();
+        state[field] = value;
+        compare_unmade(what, which, LENT, 6);
+    }
+}
+
+static void compare_all_damaged(void) {
+    compare_damaged("programme of no codes", LENGTH, 0);
+    compare_damaged("programme of a code too many", LENGTH, 5);
+    compare_damaged("programme of 33 codes", LENGTH, 33);
+    compare_damaged("programme of 4294967295 codes", LENGTH, 4294967295u);
+    compare_damaged("code 0", CODES, 0);
+    compare_damaged("code 5", CODES + 3, 5);
+    compare_damaged("code 4294967295", CODES + 3, 4294967295u);
+    compare_damaged("stamp at the beginning", CODES, 2);
+    compare_damaged("stamp behind a stamp", CODES + 2, 2);
+    compare_damaged("failed without a stamp", CODES + 1, 3);
+    compare_damaged("sweep behind a sweep", CODES + 2, 4);
+    compare_damaged("settle before a sweep", CODES + 2, 1);
+}
+
+/* Sets codes over the constant programme, which has a 9 behind it: zeros are behind one that is set, and the 9 where it is refused. */
+static void compare_set(const char *name, long result, long place, const uint32_t *codes, size_t count) {
+    uint32_t expected[LENT];
+    prepare();
+    state[CODES + 4] = 9;
+    memcpy(expected, state, sizeof state);
+    if (result == 0) {
+        expected[LENGTH] = (uint32_t)count;
+        memset(expected + CODES, 0, UNHIDE_CODES * sizeof expected[0]);
+        memcpy(expected + CODES, codes, count * sizeof codes[0]);
+    }
+    compare(name, result, (long)unhide_set_programme(TABLES, state, LENT, answer, 6, codes, count));
+    compare(name, place, (long)answer[0]);
+    compare(name, result == 0 ? 0 : 7, (long)(answer[1] | answer[2] | answer[3]));
+    compare(name, 0, memcmp(state, expected, sizeof state));
+}
+
+/* Programmes by their length, of settles alone. */
+static void compare_lengths(void) {
+    uint32_t codes[33];
+    for (int i = 0; i < 33; i++)
+        codes[i] = UNHIDE_CODE_SETTLE;
+    compare_set("no codes", UNHIDE_PROGRAMME, 0, codes, 0);
+    compare_set("a settle", 0, 0, codes, 1);
+    compare_set("32 codes", 0, 0, codes, 32);
+    compare_set("33 codes", UNHIDE_PROGRAMME, 0, codes, 33);
+    codes[31] = 5;
+    compare_set("the last of 32 codes wrong", UNHIDE_PROGRAMME, 31, codes, 32);
+    compare_set("33 codes and a wrong one", UNHIDE_PROGRAMME, 0, codes, 33);
+    compare_set("a wrong code that is not lent", 0, 0, codes, 31);
+}
+
+/* Programmes by their codes: all that fits, then a code that does not, at the end or with others behind it. */
+static void compare_codes(void) {
+    static const uint32_t all[] = {1, 1, 2, 3, 3, 4, 1, 2, 4, 1, 2, 3};
+    static const uint32_t wrong[][5] = {
+        {0, 1, 2, 3, 4}, {1, 5, 2, 3, 4}, {1, 4294967295u, 2, 3, 4}, {2, 1, 2, 3, 4}, {3, 1, 2, 3, 4},
+        {1, 2, 2, 3, 4}, {1, 2, 3, 2, 4}, {1, 2, 1, 3, 4},           {1, 2, 4, 4, 0}, {1, 2, 3, 4, 3},
+    };
+    static const long places[] = {0, 1, 1, 0, 0, 2, 3, 3, 3, 4};
+    compare_set("all that fits", 0, 0, all, sizeof all / sizeof all[0]);
+    for (int i = 0; i < 10; i++) {
+        char name[64];
+        sprintf(name, "wrong codes, list %d", i + 1);
+        compare_set(name, UNHIDE_PROGRAMME, places[i], wrong[i], 5);
+    }
+}
+
+/* A code behind the length is not judged by any call, and stays but for a load and a programme that is set. */
+static void compare_behind(void) {
+    for (int which = 0; which < CALLS; which++) {
+        char name[64];
+        prepare();
+        state[CODES + 4] = 9;
+        int64_t expected = which == FAILED || which == SWEEP ? UNHIDE_STALE : 0;
+        sprintf(name, "%s, code behind the length", names[which]);
+        compare(name, expected, (long)call(which, LENT, 6));
+        compare(name, which == LOAD || which == SET_PROGRAMME ? 0 : 9, (long)state[CODES + 4]);
+    }
+}
+
 int main(void) {
     compare_compare();
-    compare_refused("state of six numbers", 2, 0, 0, 6, 6);
-    compare_refused("no state", 2, 0, 0, 0, 6);
-    compare_refused("answer of three numbers", 2, 0, 0, 9, 3);
-    compare_refused("no answer", 2, 0, 0, 9, 0);
-    compare_refused("pass 4", 2, 0, 4, 9, 6);
-    compare_refused("pass 4294967295", 2, 0, 4294967295u, 9, 6);
-    compare_refused("cursor without a pass", 3, 0, 1, 9, 6);
-    compare_refused("change without a pass", 4, 0, 1, 9, 6);
-    compare_refused("change in Merge", 4, 2, 1, 9, 6);
-    compare_refused("change in Sweep", 4, 3, 1, 9, 6);
-    compare_refused("change 2", 4, 1, 2, 9, 6);
-    compare_refused("fresh 2", 5, 0, 2, 9, 6);
-    compare_refused("mark 2", 6, 0, 2, 9, 6);
+    compare_states();
     compare_longer();
+    compare_zeros();
+    compare_all_damaged();
+    compare_lengths();
+    compare_codes();
+    compare_behind();
     if (!differs)
         printf("ok slices\n");
     return differs;

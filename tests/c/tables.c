@@ -19,6 +19,11 @@ static struct unhide_answer answer;
 
 static const int32_t order[] = {1, -1, 2, -2, 3, -3, 4, -4};
 
+/* programmes */
+static const uint32_t constant[] = {UNHIDE_CODE_SETTLE, UNHIDE_CODE_STAMP, UNHIDE_CODE_FAILED, UNHIDE_CODE_SWEEP};
+static const uint32_t settle[] = {UNHIDE_CODE_SETTLE};
+static const uint32_t no_sweep[] = {UNHIDE_CODE_SETTLE, UNHIDE_CODE_STAMP, UNHIDE_CODE_FAILED};
+
 /* Compares what a call returns and the first value of its answer. */
 static void compare_call(const char *name, long expected, long value, int64_t result) {
     char named[64];
@@ -43,6 +48,20 @@ static int64_t load(const char *text) {
 
 static int64_t write_out(uint8_t *out, size_t length) {
     return unhide_tables_write(&tables, out, length, &answer);
+}
+
+/* Tables and a state of zeros, before the first load: every call but that is refused. */
+static void compare_zeros(void) {
+    uint8_t out[64];
+    compare("bytes", 155808, (long)sizeof tables);
+    compare_call("propagate on zeros", UNHIDE_SHAPE, 0, unhide_tables_propagate(&tables, 1, &answer));
+    compare_call("merge on zeros", UNHIDE_SHAPE, 0, unhide_tables_merge(&tables, 1, &answer));
+    compare_call("stamp on zeros", UNHIDE_SHAPE, 0, unhide_tables_stamp(&tables, order, 0, &answer));
+    compare_call("failed on zeros", UNHIDE_SHAPE, 0, unhide_tables_failed(&tables, &answer));
+    compare_call("sweep on zeros", UNHIDE_SHAPE, 0, unhide_tables_sweep(&tables, 1, &answer));
+    compare_call("run on zeros", UNHIDE_SHAPE, 0, unhide_tables_run(&tables, 1, &answer));
+    compare_call("set programme on zeros", UNHIDE_SHAPE, 0, unhide_tables_set_programme(&tables, settle, 1, &answer));
+    compare_call("write on zeros", UNHIDE_SHAPE, 0, write_out(out, 64));
 }
 
 static void compare_passes(void) {
@@ -139,12 +158,101 @@ static void compare_refusals(void) {
     compare_call("shape", UNHIDE_SHAPE, 0, unhide_tables_propagate(&tables, 1, &answer));
 }
 
+/* ---- programmes */
+
+static int64_t set_programme(const uint32_t *codes, size_t count) {
+    return unhide_tables_set_programme(&tables, codes, count, &answer);
+}
+
+/* Compares the state's programme, and that zeros are behind it. */
+static void compare_codes(const char *name, const uint32_t *codes, size_t count) {
+    uint32_t expected[UNHIDE_CODES] = {0};
+    memcpy(expected, codes, count * sizeof codes[0]);
+    compare(name, (long)count, (long)tables.state.programme_length);
+    compare(name, 0, memcmp(tables.state.programme, expected, sizeof expected));
+}
+
+/* A set programme stays until a load puts the constant one back. It goes with an open pass and with the mark, and changes neither. */
+static void compare_set(void) {
+    load("p cnf 4 3\n-1 2 0\n-2 3 0\n1 3 4 0\n");
+    compare_codes("programme after a load", constant, 4);
+    unhide_tables_merge(&tables, 1, &answer);
+    compare_call("set programme in a pass", 0, 0, set_programme(no_sweep, 3));
+    compare_rest("set programme in a pass", 0, 0, 0);
+    compare_codes("programme set in a pass", no_sweep, 3);
+    compare("pass that stays", UNHIDE_MERGE, (long)tables.state.pass);
+    compare("cursor that stays", 1, (long)tables.state.cursor);
+    compare_call("merge goes on", 0, 2, unhide_tables_merge(&tables, 9, &answer));
+    compare_codes("programme after a pass", no_sweep, 3);
+    compare_call("refused load", UNHIDE_GRAMMAR, 0, load(""));
+    compare_codes("programme after a refused load", no_sweep, 3);
+    compare_call("marked load", 0, 0, load("p cnf 1 1\n0\n"));
+    compare_codes("programme after a marked load", constant, 4);
+    compare_call("set programme under the mark", 0, 0, set_programme(settle, 1));
+    compare_codes("programme set under the mark", settle, 1);
+    compare("mark that stays", 1, (long)tables.state.mark);
+}
+
+/* Programmes that are refused, and those that a caller has damaged: a load takes the tables again. */
+static void compare_wrong(void) {
+    static const uint32_t wrong[] = {UNHIDE_CODE_SETTLE, UNHIDE_CODE_STAMP, UNHIDE_CODE_SWEEP, UNHIDE_CODE_FAILED};
+    load("p cnf 1 1\n1 0\n");
+    compare_call("no codes", UNHIDE_PROGRAMME, 0, set_programme(wrong, 0));
+    compare_call("failed behind a sweep", UNHIDE_PROGRAMME, 3, set_programme(wrong, 4));
+    compare_codes("programme kept", constant, 4);
+    tables.state.programme_length = 0;
+    compare_call("set programme, length 0", UNHIDE_SHAPE, 0, set_programme(settle, 1));
+    compare_call("set no codes, length 0", UNHIDE_SHAPE, 0, set_programme(wrong, 0));
+    tables.state.programme_length = 33;
+    compare_call("set programme, length 33", UNHIDE_SHAPE, 0, set_programme(settle, 1));
+    compare_call("run, length 33", UNHIDE_SHAPE, 0, unhide_tables_run(&tables, 1, &answer));
+    compare("length 33 stays", 33, (long)tables.state.programme_length);
+    compare_call("load, length 33", 0, 0, load("p cnf 0 0\n"));
+    compare_codes("programme after damage", constant, 4);
+}
+
+/* Loads two clauses under which 1 fails, and makes one round of a programme. */
+static void run_round(const char *name, const uint32_t *codes, size_t count) {
+    load("p cnf 2 2\n-1 2 0\n-1 -2 0\n");
+    set_programme(codes, count);
+    compare_call(name, 0, 1, unhide_tables_run(&tables, 1, &answer));
+}
+
+/* Compares what a round has left: the value of 1, the length of the first clause, and whether the stamps are fresh. */
+static void compare_left(const char *name, long value, long length, long fresh) {
+    compare(name, value, (long)unhide_variable_at(&tables, 1)->value);
+    compare(name, length, (long)unhide_clause_at(&tables, 1)->length);
+    compare(name, fresh, (long)tables.state.fresh);
+}
+
+/* Settle finds nothing there. Failed sets 1 false, Sweep takes 2 out of the first clause, and a settle behind Failed drops both clauses. */
+static void compare_runs(void) {
+    static const uint32_t no_failed[] = {UNHIDE_CODE_SETTLE, UNHIDE_CODE_STAMP, UNHIDE_CODE_SWEEP};
+    static const uint32_t settle_last[] = {UNHIDE_CODE_SETTLE, UNHIDE_CODE_STAMP, UNHIDE_CODE_FAILED, UNHIDE_CODE_SETTLE};
+    run_round("round of settle", settle, 1);
+    compare_left("left by settle", 0, 2, 0);
+    run_round("round without a sweep", no_sweep, 3);
+    compare_left("left without a sweep", -1, 2, 1);
+    run_round("round without failed", no_failed, 3);
+    compare_left("left without failed", 0, 1, 0);
+    run_round("constant round", constant, 4);
+    compare_left("left by the constant programme", -1, 1, 0);
+    run_round("round with a settle at its end", settle_last, 4);
+    compare_left("left by a settle at the end", -1, 0, 0);
+    compare_call("a round that changes nothing", 0, 1, unhide_tables_run(&tables, 9, &answer));
+    compare_codes("programme after runs", settle_last, 4);
+}
+
 int main(void) {
+    compare_zeros();
     compare_passes();
     compare_values();
     compare_records();
     compare_intervals();
     compare_refusals();
+    compare_set();
+    compare_wrong();
+    compare_runs();
     if (!differs)
         printf("ok tables\n");
     return differs;

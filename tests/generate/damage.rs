@@ -5,11 +5,15 @@ use crate::class_values;
 use crate::forest::forest;
 use crate::formulas::literal;
 use crate::near;
+use crate::programme_damage;
 use crate::random::Random;
 use crate::tables::{literal_of, slot, Formula, Pass, StampRecord};
 
 /// Lines of `set`, without their LF. The formula meets the shape rule.
 pub fn lines(random: &mut Random, formula: &Formula) -> Vec<String> {
+    if random.once_in(6) {
+        return programme_damage::lines(random, formula);
+    }
     // Few formulas have classes of several variables, so their values come often.
     if random.once_in(2) {
         if let Some(lines) = class_values::lines(random, formula) {
@@ -55,6 +59,8 @@ fn old_value(formula: &Formula, line: &str) -> String {
             5 => state.fresh as i64,
             _ => state.mark as i64,
         },
+        ("programme", 0) => state.programme.length as i64,
+        ("programme", field) => state.programme.places[field - 1] as i64,
         ("literals", record) => formula.literals[record] as i64,
         ("clauses", record) => {
             let clause = formula.clauses[record];

@@ -13,6 +13,9 @@ mod implied;
 mod limits;
 mod lists;
 mod near;
+mod programme_damage;
+mod programme_lines;
+mod programmes;
 mod random;
 mod repeats;
 mod script;
@@ -29,6 +32,8 @@ mod graph;
 mod load;
 #[path = "../second/merge.rs"]
 mod merge;
+#[path = "../second/programme.rs"]
+mod programme;
 #[path = "../second/propagate.rs"]
 mod propagate;
 #[path = "../second/refusal.rs"]

@@ -8,6 +8,8 @@ use crate::formulas::{draft, odd_text, plain_text, Draft};
 use crate::implied;
 use crate::limits;
 use crate::lists;
+use crate::programme_lines;
+use crate::programmes;
 use crate::random::Random;
 use crate::refusal::tables_are_lent;
 use crate::replay::Replay;
@@ -114,9 +116,14 @@ impl Script {
 
     /// A line behind which none is read.
     fn wrong_line(&mut self) {
-        if self.random.below(4) > 0 {
+        if self.random.below(3) > 0 {
             let line = self.random.pick(&WRONG_LINES);
             self.say(line);
+            return;
+        }
+        if self.random.once_in(2) {
+            let line = programme_lines::wrong(&mut self.random);
+            self.say(&line);
             return;
         }
         if self.random.once_in(4) {
@@ -132,6 +139,10 @@ impl Script {
         // Before any other line, so that it meets tables and states of all kinds.
         if self.random.once_in(40) {
             self.compare();
+        }
+        if self.random.once_in(25) {
+            let codes = programmes::any(&mut self.random);
+            self.programme(codes);
         }
         let formula = &self.replay.formula;
         if tables_are_lent(formula).is_err() {
@@ -185,6 +196,15 @@ impl Script {
         }
     }
 
+    /// Sets the programme. It takes none of the formula's calls.
+    fn programme(&mut self, codes: Vec<u8>) {
+        self.calls += 1;
+        self.say(&line(&Call::Programme(codes)));
+        if self.random.below(3) > 0 {
+            self.say("codes");
+        }
+    }
+
     fn damage(&mut self) {
         let lines = damage::lines(&mut self.random, &self.replay.formula);
         self.undo = damage::undo(&self.replay.formula, &lines);
@@ -192,17 +212,19 @@ impl Script {
             self.say(line);
         }
         if self.random.once_in(2) {
-            self.compare_damaged(&lines);
+            self.look_at_damage(&lines);
         }
     }
 
     /// Compares a literal whose record these lines have damaged, or any if they
-    /// have damaged the state.
-    fn compare_damaged(&mut self, lines: &[String]) {
+    /// have damaged the state; prints the codes if they have damaged these.
+    fn look_at_damage(&mut self, lines: &[String]) {
         if let Some(line) = comparisons::behind(&mut self.random, &self.replay.formula, lines) {
             self.say(&line);
         } else if lines.iter().any(|line| line.starts_with("set state")) {
             self.compare();
+        } else if lines.iter().any(|line| line.starts_with("set programme")) {
+            self.say("codes");
         }
     }
 
@@ -286,14 +308,28 @@ impl Script {
         let text = self.text();
         self.load_text(&text);
         self.rest_of_formula = self.random.between(4, 20);
+        if self.random.once_in(3) {
+            let codes = programmes::valid(&mut self.random);
+            self.programme(codes);
+            if self.random.once_in(2) {
+                // Before the passes have done what a round does.
+                let rounds = self.random.pick(&[1, 1, 2, 65_535]);
+                self.call(&line(&Call::Run(rounds)));
+            }
+        }
     }
 
+    /// A load puts the constant programme back or, refused, leaves the one that
+    /// is there, so the codes are often looked at behind it.
     fn load_text(&mut self, text: &[u8]) {
         self.calls += 1;
         let mut bytes = format!("load {}\n", text.len()).into_bytes();
         bytes.extend_from_slice(text);
         bytes.push(b'\n');
         self.say_bytes(&bytes);
+        if self.random.once_in(4) {
+            self.say("codes");
+        }
     }
 
     fn text(&mut self) -> Vec<u8> {
@@ -346,6 +382,9 @@ impl Script {
         let is_fresh = formula.state.fresh;
         if self.random.below(3) > 0 {
             self.say("state");
+        }
+        if self.random.once_in(8) {
+            self.say("codes");
         }
         if self.random.once_in(2 * seldom) {
             self.say("clauses");

@@ -6,6 +6,7 @@ use crate::calls::{any, fitting, line, Call};
 use crate::compare_calls::{in_two_calls, run_by_passes};
 use crate::compare_figures::figures_agree;
 use crate::compare_intervals::{comparisons_agree, numbers_agree};
+use crate::compare_programmes::{refusal_agrees, rules_agree, setting_agrees};
 use crate::compare_repeats::{loaded_agrees, merged_agrees};
 use crate::compare_values::{own_values, values_agree, values_stay, written_clauses};
 use crate::compare_walks::{groups_agree, is_subsequence, stamps_agree};
@@ -15,6 +16,7 @@ use crate::formulas::{draft, odd_text, plain_text};
 use crate::implied;
 use crate::load::{load, without_repeats};
 use crate::merge::merge;
+use crate::programme::{set_programme, Programme, MOST_CODES};
 use crate::propagate::propagate;
 use crate::random::Random;
 use crate::refusal::Refusal;
@@ -35,25 +37,31 @@ use crate::write::write;
 /// status.
 pub fn check(seed: u64, count: usize) -> i32 {
     let mut random = Random::new(seed);
-    if let Err(difference) = numbers_agree(&mut random, count) {
+    let alone = rules_agree().and_then(|()| numbers_agree(&mut random, count));
+    if let Err(difference) = alone {
         println!("differs: {difference}");
         return 1;
     }
     let truth = Truth::new();
     let mut calls = 0;
     let mut accepted = 0;
+    let mut other_runs = 0;
     while calls < count {
         let mut one = Check::start(&mut random, &truth);
         let outcome = one.calls(&mut random);
         calls += one.calls;
         accepted += one.accepted;
+        other_runs += one.other_runs;
         if let Err(difference) = outcome {
             println!("differs: {difference}");
             print!("{}", String::from_utf8_lossy(&one.script));
             return 1;
         }
     }
-    println!("checked {calls} calls, {accepted} of them accepted");
+    println!(
+        "checked {calls} calls, {accepted} of them accepted, \
+         {other_runs} runs under other programmes than the constant one"
+    );
     0
 }
 
@@ -63,6 +71,7 @@ enum Outcome {
     Stamped,
     Failed(u32),
     Ran(u32),
+    Set,
 }
 
 struct Check<'a> {
@@ -75,9 +84,11 @@ struct Check<'a> {
     script: Vec<u8>,
     calls: usize,
     accepted: usize,
+    /// The runs of a round or more under another programme than the constant one.
+    other_runs: usize,
 }
 
-/// What the tables hold before the load.
+/// What the tables and the programme hold before the load.
 const OLD_CLAUSE: ClauseRecord = ClauseRecord {
     start: 9,
     length: 9,
@@ -90,6 +101,10 @@ const OLD_STAMP: StampRecord = StampRecord {
     finish: 9,
     parent: 9,
     start: 9,
+};
+const OLD_PROGRAMME: Programme = Programme {
+    places: [9; MOST_CODES],
+    length: 9,
 };
 
 impl<'a> Check<'a> {
@@ -119,6 +134,7 @@ impl<'a> Check<'a> {
         formula.literals.fill(OLD_LITERAL);
         formula.variables.fill(OLD_VARIABLE);
         formula.stamps.fill(OLD_STAMP);
+        formula.state.programme = OLD_PROGRAMME;
         let accepted = load(&mut formula, &text).is_ok();
         Check {
             truth,
@@ -128,6 +144,7 @@ impl<'a> Check<'a> {
             script,
             calls: 1,
             accepted: accepted as usize,
+            other_runs: 0,
         }
     }
 
@@ -136,6 +153,9 @@ impl<'a> Check<'a> {
             return Err("a good text is refused".to_string());
         }
         self.tables_agree()?;
+        if self.formula.state.programme != Programme::constant() {
+            return Err("a load leaves another programme than the constant one".to_string());
+        }
         loaded_agrees(&self.formula, &self.loaded)?;
         for _ in 0..random.between(1, 24) {
             let call = if random.once_in(12) {
@@ -148,13 +168,20 @@ impl<'a> Check<'a> {
             self.calls += 1;
             let before = self.formula.clone();
             match make(&mut self.formula, &call) {
-                Err(_) => {
+                Err(refusal) => {
                     if self.formula != before {
                         return Err("a refused call changed something".to_string());
+                    }
+                    if let Call::Programme(codes) = &call {
+                        refusal_agrees(codes, refusal)?;
                     }
                 }
                 Ok(outcome) => {
                     self.accepted += 1;
+                    let is_other = before.state.programme != Programme::constant();
+                    if is_other && matches!(outcome, Outcome::Ran(1..)) {
+                        self.other_runs += 1;
+                    }
                     self.tables_agree()?;
                     self.outcome_agrees(random, &before, &call, outcome)?;
                 }
@@ -272,6 +299,10 @@ impl<'a> Check<'a> {
         let after = &self.formula;
         let may_set = matches!(call, Call::Propagate(_) | Call::Failed | Call::Run(_));
         values_stay(before, after, may_set)?;
+        let sets = matches!(call, Call::Programme(_));
+        if !sets && after.state.programme != before.state.programme {
+            return Err("a call that sets no programme changed it".to_string());
+        }
         match (call, &outcome) {
             (Call::Propagate(steps), Outcome::Steps(answer)) => {
                 self.steps_agree(random, before, propagate, *steps, *answer)?;
@@ -308,6 +339,9 @@ impl<'a> Check<'a> {
                 if by_passes != (after.clone(), *made) {
                     return Err("Run differs from its passes".to_string());
                 }
+            }
+            (Call::Programme(codes), Outcome::Set) => {
+                setting_agrees(before, after, codes)?;
             }
             _ => unreachable!(),
         }
@@ -375,5 +409,9 @@ fn make(formula: &mut Formula, call: &Call) -> Result<Outcome, Refusal> {
         }
         Call::Failed => Outcome::Failed(failed(formula)?),
         Call::Run(rounds) => Outcome::Ran(run(formula, *rounds)?),
+        Call::Programme(codes) => {
+            set_programme(formula, codes)?;
+            Outcome::Set
+        }
     })
 }

@@ -3,6 +3,7 @@
 
 use crate::failed::failed;
 use crate::merge::merge;
+use crate::programme::{FAILED, SETTLE, STAMP};
 use crate::propagate::propagate;
 use crate::random::Random;
 use crate::refusal::Refusal;
@@ -35,7 +36,8 @@ pub fn in_two_calls(
     Ok((formula, sum))
 }
 
-/// Run, made of the other calls with any numbers of visits.
+/// Run, made of the other calls with any numbers of visits. None of them may be
+/// refused before the mark; behind it none is made.
 pub fn run_by_passes(
     random: &mut Random,
     before: &Formula,
@@ -56,6 +58,24 @@ pub fn run_by_passes(
 }
 
 fn round_by_passes(random: &mut Random, formula: &mut Formula, round: u32) -> Result<(), Refusal> {
+    let programme = formula.state.programme;
+    for code in programme.codes() {
+        match *code {
+            SETTLE => settle_by_passes(random, formula)?,
+            STAMP => stamp(formula, &order(formula.v(), round))?,
+            FAILED => {
+                failed(formula)?;
+            }
+            _ => while sweep(formula, random.steps(formula.n()) as u32)?.open {},
+        }
+        if formula.state.mark {
+            return Ok(());
+        }
+    }
+    Ok(())
+}
+
+fn settle_by_passes(random: &mut Random, formula: &mut Formula) -> Result<(), Refusal> {
     let mut classes_changed = true;
     while classes_changed {
         while propagate(formula, random.steps(formula.n()) as u32)?.open {}
@@ -69,11 +89,5 @@ fn round_by_passes(random: &mut Random, formula: &mut Formula, round: u32) -> Re
         }
         classes_changed = formula.variables != before;
     }
-    stamp(formula, &order(formula.v(), round))?;
-    failed(formula)?;
-    if formula.state.mark {
-        return Ok(());
-    }
-    while sweep(formula, random.steps(formula.n()) as u32)?.open {}
     Ok(())
 }

@@ -1,5 +1,6 @@
 //! Load: a text becomes the contents of the tables.
 
+use crate::programme::Programme;
 use crate::refusal::{tables_are_lent, Refusal};
 use crate::tables::{
     ClauseRecord, Formula, Pass, State, VariableRecord, MOST_CLAUSES, MOST_LITERALS, MOST_VARIABLES,
@@ -21,6 +22,7 @@ pub fn load(formula: &mut Formula, text: &[u8]) -> Result<(), Refusal> {
         changed: false,
         fresh: false,
         mark: false,
+        programme: Programme::constant(),
     };
 
     for variable in 1..=written.variables {

@@ -19,6 +19,7 @@ mod comparison;
 mod failed;
 mod graph;
 mod merge;
+mod programme;
 mod propagate;
 mod run;
 mod stamp;
@@ -33,10 +34,12 @@ mod check;
 mod compare_calls;
 mod compare_figures;
 mod compare_intervals;
+mod compare_programmes;
 mod compare_repeats;
 mod compare_values;
 mod compare_walks;
 mod named;
+mod named_programmes;
 mod truth;
 
 #[path = "../generate/calls.rs"]
@@ -49,6 +52,8 @@ mod formulas;
 mod implied;
 #[path = "../generate/lists.rs"]
 mod lists;
+#[path = "../generate/programmes.rs"]
+mod programmes;
 #[path = "../generate/random.rs"]
 mod random;
 #[path = "../generate/repeats.rs"]

@@ -1,7 +1,10 @@
 //! Named cases: texts, good and bad, the pallet cases, refusals by call,
 //! repeated literals in loads and in Merge, pairs that a Sweep drops or keeps,
 //! values of classes that have several variables, how two intervals lie, and
-//! formulas at the limits; each with what a replay of it prints.
+//! formulas at the limits; each with what a replay of it prints. Those of the
+//! programme stand in `named_programmes.rs`.
+
+use crate::named_programmes;
 
 /// The bytes of a load, the calls behind it, a line each, and what a replay of
 /// both prints.
@@ -38,7 +41,7 @@ pub fn script() -> Vec<u8> {
     let mut script = Vec::new();
     for case in short() {
         script.extend(case.script());
-        script.extend(b"state\nclauses\nliterals\nvariables\n");
+        script.extend(b"state\ncodes\nclauses\nliterals\nvariables\n");
     }
     for case in large() {
         script.extend(case.script());
@@ -60,12 +63,14 @@ fn short() -> Vec<Case> {
     });
     let passes = CALLS.iter().chain(REPEATS).chain(PAIRS).chain(VALUES);
     let passes = passes.chain(COMPARISONS).map(with_calls);
-    texts.chain(passes).collect()
+    let programmes = named_programmes::PROGRAMMES.iter().map(with_calls);
+    texts.chain(passes).chain(programmes).collect()
 }
 
 /// Cases that end with a wrong line.
 fn wrong_lines() -> Vec<Case> {
-    WRONG_LINES.iter().map(with_calls).collect()
+    let lines = WRONG_LINES.iter().chain(named_programmes::WRONG_LINES);
+    lines.map(with_calls).collect()
 }
 
 fn with_calls(&(name, text, calls, prints): &(&'static str, &str, &'static str, &str)) -> Case {

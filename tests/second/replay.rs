@@ -4,6 +4,7 @@ use crate::comparison::compare;
 use crate::failed::failed;
 use crate::load::load;
 use crate::merge::merge;
+use crate::programme::{set_programme, MOST_CODES};
 use crate::propagate::propagate;
 use crate::refusal::Refusal;
 use crate::run::run;
@@ -18,6 +19,7 @@ use crate::write::write;
 pub const MOST_INPUT: usize = 1_048_576;
 const MOST_STEPS: i64 = 65_535;
 const MOST_LIST: usize = 4_096;
+const MOST_CODES_IN_LINE: usize = 64;
 const MOST_ROOM: i64 = 131_072;
 
 pub struct Replay {
@@ -126,14 +128,17 @@ impl Replay {
                     Err(refusal) => self.print_refusal(refusal),
                 }
             }
+            ["programme", codes @ ..] => self.programme(codes)?,
             ["compare", first, second] => self.compare(first, second)?,
             ["state"] => self.print_state(),
             ["clauses"] => self.print_clauses(),
             ["literals"] => self.print_literals(),
             ["variables"] => self.print_variables(),
             ["stamps"] => self.print_stamps(),
+            ["codes"] => self.print_codes(),
             ["lend", table, count] => self.lend(table, count)?,
             ["set", "state", field, value] => self.set_state(field, value)?,
+            ["set", "programme", field, value] => self.set_code(field, value)?,
             ["set", table, record, field, value] => self.set(table, record, field, value)?,
             _ => return Err(WrongLine),
         }
@@ -177,6 +182,22 @@ impl Replay {
         self.clear_unused();
         match stamp(&mut self.formula, &list) {
             Ok(()) => self.print("stamped".to_string()),
+            Err(refusal) => self.print_refusal(refusal),
+        }
+        Ok(())
+    }
+
+    fn programme(&mut self, words: &[&str]) -> Result<(), WrongLine> {
+        if words.len() > MOST_CODES_IN_LINE {
+            return Err(WrongLine);
+        }
+        let mut codes = Vec::new();
+        for word in words {
+            codes.push(any_u8(word)?);
+        }
+        self.clear_unused();
+        match set_programme(&mut self.formula, &codes) {
+            Ok(()) => self.print("set".to_string()),
             Err(refusal) => self.print_refusal(refusal),
         }
         Ok(())
@@ -234,6 +255,16 @@ impl Replay {
             "5" => state.fresh = number(value, 0, 1)? == 1,
             "6" => state.mark = number(value, 0, 1)? == 1,
             _ => return Err(WrongLine),
+        }
+        Ok(())
+    }
+
+    /// Field 0 is the length of the programme, 1 to 32 are its codes.
+    fn set_code(&mut self, field: &str, value: &str) -> Result<(), WrongLine> {
+        let programme = &mut self.formula.state.programme;
+        match number(field, 0, MOST_CODES as i64)? as usize {
+            0 => programme.length = any_u8(value)?,
+            field => programme.places[field - 1] = any_u8(value)?,
         }
         Ok(())
     }
@@ -360,6 +391,14 @@ impl Replay {
             ));
         }
     }
+
+    fn print_codes(&mut self) {
+        let mut line = "codes".to_string();
+        for code in self.formula.state.programme.codes() {
+            line.push_str(&format!(" {code}"));
+        }
+        self.print(line);
+    }
 }
 
 /// A decimal number without leading zeros, `-` before a negative one.
@@ -377,6 +416,10 @@ fn number(word: &str, least: i64, most: i64) -> Result<i64, WrongLine> {
         return Err(WrongLine);
     }
     Ok(value)
+}
+
+fn any_u8(word: &str) -> Result<u8, WrongLine> {
+    Ok(number(word, 0, u8::MAX as i64)? as u8)
 }
 
 fn any_u32(word: &str) -> Result<u32, WrongLine> {

@@ -1,15 +1,9 @@
-//! Run: rounds of settle, stamp, failed and sweep.
+//! Run: rounds of settle, stamp, failed and sweep, as the programme says.
 
+use crate::programme::{FAILED, SETTLE, STAMP, SWEEP};
 use crate::refusal::{may_work, Refusal};
 use crate::tables::{literal_of, Formula, Pass, VariableRecord};
 use crate::{failed, merge, propagate, stamp, sweep};
-
-const SETTLE: u32 = 1;
-const STAMP: u32 = 2;
-const FAILED: u32 = 3;
-const SWEEP: u32 = 4;
-
-const PROGRAMME: [u32; 4] = [SETTLE, STAMP, FAILED, SWEEP];
 
 /// Answers the rounds made.
 pub fn run(formula: &mut Formula, rounds: u32) -> Result<u32, Refusal> {
@@ -41,9 +35,11 @@ fn contents(formula: &Formula) -> (Vec<Option<Vec<i32>>>, Vec<VariableRecord>) {
     )
 }
 
+/// One time through the programme. Every stamp of a round takes the same list.
 fn round(formula: &mut Formula, number: u32) {
-    for code in PROGRAMME {
-        match code {
+    let programme = formula.state.programme;
+    for code in programme.codes() {
+        match *code {
             SETTLE => settle(formula),
             STAMP => stamp::whole(formula, &order(formula.v(), number)),
             FAILED => {

@@ -15,6 +15,7 @@ pub fn holds(formula: &Formula) -> bool {
         && values_are_those_of_classes(formula)
         && clauses_use_classes(formula)
         && cursor_within_pass(formula)
+        && formula.state.programme.keeps_the_rules()
         && (!formula.state.fresh || stamps_are_a_forest(formula))
 }
 

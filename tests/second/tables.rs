@@ -1,6 +1,8 @@
 //! The tables that the caller lends, the state that goes with them, and the
 //! plain reading and writing of their records.
 
+use crate::programme::Programme;
+
 pub const MOST_VARIABLES: usize = 1_024;
 pub const MOST_CLAUSES: usize = 4_096;
 pub const MOST_LITERALS: usize = 16_384;
@@ -54,6 +56,8 @@ pub struct State {
     pub fresh: bool,
     /// The mark: no assignment is left.
     pub mark: bool,
+    /// What Run does in every round.
+    pub programme: Programme,
 }
 
 /// How many records of each table are lent.
@@ -110,7 +114,8 @@ pub fn literal_of(slot: usize) -> i32 {
 }
 
 impl Formula {
-    /// All tables zero and fully lent, no variables and no clauses.
+    /// All tables zero and fully lent, no variables and no clauses, the
+    /// constant programme.
     pub fn empty() -> Formula {
         Formula {
             clauses: vec![ClauseRecord::default(); MOST_CLAUSES + EXTRA],
@@ -131,6 +136,7 @@ impl Formula {
                 changed: false,
                 fresh: false,
                 mark: false,
+                programme: Programme::constant(),
             },
         }
     }

@@ -68,6 +68,24 @@ first-passed test (suc n) k i le lt = go (λ a b. first-passed test n (suc k) i 
     go rest true e h = absurd (omega arith)
     go rest false e h = ⊎-elim (λ (same : i ≡ k). ap test same ∙ e) (λ (other : i ≡ k → ⊥). rest (omega arith) h) (same-or i k)
 
+-- one that is found passes
+pub first-passes : (test : ℕ → Bool) (n k : ℕ) → first test n k < k + n → test (first test n k) ≡ true
+unfolding first
+first-passes test zero k lt = absurd (omega arith)
+first-passes test (suc n) k lt = go (first-passes test n (suc k)) (test k) refl lt
+  where
+    go : (first test n (suc k) < suc k + n → test (first test n (suc k)) ≡ true) → (b : Bool) → test k ≡ b
+        → elim b as (λ x. ℕ) [ true ↦ k | false ↦ first test n (suc k) ] < k + suc n → test (elim b as (λ x. ℕ) [ true ↦ k | false ↦ first test n (suc k) ]) ≡ true
+    go rest true e h = e
+    go rest false e h = rest (omega (arith, h))
+
+-- where none passes, the search ends behind the last
+pub first-none : (test : ℕ → Bool) (n k : ℕ) → ((j : ℕ) → k ≤ j → j < k + n → test j ≡ false) → first test n k ≡ k + n
+unfolding first
+first-none test zero k h = let q : k ≡ k + 0 = omega arith in q
+first-none test (suc n) k h =
+    (let e : test k ≡ false = h k (omega arith) (omega arith) in rw (e, first)) ∙ first-none test n (suc k) (λ j a b. h j (omega arith) (omega arith)) ∙ (let q : suc k + n ≡ k + suc n = omega arith in q)
+
 -- tests that agree from k on
 pub first-same : (p q : ℕ → Bool) (n k : ℕ) → ((i : ℕ) → k ≤ i → i < k + n → p i ≡ q i) → first p n k ≡ first q n k
 unfolding first

@@ -16,7 +16,7 @@ use Rattle.tables.specs.Calls.{After}
 use Rattle.c_numbers.specs.StateNumbers.{stateOf, readable}
 use Rattle.c_numbers.specs.CCalls.{ready, valuesOf, putAnswerBy, putAnswer, putStateBy, told, AfterC, callC}
 use Rattle.c_numbers.proofs.Over.{over-length}
-use Rattle.c_numbers.proofs.StateBack.{state-back, put-readable}
+use Rattle.c_numbers.proofs.StateBack.{Placed, state-back, put-readable, read-placed}
 use Rattle.c_numbers.proofs.Reading.{passes, ready-long, ready-readable}
 use Rattle.c_numbers.proofs.Calling.{called}
 use Rattle.c_calls.proofs.Refused.{Kept, Keeps}
@@ -29,17 +29,22 @@ answer-length r a h = numbered (r .number)
     numbered zero = over-length (valuesOf r) a h
     numbered (suc n) = over-length (firstValue (r .values) ∷ []) a (omega arith)
 
-state-readable : (n : ℕ) (st : State) (s : List ℕ) → readable s ≡ true → readable (putStateBy n st s) ≡ true
-state-readable zero st s e = put-readable st s
-state-readable (suc n) st s e = e
+state-readable : (n : ℕ) (st : State) (s : List ℕ) → Placed st → readable s ≡ true → readable (putStateBy n st s) ≡ true
+state-readable zero st s placed e = put-readable st s placed
+state-readable (suc n) st s placed e = e
+
+-- what a call leaves has the places of a programme
+left-placed : (m : After) (t : Tables) (st : State) → Kept t st m → Placed st → Placed (m .state)
+left-placed m t st (inl made) placed = made .1 placed
+left-placed m t st (inr kept) placed = ap (λ (x : State). length (x .programme .codes)) (kept .0) ∙ placed
 
 -- a refused call keeps the state that it was given
-state-next : (m : After) (t : Tables) (s : List ℕ) → Kept t (stateOf s) m → stateOf (putStateBy (m .reply .number) (m .state) s) ≡ m .state
-state-next m t s (inl made) = ap (λ (n : ℕ). stateOf (putStateBy n (m .state) s)) made ∙ state-back (m .state) s
-state-next m t s (inr kept) = numbered (m .reply .number)
+state-next : (m : After) (t : Tables) (s : List ℕ) → Placed (m .state) → Kept t (stateOf s) m → stateOf (putStateBy (m .reply .number) (m .state) s) ≡ m .state
+state-next m t s placed (inl made) = ap (λ (n : ℕ). stateOf (putStateBy n (m .state) s)) (made .0) ∙ state-back (m .state) s placed
+state-next m t s placed (inr kept) = numbered (m .reply .number)
   where
     numbered : (n : ℕ) → stateOf (putStateBy n (m .state) s) ≡ m .state
-    numbered zero = state-back (m .state) s
+    numbered zero = state-back (m .state) s placed
     numbered (suc n) = sym (kept .0)
 
 -- what the next call finds
@@ -50,11 +55,11 @@ pub record Found (m : After) (x : AfterC) : Type 0 where
 
 told-found : (m : After) (t : Tables) (s a : List ℕ) → Kept t (stateOf s) m → ready s a ≡ true → Found m (told m s a)
 unfolding told ready
-told-found m t s a kept e = record {
+told-found m t s a kept e = let placed : Placed (m .state) = left-placed m t (stateOf s) kept (read-placed s (ready-long s a e .0)) in record {
   able =
       sym (passes (leb 4 (length (putAnswer (m .reply) a))) _ true (le-leb 4 (length (putAnswer (m .reply) a)) (omega (arith, answer-length (m .reply) a (ready-long s a e .1), ready-long s a e .1)))
-      (sym (state-readable (m .reply .number) (m .state) s (ready-readable s a e))));
-  state = state-next m t s kept;
+      (sym (state-readable (m .reply .number) (m .state) s placed (ready-readable s a e))));
+  state = state-next m t s placed kept;
   tables = refl;
 }
 

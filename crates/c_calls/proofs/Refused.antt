@@ -1,161 +1,82 @@
 -- A refused call for C leaves the state and the tables as they are: its result is 0, or nothing changed. Assumes nothing.
-use Prim.Native.Nat.{ℕ, zero, suc, _+_, _-_, _*_, min}
+use Prim.Native.Nat.{ℕ, zero, suc, _-_}
+use native.Mathlib.Omega.{arith}
 use mathlib.Core.Bool.{Bool, true, false}
-use mathlib.Core.Path.{_≡_, refl, ap}
+use mathlib.Core.Path.{_≡_, refl, ap, _∙_}
 use mathlib.Core.Logic.{_⊎_, inl, inr}
 use mathlib.Core.List.{List}
-use lib.ListN.{length}
-use lib.Dec.{ltb, eqb}
+use lib.ListN.{length, replicate, length-append, length-replicate}
 use lib.IntN.{ℤ, pos}
 use Rattle.state.specs.Answers.{resultBy}
+use Rattle.state.specs.Programmes.{programmeOf, constantProgramme}
 use Rattle.state.specs.declared.State.{State}
-use Rattle.implications.specs.Clauses.{implications}
-use Rattle.scc.specs.Groups.{cyclic}
+use Rattle.state.specs.declared.Programme.{Programme}
+use Rattle.state.specs.declared.Refusal.the-variants.{Shape}
+use Rattle.programmes.proofs.Judging.{judge-exact}
 use Rattle.tables.specs.Tables.{Tables}
-use Rattle.tables.specs.Clauses.{slotsFrom}
 use Rattle.tables.specs.Long.{longOk}
-use Rattle.tables.specs.Fates.{Fate}
-use Rattle.tables.specs.Passes.{advance, firstUnsettled}
-use Rattle.tables.specs.Calls.{After}
-use Rattle.state.specs.declared.Pass.{Pass}
-use Rattle.entry.specs.Entry.{entryOf, openingOf}
-use Rattle.entry.specs.declared.PassName.the-variants as own
-use Rattle.entry.specs.declared.Entry.{Entry}
-use Rattle.entry.specs.declared.Entry.the-variants.{No, Opens, Resumes}
-use Rattle.entry.specs.declared.Opening.{Opening}
-use Rattle.entry.specs.declared.Opening.the-variants.{Denied, Granted}
+use Rattle.tables.specs.Calls.{After, refuse}
 use Rattle.dimacs.specs.Text.{judgeText, bodyOf}
 use Rattle.dimacs.specs.declared.Verdict.{Verdict}
 use Rattle.dimacs.specs.declared.Verdict.the-variants.{Refused, Fits}
 use Rattle.load.specs.Load.{loadBy, loadCall}
-use Rattle.propagate.specs.Propagate.{replied, propagateFrom, propagateBy, propagateCall}
-use Rattle.propagate_visits.specs.Visits.{Progress, going, settled, contradicted, begin, propagateVisits}
-use Rattle.merge.specs.Merge.{edgesOf, clashes, mergeOpen, mergeSettled, mergeBy, mergeCall}
-use Rattle.stamp.specs.Stamp.{firstBad, stampAcyclic, stampSettled, stampOrdered, stampBy, stampCall}
-use Rattle.failed.specs.Failed.{failedFresh, failedUnlessStale, failedBy, failedCall}
-use Rattle.sweep.specs.Sweep.{sweepUnlessStale, sweepBy, sweepCall}
-use Rattle.run.specs.Run.{runBy, runCall}
+use Rattle.propagate.specs.Propagate.{propagateCall}
+use Rattle.merge.specs.Merge.{mergeCall}
+use Rattle.stamp.specs.Stamp.{stampCall}
+use Rattle.failed.specs.Failed.{failedCall}
+use Rattle.sweep.specs.Sweep.{sweepCall}
+use Rattle.run.specs.Run.{runCall}
+use Rattle.run.proofs.Ways.{Way, propagate-way, merge-way, stamp-way, failed-way, sweep-way, run-way}
+use Rattle.set_programme.specs.SetProgramme.{setCall}
+use Rattle.set_programme.proofs.Setting.{set-cases}
 use Rattle.c_numbers.specs.StateNumbers.{stateOf}
 use Rattle.c_numbers.specs.CCalls.{ready, refuseUnread, AfterC, afterC, putStateBy, told, callC}
+use Rattle.c_numbers.proofs.StateBack.{Placed}
 
--- the call was made, or the state and the tables are as they were
+-- the call was made, and the programme has its places if it had them, or the state and the tables are as they were
 abbrev pub Kept : Tables → State → After → Type 0
-Kept t st a = (a .reply .number ≡ 0) ⊎ ((a .state ≡ st) × (a .tables ≡ t))
+Kept t st a = ((a .reply .number ≡ 0) × (Placed st → Placed (a .state))) ⊎ ((a .state ≡ st) × (a .tables ≡ t))
 
 -- so it is of a call on any tables and state
 abbrev pub Keeps : (Tables → State → After) → Type 0
 Keeps call = (t : Tables) (st : State) → Kept t st (call t st)
 
-by-test : (t : Tables) (st : State) (x y : After) (b : Bool) → Kept t st x → Kept t st y → Kept t st (elim b as (λ _. After) [ true ↦ x | false ↦ y ])
-by-test t st x y true p q = p
-by-test t st x y false p q = q
-
 -- ---- the calls
 
+-- a call of a pass or of Run leaves the programme as it was
+way-keeps : (t : Tables) (st : State) (a : After) → Way t st a → Kept t st a
+way-keeps t st a (inl made) = inl (made .0, λ placed. ap (λ (p : Programme). length (p .codes)) (made .1 .programme) ∙ placed)
+way-keeps t st a (inr kept) = inr kept
+
 load-keeps : (text : List ℕ) → Keeps (loadCall text)
-unfolding loadCall
-load-keeps text t st = by-test t st _ _ (longOk t) (judged (judgeText text) (bodyOf text (judgeText text))) (inr (refl, refl))
+unfolding loadCall constantProgramme programmeOf
+load-keeps text t st = by (longOk t)
   where
     judged : (v : Verdict) (cs : List (List ℤ)) → Kept t st (loadBy v cs t st)
     judged (Refused r) cs = inr (refl, refl)
-    judged (Fits v n size) cs = inl refl
+    judged (Fits v n size) cs = inl (refl, λ placed. refl)
 
-propagate-keeps : (n : ℕ) → Keeps (propagateCall n)
-unfolding propagateCall propagateFrom
-propagate-keeps n t st = entered (entryOf own.Propagate t st)
-  where
-    visited : (fresh : Bool) (before : List ℕ) (m : ℕ) (p : Progress) → replied fresh before st m p .reply .number ≡ 0
-    visited fresh before m (going k changed u) = refl
-    visited fresh before m (settled u) = refl
-    visited fresh before m (contradicted u) = refl
+    by : (b : Bool) → Kept t st (elim b as (λ x. After) [ true ↦ loadBy (judgeText text) (bodyOf text (judgeText text)) t st | false ↦ refuse Shape st t ])
+    by true = judged (judgeText text) (bodyOf text (judgeText text))
+    by false = inr (refl, refl)
 
-    from : (fresh : Bool) (p : Progress) → Kept t st (propagateFrom fresh n p t st)
-    from fresh p = inl (visited fresh (t .clauses) (propagateVisits (st .n) n 0 p .visits) (propagateVisits (st .n) n 0 p .progress))
-
-    entered : (e : Entry) → Kept t st (propagateBy e n t st)
-    entered (No r) = inr (refl, refl)
-    entered Opens = from false (begin (st .n) t)
-    entered (Resumes k changed) = from (st .fresh) (going k changed t)
-
--- visits are no refusal
-advances : (rule : List ℤ → Fate) (pass : ℕ → Pass) (freshOpen freshDone : Bool) (steps k : ℕ) (t u : Tables) (st : State) → Kept u st (advance rule pass freshOpen freshDone steps k t st)
-unfolding advance
-advances rule pass freshOpen freshDone steps k t u st = by-test u st _ _ (ltb (k + min steps (st .n - k)) (st .n)) (inl refl) (inl refl)
-
-merge-open : (n : ℕ) → Keeps (mergeOpen n)
-unfolding mergeOpen
-merge-open n t st = by-test t st _ _ (clashes (edgesOf t (st .n)) (st .v)) (inl refl) (advances _ _ _ _ _ _ _ _ _)
-
-merge-settled : (n : ℕ) → Keeps (mergeSettled n)
-unfolding mergeSettled
-merge-settled n t st = by-test t st _ _ (ltb (firstUnsettled t (st .n)) (st .n)) (inr (refl, refl)) (merge-open n t st)
-
-merge-keeps : (n : ℕ) → Keeps (mergeCall n)
-unfolding mergeCall
-merge-keeps n t st = entered (entryOf own.Merge t st)
-  where
-    entered : (e : Entry) → Kept t st (mergeBy e n t st)
-    entered (No r) = inr (refl, refl)
-    entered Opens = merge-settled n t st
-    entered (Resumes k changed) = advances _ _ _ _ _ _ _ _ _
-
-stamp-acyclic : (order : List ℤ) → Keeps (stampAcyclic order)
-unfolding stampAcyclic
-stamp-acyclic order t st = by-test t st _ _ (cyclic (implications (slotsFrom (t .clauses) (t .literals) (st .n) 0)) (2 * st .v)) (inr (refl, refl)) (inl refl)
-
-stamp-settled : (order : List ℤ) → Keeps (stampSettled order)
-unfolding stampSettled
-stamp-settled order t st = by-test t st _ _ (ltb (firstUnsettled t (st .n)) (st .n)) (inr (refl, refl)) (stamp-acyclic order t st)
-
-stamp-ordered : (order : List ℤ) → Keeps (stampOrdered order)
-unfolding stampOrdered
-stamp-ordered order t st =
-    by-test t st _ _ (eqb (length order) (2 * st .v)) (by-test t st _ _ (ltb (firstBad (st .v) order) (2 * st .v)) (inr (refl, refl)) (stamp-settled order t st)) (inr (refl, refl))
-
-stamp-keeps : (order : List ℤ) → Keeps (stampCall order)
-unfolding stampCall
-stamp-keeps order t st = entered (openingOf t st)
-  where
-    entered : (o : Opening) → Kept t st (stampBy o order t st)
-    entered (Denied r) = inr (refl, refl)
-    entered Granted = stamp-ordered order t st
-
-failed-keeps : Keeps failedCall
-unfolding failedCall failedFresh
-failed-keeps t st = entered (openingOf t st)
-  where
-    stale : (fresh : Bool) → Kept t st (failedUnlessStale fresh t st)
-    stale true = inl refl
-    stale false = inr (refl, refl)
-
-    entered : (o : Opening) → Kept t st (failedBy o t st)
-    entered (Denied r) = inr (refl, refl)
-    entered Granted = stale (st .fresh)
-
-sweep-keeps : (n : ℕ) → Keeps (sweepCall n)
-unfolding sweepCall
-sweep-keeps n t st = entered (entryOf own.Sweep t st)
-  where
-    stale : (fresh : Bool) (k : ℕ) → Kept t st (sweepUnlessStale fresh n k t st)
-    stale true k = advances _ _ _ _ _ _ _ _ _
-    stale false k = inr (refl, refl)
-
-    entered : (e : Entry) → Kept t st (sweepBy e n t st)
-    entered (No r) = inr (refl, refl)
-    entered Opens = stale (st .fresh) 0
-    entered (Resumes k changed) = stale (st .fresh) k
-
-run-keeps : (count : ℕ) → Keeps (runCall count)
-unfolding runCall
-run-keeps count t st = entered (openingOf t st)
-  where
-    entered : (o : Opening) → Kept t st (runBy o count t st)
-    entered (Denied r) = inr (refl, refl)
-    entered Granted = inl refl
+set-keeps : (codes : List ℕ) → Keeps (setCall codes)
+unfolding programmeOf
+set-keeps codes t st = set-cases codes t st (Kept t st) (λ e. inr (refl, refl)) (λ index q. inr (refl, refl))
+    (λ e q. let few = judge-exact codes .0 q .few in inl (refl, λ placed. length-append codes (replicate (32 - length codes) 0) ∙ omega (arith, few, length-replicate {A = ℕ} (32 - length codes) 0)))
 
 -- all of them
-pub calls-keep : (text : List ℕ) (order : List ℤ) (n : ℕ) → Keeps (loadCall text) × Keeps (propagateCall n) × Keeps (mergeCall n) × Keeps (stampCall order) × Keeps failedCall × Keeps (sweepCall n) × Keeps (runCall n)
-calls-keep text order n = (load-keeps text, propagate-keeps n, merge-keeps n, stamp-keeps order, failed-keeps, sweep-keeps n, run-keeps n)
+pub calls-keep : (text codes : List ℕ) (order : List ℤ) (n : ℕ) → Keeps (loadCall text) × Keeps (propagateCall n) × Keeps (mergeCall n) × Keeps (stampCall order) × Keeps failedCall × Keeps (sweepCall n) × Keeps (runCall n) × Keeps (setCall codes)
+calls-keep text codes order n = (
+  load-keeps text,
+  λ t st. way-keeps t st (propagateCall n t st) (propagate-way n t st),
+  λ t st. way-keeps t st (mergeCall n t st) (merge-way n t st),
+  λ t st. way-keeps t st (stampCall order t st) (stamp-way order t st),
+  λ t st. way-keeps t st (failedCall t st) (failed-way t st),
+  λ t st. way-keeps t st (sweepCall n t st) (sweep-way n t st),
+  λ t st. way-keeps t st (runCall n t st) (run-way n t st),
+  set-keeps codes,
+)
 
 -- ---- for C
 
@@ -165,7 +86,7 @@ LeftBy t s x = (x .result ≡ pos 0) ⊎ ((x .state ≡ s) × (x .tables ≡ t))
 
 told-leaves : (m : After) (t : Tables) (st : State) (s a : List ℕ) → Kept t st m → LeftBy t s (told m s a)
 unfolding told
-told-leaves m t st s a (inl made) = inl (ap (λ (n : ℕ). resultBy n 0) made)
+told-leaves m t st s a (inl made) = inl (ap (λ (n : ℕ). resultBy n 0) (made .0))
 told-leaves m t st s a (inr kept) = numbered (m .reply .number)
   where
     numbered : (n : ℕ) → (resultBy n 0 ≡ pos 0) ⊎ ((putStateBy n (m .state) s ≡ s) × (m .tables ≡ t))

@@ -8,13 +8,14 @@ ghost use Rattle.stamp.specs.Stamp.{stampCall};
 ghost use Rattle.failed.specs.Failed.{failedCall};
 ghost use Rattle.sweep.specs.Sweep.{sweepCall};
 ghost use Rattle.run.specs.Run.{runCall};
+ghost use Rattle.set_programme.specs.SetProgramme.{setCall};
 ghost use Rattle.compare.specs.Compare.{compareCall, comparisonResult};
 ghost use Rattle.simplify.specs.Texts.{simplifyText, resultOf};
 ghost use Rattle.c_numbers.specs.CCalls.{afterC, callC, afterWriteC, writeC};
 
 // ---- the calls
 
-// A text is read into the tables. The state before it counts for nothing but must be readable, as seven zeros are.
+// A text is read into the tables. The state before it counts for nothing but must be readable, as forty zeros are.
 #[no_mangle]
 pub extern "C" fn unhide_load(
     text: &[u8],
@@ -171,6 +172,37 @@ pub extern "C" fn unhide_run(
     }
     let st = c_numbers::state_at(state);
     let outcome = run::run(clauses, literals, variables, times, links, st, count);
+    c_numbers::finish(state, answer, outcome)
+}
+
+// The programme that Run follows is replaced.
+#[no_mangle]
+pub extern "C" fn unhide_set_programme(
+    clauses: &[u32],
+    literals: &[i32],
+    variables: &[i32],
+    times: &[u32],
+    links: &[i32],
+    state: &mut [u32],
+    answer: &mut [u64],
+    codes: &[u32],
+) -> i64
+    ensures { λ r. ⌜ afterC r (now (answer .exit)) (now (state .exit)) (returned clauses literals variables times links)
+        ≡ callC (setCall (now (codes .entry))) (lent clauses literals variables times links) (now (state .entry)) (now (answer .entry)) ⌝ }
+{
+    if !c_numbers::ready(state, answer) {
+        return c_numbers::refuse_unread(answer);
+    }
+    let st = c_numbers::state_at(state);
+    let outcome = set_programme::set_programme(
+        clauses,
+        literals,
+        variables,
+        times,
+        links,
+        st,
+        codes,
+    );
     c_numbers::finish(state, answer, outcome)
 }
 

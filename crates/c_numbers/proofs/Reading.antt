@@ -44,8 +44,8 @@ unfolding ready
 ready-readable s a e = both (leb 4 (length a)) (readable s) e .1
 
 -- numbers that can be read are long enough
-pub ready-long : (s a : List ℕ) → ready s a ≡ true → (7 ≤ length s) × (4 ≤ length a)
+pub ready-long : (s a : List ℕ) → ready s a ≡ true → (40 ≤ length s) × (4 ≤ length a)
 unfolding ready readable
 ready-long s a e =
     let parts = both (leb 4 (length a)) (readable s) e in
-    (leb-true 7 (length s) (both (leb 7 (length s)) _ (parts .1) .0), leb-true 4 (length a) (parts .0))
+    (leb-true 40 (length s) (both (leb 40 (length s)) _ (parts .1) .0), leb-true 4 (length a) (parts .0))

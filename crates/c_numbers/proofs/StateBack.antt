@@ -2,15 +2,16 @@
 use Prim.Native.Nat.{ℕ, _≤_}
 use native.Mathlib.Omega.{arith}
 use mathlib.Core.Bool.{Bool, true, false}
-use mathlib.Core.Path.{_≡_, refl}
+use mathlib.Core.Path.{_≡_, refl, ap}
 use mathlib.Core.List.{List}
-use lib.ListN.{length}
+use lib.ListN.{length, drop, length-append, length-drop}
+use lib.Seq.{take-at, length-take-le}
 use lib.Dec.{eqb, leb}
 use borrow.Author.Tests.{le-leb}
 use Rattle.state.specs.declared.State.{State}
 use Rattle.state.specs.declared.Pass.{Pass}
 use Rattle.state.specs.declared.Pass.the-variants.{Idle, Propagate, Merge, Sweep}
-use Rattle.c_numbers.specs.StateNumbers.{digit, passNumber, cursorNumber, changedNumber, passOf, passReadable, putState, stateOf, readable}
+use Rattle.c_numbers.specs.StateNumbers.{digit, numbersOf, passNumber, cursorNumber, changedNumber, passOf, passReadable, putState, programmeAt, stateOf, readable}
 
 digit-back : (b : Bool) → eqb (digit b) 1 ≡ b
 digit-back true = refl
@@ -34,14 +35,27 @@ pass-readable (Propagate cursor false) = refl
 pass-readable (Merge cursor) = refl
 pass-readable (Sweep cursor) = refl
 
-pub state-back : (st : State) (s : List ℕ) → stateOf (putState st s) ≡ st
+-- a programme that has its 32 places, as every one has that a call leaves (law `calls-keep`, crate c_calls)
+abbrev pub Placed : State → Type 0
+Placed st = length (st .programme .codes) ≡ 32
+
+programme-back : (st : State) (s : List ℕ) → Placed st → programmeAt (putState st s) ≡ st .programme
+unfolding putState programmeAt
+programme-back st s placed = ap (λ (l : List ℕ). record { codes = l; length = st .programme .length }) (take-at (st .programme .codes) (drop (length (numbersOf st)) s) 32 placed)
+
+pub state-back : (st : State) (s : List ℕ) → Placed st → stateOf (putState st s) ≡ st
 unfolding putState stateOf
-state-back st s = simp (pass-back, digit-back)
+state-back st s placed = simp (pass-back, digit-back, programme-back st s placed)
 
-put-long : (st : State) (s : List ℕ) → 7 ≤ length (putState st s)
+put-long : (st : State) (s : List ℕ) → Placed st → 40 ≤ length (putState st s)
 unfolding putState
-put-long st s = omega arith
+put-long st s placed = omega (arith, length-append (st .programme .codes) (drop (length (numbersOf st)) s), placed)
 
-pub put-readable : (st : State) (s : List ℕ) → readable (putState st s) ≡ true
+pub put-readable : (st : State) (s : List ℕ) → Placed st → readable (putState st s) ≡ true
 unfolding putState readable
-put-readable st s = simp (le-leb 7 (length (putState st s)) (put-long st s), digit-small, pass-readable)
+put-readable st s placed = simp (le-leb 40 (length (putState st s)) (put-long st s placed), digit-small, pass-readable)
+
+-- what is read has its places
+pub read-placed : (s : List ℕ) → 40 ≤ length s → Placed (stateOf s)
+unfolding stateOf programmeAt
+read-placed s long = length-take-le 32 (drop 8 s) (omega (arith, length-drop 8 s, long))

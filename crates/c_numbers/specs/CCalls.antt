@@ -1,6 +1,6 @@
 -- The calls as C makes them. The answer is four numbers at the front of a slice. Where the call was made they are the answer's values, 0 where it has none, and as the fourth 1 if the answer is Open, else 0; where it is refused the first is the refusal's place and the other three stay.
 -- Numbers behind the fourth stay. The result is 0 where the call was made, else the refusal's number, negative. A refused call leaves the state and all tables as they are (law `refused-leaves`).
--- Refusal 1 with place 0, before anything else is looked at: the state has fewer than 7 numbers, the answer fewer than 4, or the numbers are no state's (`readable`). An answer of fewer than 4 numbers keeps them all, since it cannot hold an answer.
+-- Refusal 1 with place 0, before anything else is looked at: the state has fewer than 40 numbers, the answer fewer than 4, or the numbers are no state's (`readable`). An answer of fewer than 4 numbers keeps them all, since it cannot hold an answer.
 -- Assumes nothing: these are definitions.
 use Prim.Native.Nat.{ℕ, zero, suc}
 use mathlib.Core.Bool.{Bool, true, false, _&&_}

@@ -1,4 +1,4 @@
-// The state and the answer as numbers, for C, which has no type for either: it lends seven numbers for the one and four for the other.
+// The state and the answer as numbers, for C, which has no type for either: it lends forty numbers for the one and four for the other.
 ghost use mathlib.Core.Path.{_≡_};
 ghost use Prim.Native.Nat.{_≤_};
 ghost use mathlib.Core.List.{[], _∷_};
@@ -6,11 +6,12 @@ ghost use lib.ListN.{length};
 ghost use Rattle.state.specs.Answers.{replyOf, resultBy};
 ghost use Rattle.tables.specs.Tables.{Tables};
 ghost use Rattle.tables.specs.Calls.{after};
-ghost use Rattle.c_numbers.specs.StateNumbers.{putFront, digit, passNumber, cursorNumber, changedNumber, passOf, passReadable, stateOf, putState, readable};
+ghost use Rattle.c_numbers.specs.StateNumbers.{putFront, digit, passNumber, cursorNumber, changedNumber, passOf, passReadable, programmeAt, stateOf, putProgramme, putState, readable};
 ghost use Rattle.c_numbers.specs.CCalls.{ready, valuesOf, putAnswer, refuseUnread, told, afterC};
 use state::Answer;
 use state::Outcome;
 use state::Pass;
+use state::Programme;
 use state::Refusal;
 use state::State;
 
@@ -34,11 +35,11 @@ fn pass_readable(pass: u32, cursor: u32, changed: u32) -> bool
     }
 }
 
-// Whether the numbers are a state's: V and N may be any, since the shape rule judges them.
+// Whether the numbers are a state's: V, N and those of the programme may be any, since the shape rule judges them.
 fn readable(state: &[u32]) -> bool
     ensures { λ r. ⌜ r ≡ readable (now (state .entry)) ⌝ }
 {
-    if state.len() < 7 {
+    if state.len() < 40 {
         return false;
     }
     if state[5] > 1 {
@@ -72,13 +73,34 @@ fn pass_of(pass: u32, cursor: u32, changed: u32) -> Pass
     }
 }
 
-// The state that the first seven numbers are; `ready` has seen that they are there.
+// Behind the seven numbers of document 01: the length and the 32 codes.
+fn programme_at(state: &[u32]) -> Programme
+    requires { ⌜ 40 ≤ length (now state) ⌝ }
+    ensures { λ r. ⌜ r ≡ programmeAt (now (state .entry)) ⌝ }
+{
+    let mut codes = [0u32; 32];
+    slices::copy_numbers(&state[8..40], &mut codes);
+    Programme {
+        codes,
+        length: state[7],
+    }
+}
+
+// The state that the first forty numbers are; `ready` has seen that they are there.
 pub fn state_at(state: &[u32]) -> State
-    requires { ⌜ 7 ≤ length (now state) ⌝ }
+    requires { ⌜ 40 ≤ length (now state) ⌝ }
     ensures { λ r. ⌜ r ≡ stateOf (now (state .entry)) ⌝ }
 {
     let pass = pass_of(state[2], state[3], state[4]);
-    State::of(state[0], state[1], pass, state[5] == 1, state[6] == 1)
+    let programme = programme_at(state);
+    State::of(
+        state[0],
+        state[1],
+        pass,
+        state[5] == 1,
+        state[6] == 1,
+        programme,
+    )
 }
 
 fn digit(flag: bool) -> u32
@@ -120,11 +142,21 @@ fn changed_number(pass: Pass) -> u32
     }
 }
 
-// Numbers behind the seventh stay.
+fn put_programme(state: &mut [u32], programme: Programme)
+    requires { ⌜ 40 ≤ length (now state) ⌝ }
+    ensures { λ _. ⌜ now (state .exit) ≡ putProgramme programme (now (state .entry)) ⌝ }
+{
+    let codes = programme.codes;
+    state[7] = programme.length;
+    slices::copy_numbers(&codes, &mut state[8..40]);
+}
+
+// Numbers behind the fortieth stay.
 fn put_state(state: &mut [u32], st: State)
-    requires { ⌜ 7 ≤ length (now state) ⌝ }
+    requires { ⌜ 40 ≤ length (now state) ⌝ }
     ensures { λ _. ⌜ now (state .exit) ≡ putState st (now (state .entry)) ⌝ }
 {
+    put_programme(state, st.programme);
     let pass = st.pass;
     state[0] = st.v;
     state[1] = st.n;
@@ -198,7 +230,7 @@ pub fn refuse_unread(answer: &mut [u64]) -> i64
 
 // After a call: its answer and, where it was made, the state. Both slices are long enough, as `ready` has seen.
 pub fn finish(state: &mut [u32], answer: &mut [u64], outcome: Outcome) -> i64
-    requires { ⌜ (7 ≤ length (now state)) × (4 ≤ length (now answer)) ⌝ }
+    requires { ⌜ (40 ≤ length (now state)) × (4 ≤ length (now answer)) ⌝ }
     ensures { λ r. ⌜ ((t : Tables) → afterC r (now (answer .exit)) (now (state .exit)) t ≡ told (after outcome t) (now (state .entry)) (now (answer .entry))) ⌝ }
 {
     let a = outcome.answer;

@@ -1,4 +1,4 @@
--- Document 01, demand 3: "any list of Propagate, Merge, Stamp, Failed and Sweep calls". The calls as data, each with how much of every table its caller lends. Assumes nothing: these are definitions.
+-- Document 01, demand 3: "any list of Propagate, Merge, Stamp, Failed and Sweep calls"; with document 02's CR 5 a list may set programmes in between. The calls as data, each with how much of every table its caller lends. Assumes nothing: these are definitions.
 use Prim.Native.Nat.{ℕ}
 use mathlib.Core.List.{List, [], _∷_, _++_}
 use lib.ListN.{take, drop}
@@ -12,6 +12,7 @@ use Rattle.merge.specs.Merge.{mergeCall}
 use Rattle.stamp.specs.Stamp.{stampCall}
 use Rattle.failed.specs.Failed.{failedCall}
 use Rattle.sweep.specs.Sweep.{sweepCall}
+use Rattle.set_programme.specs.SetProgramme.{setCall}
 
 pub data Call : Type 0 where
   propagate : ℕ → Call
@@ -19,6 +20,7 @@ pub data Call : Type 0 where
   stamp : List ℤ → Call
   failed : Call
   sweep : ℕ → Call
+  programme : List ℕ → Call
 
 -- how many numbers of each table are lent
 pub record Lent : Type 0 where
@@ -43,6 +45,7 @@ callOn (merge steps) t st = mergeCall steps t st
 callOn (stamp order) t st = stampCall order t st
 callOn failed t st = failedCall t st
 callOn (sweep steps) t st = sweepCall steps t st
+callOn (programme codes) t st = setCall codes t st
 
 -- one call of a list
 pub record Step : Type 0 where

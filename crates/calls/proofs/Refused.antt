@@ -1,6 +1,6 @@
 -- Every call's definition refuses short columns with 1 and changes nothing, and so a slice of fewer than 2,048 records. Assumes nothing.
 use Prim.Native.Nat.{ℕ, _<_}
-use mathlib.Core.Path.{_≡_, ap}
+use mathlib.Core.Path.{_≡_, sym, ap}
 use mathlib.Core.Bool.{Bool, true, false}
 use mathlib.Core.List.{List}
 use lib.IntN.{ℤ}
@@ -23,6 +23,8 @@ use Rattle.stamp.specs.Stamp.{stampBy, stampCall}
 use Rattle.failed.specs.Failed.{failedBy, failedCall}
 use Rattle.sweep.specs.Sweep.{sweepBy, sweepCall}
 use Rattle.run.specs.Run.{runBy, runCall}
+use Rattle.set_programme.specs.SetProgramme.{setCall}
+use Rattle.set_programme.proofs.Setting.{set-misshapen}
 use Rattle.calls.specs.Calls.{recorded}
 use Rattle.calls.proofs.Short.{short-shape, short-entry, short-opening, short-long, few-lent}
 
@@ -59,6 +61,9 @@ module _ (t : Tables) (st : State) (short : length (t .times) < 4096) where
   unfolding runCall
   run-short n = ap (λ (e : Opening). runBy e n t st) (short-opening t short st)
 
+  pub set-short : (codes : List ℕ) → setCall codes t st ≡ refuse Shape st t
+  set-short codes = sym (set-misshapen codes t st (short-shape t short st))
+
 -- document 01, refusal 1: "a table is shorter than stated", of the lent records
 module _ (clauses : List ℕ) (literals variables : List ℤ) (stamps : List StampRecord) (st : State) (few : length stamps < 2048) where
   abbrev t : Tables
@@ -66,8 +71,8 @@ module _ (clauses : List ℕ) (literals variables : List ℤ) (stamps : List Sta
 
   pub few-refused : ((text : List ℕ) → loadCall text t st ≡ refuse Shape st t) × ((out : List ℕ) → writeCall t st out ≡ afterWrite (Refused Shape) out) × ((n : ℕ) → propagateCall n t st ≡ refuse Shape st t)
       × ((n : ℕ) → mergeCall n t st ≡ refuse Shape st t) × ((order : List ℤ) → stampCall order t st ≡ refuse Shape st t) × (failedCall t st ≡ refuse Shape st t) × ((n : ℕ) → sweepCall n t st ≡ refuse Shape st t)
-      × ((n : ℕ) → runCall n t st ≡ refuse Shape st t)
-  few-refused = (load-short t st short, write-short t st short, propagate-short t st short, merge-short t st short, stamp-short t st short, failed-short t st short, sweep-short t st short, run-short t st short)
+      × ((n : ℕ) → runCall n t st ≡ refuse Shape st t) × ((codes : List ℕ) → setCall codes t st ≡ refuse Shape st t)
+  few-refused = (load-short t st short, write-short t st short, propagate-short t st short, merge-short t st short, stamp-short t st short, failed-short t st short, sweep-short t st short, run-short t st short, set-short t st short)
     where
       short : length (t .times) < 4096
       short = few-lent stamps few

@@ -7,6 +7,7 @@ use lib.IntN.{ℤ}
 use lib.ListN.{length}
 use lib.Dec.{ltb, eqb}
 use Rattle.base.proofs.Booleans.{or-left}
+use Rattle.state.specs.Programmes.{codesOf}
 use Rattle.state.specs.declared.State.{State}
 use Rattle.state.specs.declared.Pass.{Pass}
 use Rattle.tables.specs.Tables.{Tables, lengthOf}
@@ -27,7 +28,7 @@ use Rattle.failed.specs.Failed as failing
 use Rattle.sweep.specs.Sweep as sweeping
 use Rattle.settle.specs.Settle.{Standing, propagated, merged, grouped, settleFor, settle}
 use Rattle.round_order.specs.Order.{orderOf}
-use Rattle.run.specs.Run.{programme, follow, round, unchanged, Rounds, rounds, runFrom, runCall}
+use Rattle.run.specs.Run.{follow, round, unchanged, Rounds, rounds, runFrom, runCall}
 use Rattle.run.specs.Steps.{Runs}
 use Rattle.run.proofs.Running.{called}
 use Rattle.run.proofs.RoundKeeps.{follow-runs, round-runs}
@@ -169,4 +170,4 @@ run-many n t st = by (openingOf t st) refl
   where
     by : (e : Opening) → openingOf t st ≡ e → AsMany t (runCall n t st .tables)
     by (Denied r) e = subst (λ (a : After). AsMany t (a .tables)) (call-refused n t st r e) (same t)
-    by Granted e = subst (λ (a : After). AsMany t (a .tables)) (call-granted n t st e) (rounds-many programme n 0 (granted-runs t st e))
+    by Granted e = subst (λ (a : After). AsMany t (a .tables)) (call-granted n t st e) (rounds-many (codesOf (st .programme)) n 0 (granted-runs t st e))

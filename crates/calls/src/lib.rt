@@ -18,6 +18,7 @@ ghost use Rattle.stamp.specs.Stamp.{stampCall};
 ghost use Rattle.failed.specs.Failed.{failedCall};
 ghost use Rattle.sweep.specs.Sweep.{sweepCall};
 ghost use Rattle.run.specs.Run.{runCall};
+ghost use Rattle.set_programme.specs.SetProgramme.{setCall};
 ghost use Rattle.calls.specs.Calls.{recorded, held, afterStamp, inRecords, afterRun, runInRecords};
 
 // Refusal 1: fewer than 2,048 records are lent.
@@ -347,4 +348,39 @@ pub fn run(
     let ran = run_columns(clauses, literals, variables, c, st, n);
     stamp_records::put_columns(stamps, ran.columns);
     ran.outcome
+}
+
+fn set_programme_columns(
+    clauses: &[u32],
+    literals: &[i32],
+    variables: &[i32],
+    c: Columns,
+    st: State,
+    codes: &[u32],
+) -> Outcome
+    ensures { λ r. ⌜ after r (held (now (clauses .entry)) (now (literals .entry)) (now (variables .entry)) c)
+        ≡ setCall (now (codes .entry)) (held (now (clauses .entry)) (now (literals .entry)) (now (variables .entry)) c) st ⌝ }
+{
+    if c.count < 2048 {
+        return refuse_short(st);
+    }
+    let times = c.times;
+    let links = c.links;
+    set_programme::set_programme(clauses, literals, variables, &times, &links, st, codes)
+}
+
+// The programme replaced. Of the stamps only the shape rule speaks.
+pub fn set_programme(
+    clauses: &[u32],
+    literals: &[i32],
+    variables: &[i32],
+    stamps: &[StampRecord],
+    st: State,
+    codes: &[u32],
+) -> Outcome
+    ensures { λ r. ⌜ after r (recorded (now (clauses .entry)) (now (literals .entry)) (now (variables .entry)) (now (stamps .entry)))
+        ≡ setCall (now (codes .entry)) (recorded (now (clauses .entry)) (now (literals .entry)) (now (variables .entry)) (now (stamps .entry))) st ⌝ }
+{
+    let c = stamp_records::columns_of(stamps);
+    set_programme_columns(clauses, literals, variables, c, st, codes)
 }

@@ -1,4 +1,5 @@
--- The pallet cases P1 to P11 of document 01, and behind them cases of document 02's CR 2 and CR 4, as a single lemma over a list of cases, by computation. Assumes nothing.
+-- The pallet cases P1 to P11 of document 01, and behind them cases of document 02's CR 2, CR 4 and CR 5, as a single lemma over a list of cases, by computation. Assumes nothing.
+use Prim.Native.String.{String}
 use Prim.Native.Nat.{ℕ}
 use native.Mathlib.Decide.{ℕ-discrete, decLe, decLt}
 use mathlib.Core.Path.{refl}
@@ -13,7 +14,9 @@ use Rattle.implications.specs.Edges.{outs}
 use Rattle.implications.specs.Clauses.{froms, tos}
 use Rattle.scc.specs.Groups.{reaches, connected, cyclic, leastMutual}
 use Rattle.stamps.specs.Decision.{literal?, holds?, times?, parent?, start?, nested?, fresh?}
+use Rattle.state.specs.Programmes.{programmeOf, constantProgramme}
 use Rattle.state.specs.Answers.{Reply, reply}
+use Rattle.programmes.specs.Judging.{settled?, stamped?, fits?, rules?, passing?, firstOffending, judge as judgeCodes}
 use Rattle.tables.specs.Long.{long?, longOk}
 use Rattle.tables.specs.Clauses.{slotsAt, slotsFrom, standingCount, literalCount}
 use Rattle.tables.specs.Fates.{shortened, droppedAt, fateAt, visits}
@@ -40,10 +43,11 @@ use Rattle.sweep_visits.specs.Clause.{sweepClause}
 use Rattle.settle.specs.Settle.{settleFor, settle}
 use Rattle.round_order.specs.Order.{orderOf}
 use Rattle.run.specs.Run.{follow, round, unchanged, runFrom, runCall}
+use Rattle.set_programme.specs.SetProgramme.{setCall}
 use Rattle.simplify.specs.Texts.{simplifyText, unhideText}
 use Rattle.call_lists.specs.Lists.{propagate, merge, stamp, failed, sweep, stepOn, stepsOn}
 use Rattle.base.specs.Bytes.{bytes}
-use Rattle.cases.specs.Case.{Case, calls, prints, Seen, All}
+use Rattle.cases.specs.Case.{Case, calls, prints, runs, Seen, All}
 
 -- what is expected: replies, mark, the fronts of clauses, literals, variables, times and links, and what Write gives
 abbrev sees : List Reply → Bool → List ℕ → List ℤ → List ℤ → List ℕ → List ℤ → List ℕ → Seen
@@ -67,6 +71,16 @@ stamped = reply 4 0 []
 
 abbrev sets : ℕ → Reply
 sets count = reply 5 0 (count ∷ [])
+
+abbrev set : Reply
+set = reply 8 0 []
+
+abbrev ran : ℕ → Reply
+ran count = reply 6 0 (count ∷ [])
+
+-- a formula that runs of different programmes leave differently
+abbrev own : String
+own = "p cnf 4 5\n1 2 0\n1 -2 0\n1 3 0\n2 3 4 0\n-1 4 3 0\n"
 
 -- a refused load leaves the empty tables, which are written as `p cnf 0 0`
 abbrev refusedAt : ℕ → ℕ → Seen
@@ -162,8 +176,20 @@ cases =
     (sees (loaded ∷ done 6 4 8 ∷ stamped ∷ sets 1 ∷ []) false (0 ∷ 0 ∷ 0 ∷ 2 ∷ 0 ∷ 0 ∷ 4 ∷ 0 ∷ 0 ∷ 6 ∷ 0 ∷ 0 ∷ 8 ∷ 2 ∷ 1 ∷ 10 ∷ 2 ∷ 1 ∷ []) (pos 0 ∷ pos 0 ∷ pos 0 ∷ pos 0 ∷ pos 0 ∷ pos 0 ∷ pos 0 ∷ pos 0 ∷ negsuc 0 ∷ pos 3 ∷ negsuc 0 ∷ negsuc 2 ∷ [])
     (pos 1 ∷ negsuc 0 ∷ pos 1 ∷ negsuc 0 ∷ pos 3 ∷ pos 0 ∷ negsuc 0 ∷ pos 1 ∷ []) [] []
     (bytes "p cnf 4 7\n-1 0\n2 -1 0\n-2 1 0\n4 1 0\n-4 -1 0\n-1 3 0\n-1 -3 0\n"))
+    ∷
+    -- document 02, CR 5: each run follows its programme. By the constant one, set again, −1 fails in round 0 and round 1 removes what follows; by a settle alone nothing changes; without a sweep (2 3 4) stays; with two stampings two rounds are enough
+    runs own (1 ∷ 2 ∷ 3 ∷ 4 ∷ []) 9 (loaded ∷ set ∷ ran 3 ∷ []) "p cnf 4 2\n1 0\n4 3 0\n"
+    ∷
+    runs own (1 ∷ []) 9 (loaded ∷ set ∷ ran 1 ∷ []) own
+    ∷
+    runs own (1 ∷ 2 ∷ 3 ∷ []) 9 (loaded ∷ set ∷ ran 3 ∷ []) "p cnf 4 3\n1 0\n2 3 4 0\n4 3 0\n"
+    ∷
+    runs own (1 ∷ 2 ∷ 4 ∷ 1 ∷ 2 ∷ 3 ∷ 4 ∷ []) 9 (loaded ∷ set ∷ ran 2 ∷ []) "p cnf 4 2\n1 0\n4 3 0\n"
+    ∷
+    -- a stamp that follows a failed: refused, and the run follows the constant one
+    runs own (1 ∷ 2 ∷ 3 ∷ 2 ∷ []) 9 (loaded ∷ refused 12 3 ∷ ran 3 ∷ []) "p cnf 4 2\n1 0\n4 3 0\n"
     ∷ []
 
 pub hold : All cases
-unfolding and? or? if? not? so? every? eqᵇ? eqℤ? any filter absent first anyBelow allBelow sameList numbers turned evens odds interleave twin arrive leave edge edges enters startWalk stampAll outs froms tos reaches connected cyclic leastMutual literal? holds? times? parent? start? nested? fresh? long? longOk slotsAt slotsFrom standingCount literalCount shortened droppedAt fateAt visits advance firstUnsettled parts? literals? variable? spread? cursor? clauses? shape? shapeOk entryOf openingOf wordsAt header headerRest judge judgeText clausesOf clauseRecords literalPlaces variableRecords laid loadCall digits clauseText clausesText textOf writtenClauses writeText writeCall propagateClause propagateVisit propagateVisits spreadFrom spread propagateFrom propagateCall clashes representative regrouped mergedClasses mergeClause mergeOpen mergeSettled mergeCall holds insert byDiscovery scanAt scan figure6 transitive hiddenPair hiddenTautology unhidden shorten sameStart holdsBoth lowest failedSlot firstBad stampsOf stampedTables stampAcyclic stampSettled stampOrdered stampCall failedAt failedFrom failedFresh failedCall sweepClause sweepCall settleFor settle orderOf follow round unchanged runFrom runCall simplifyText unhideText stepOn stepsOn ℕ-discrete decLe decLt
-hold = (refl, (refl, (refl, (refl, (refl, (refl, (refl, (refl, (refl, (refl, (refl, (refl, (refl, (refl, (refl, (refl, (refl, (refl, tt))))))))))))))))))
+unfolding and? or? if? not? so? every? eqᵇ? eqℤ? any filter absent first anyBelow allBelow sameList numbers turned evens odds interleave twin arrive leave edge edges enters startWalk stampAll outs froms tos reaches connected cyclic leastMutual literal? holds? times? parent? start? nested? fresh? long? longOk slotsAt slotsFrom standingCount literalCount shortened droppedAt fateAt visits advance firstUnsettled parts? literals? variable? spread? cursor? clauses? shape? shapeOk entryOf openingOf wordsAt header headerRest judge judgeText clausesOf clauseRecords literalPlaces variableRecords laid loadCall digits clauseText clausesText textOf writtenClauses writeText writeCall propagateClause propagateVisit propagateVisits spreadFrom spread propagateFrom propagateCall clashes representative regrouped mergedClasses mergeClause mergeOpen mergeSettled mergeCall holds insert byDiscovery scanAt scan figure6 transitive hiddenPair hiddenTautology unhidden shorten sameStart holdsBoth lowest failedSlot firstBad stampsOf stampedTables stampAcyclic stampSettled stampOrdered stampCall failedAt failedFrom failedFresh failedCall sweepClause sweepCall settleFor settle orderOf follow round unchanged runFrom runCall simplifyText unhideText stepOn stepsOn ℕ-discrete decLe decLt constantProgramme programmeOf passing? rules? fits? stamped? settled? judgeCodes firstOffending setCall
+hold = (refl, (refl, (refl, (refl, (refl, (refl, (refl, (refl, (refl, (refl, (refl, (refl, (refl, (refl, (refl, (refl, (refl, (refl, (refl, (refl, (refl, (refl, (refl, tt)))))))))))))))))))))))

@@ -28,12 +28,13 @@ use Rattle.roundtrip.proofs.LoadBack.{long-enough}
 use Rattle.roundtrip.proofs.Reread.{text-loads}
 use Rattle.settle.specs.Settle.{Standing}
 use Rattle.call_lists.specs.Lists.{stepsOn}
+use Rattle.run.specs.Run.{runCall}
+use Rattle.run.proofs.Ways.{way-same, run-way}
 use Rattle.simplify.specs.Texts.{runUnless, simplifyLoaded, simplifyIn}
 use Rattle.simplify.proofs.Simplified.{refused-load}
 use Rattle.refinement.proofs.Loaded.{load-held}
 use Rattle.refinement.proofs.Demand3.{demand-3, steps-held}
 use Rattle.refinement.proofs.Running.{run-calls, run-keeps}
-use Rattle.equivalence.proofs.Variables.{run-same}
 
 -- what the load leaves
 abbrev loadedFrom : Tables → List ℕ → After
@@ -86,7 +87,7 @@ module _ (t : Tables) (L : Long t) (text : List ℕ) (count : ℕ) where
 
         go : (b : Bool) → runUnless b count loaded .state .v ≡ v
         go true = before
-        go false = run-same count (loaded .tables) (loaded .state) ∙ before
+        go false = way-same (loaded .tables) (loaded .state) (runCall count (loaded .tables) (loaded .state)) (run-way count (loaded .tables) (loaded .state)) .v ∙ before
 
     pub accepted-text : (out : List ℕ) → simplifyIn t text count out ≡ writeInto (writeText (end .tables) (end .state)) out
     accepted-text out =

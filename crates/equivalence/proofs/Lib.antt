@@ -1,7 +1,6 @@
 pub mod Satisfying
 pub mod Records
 pub mod Stands
-pub mod Variables
 pub mod Ending
 pub mod Texts
 pub mod Refusing

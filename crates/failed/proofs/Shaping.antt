@@ -9,6 +9,7 @@ use mathlib.Core.Bool.{Bool, true, false}
 use Rattle.stamp_columns.specs.Columns.{columns}
 use Rattle.state.specs.States.{closed, marked}
 use Rattle.state.specs.declared.State.{State}
+use Rattle.programmes.specs.Rules.{Passing}
 use Rattle.state.specs.declared.Pass.the-variants.{Idle}
 use Rattle.tables.specs.Tables.{Tables, withVariables}
 use Rattle.shape.specs.Shape.{Shape}
@@ -27,9 +28,9 @@ use Rattle.failed.proofs.Valuing.{Kept, failed-kept}
 use Rattle.failed.proofs.Calling.{shape-stamped}
 
 module _ (t : Tables) (st : State) where
-  pub fresh-shape : Formed (st .v) (st .n) (st .n) false (t .clauses) (t .literals) (t .variables) → FullStamps (st .v) (t .times) (t .links) → Shape (failedFresh t st .tables) (failedFresh t st .state)
+  pub fresh-shape : Formed (st .v) (st .n) (st .n) false (t .clauses) (t .literals) (t .variables) → FullStamps (st .v) (t .times) (t .links) → Passing (st .programme) → Shape (failedFresh t st .tables) (failedFresh t st .state)
   unfolding failedFresh
-  fresh-shape F S = go (f .opposite)
+  fresh-shape F S P = go (f .opposite)
     where
       f : Found
       f = failedFrom (columns (t .times) (t .links)) (2 * st .v) (st .v) 0 (found (t .variables) 0 false)
@@ -44,11 +45,11 @@ module _ (t : Tables) (st : State) where
       G = spread-formed (formed-values F (K .classes) (K .rows))
 
       go : (b : Bool) → Shape after (elim b as (λ x. State) [ true ↦ marked st | false ↦ closed true st ])
-      go true = formed-shape after (marked st) (formed-marked G) (S .times-room) (S .links-room) (spread-done (K .rows)) tt (λ e. S .fresh)
-      go false = formed-shape after (closed true st) G (S .times-room) (S .links-room) (spread-done (K .rows)) tt (λ e. S .fresh)
+      go true = formed-shape after (marked st) (formed-marked G) (S .times-room) (S .links-room) (spread-done (K .rows)) tt (λ e. S .fresh) P
+      go false = formed-shape after (closed true st) G (S .times-room) (S .links-room) (spread-done (K .rows)) tt (λ e. S .fresh) P
 
   entered-shape : Entered Idle t st → (b : Bool) → st .fresh ≡ b → Shape (failedUnlessStale b t st .tables) (failedUnlessStale b t st .state)
-  entered-shape E true e = fresh-shape (entered-formed E tt) (shape-stamped (E .shape) e)
+  entered-shape E true e = fresh-shape (entered-formed E tt) (shape-stamped (E .shape) e) (E .shape .programme)
   entered-shape E false e = E .shape
 
   pub failed-shape : Shape t st → Shape (failedCall t st .tables) (failedCall t st .state)

@@ -10,6 +10,7 @@ use lib.ListN.{length, take, drop, replicate}
 use lib.IntN.{ℤ, pos, negsuc}
 use Rattle.base.specs.Bytes.{bytes}
 use Rattle.base.specs.Decide.{and?, so?}
+use Rattle.state.specs.Programmes.{programmeOf}
 use Rattle.state.specs.States.{state, loadedState}
 use Rattle.state.specs.Answers.{Reply, reply, refusalNumber, refusalPlace}
 use Rattle.state.specs.declared.State.{State}
@@ -24,12 +25,12 @@ use Rattle.dimacs.specs.declared.Verdict.{Verdict}
 use Rattle.dimacs.specs.declared.Verdict.the-variants.{Refused as No, Fits}
 use Rattle.load.specs.Load.{loadCall, laid, clauseRecords, literalPlaces, variableRecords}
 
--- ---- what a load starts from: tables that hold 7 everywhere, with one place more than stated, and a state with an open pass and fresh stamps
+-- ---- what a load starts from: tables that hold 7 everywhere, with one place more than stated, and a state with an open pass, fresh stamps and a programme of its own
 abbrev lent : ℕ → Tables
 lent c = tables (replicate c 7) (replicate 16385 (pos 7)) (replicate 2049 (pos 7)) (replicate 4096 7) (replicate 4096 (pos 7))
 
 abbrev before : State
-before = state 9 9 (Sweep 3) true false
+before = state 9 9 (Sweep 3) true false (programmeOf (1 ∷ []))
 
 -- ---- what is compared of a load: the reply, the state, the fronts of the tables, and the last stated place of each with the place behind it
 pub record View : Type 0 where

@@ -197,6 +197,7 @@ fn lay(
     clauses: &mut [u32],
     literals: &mut [i32],
     variables: &mut [i32],
+    st: State,
 ) -> Outcome
     requires { ⌜ (v ≤ 1024) × (Layable n (now numbers) (length (now clauses)) (length (now literals)) × (2048 ≤ length (now variables))) ⌝ }
     ensures { λ r. ⌜ ((times : List ℕ) (links : List ℤ) → after r (returned clauses literals variables (unlent times) (unlent links))
@@ -209,7 +210,7 @@ fn lay(
     lay_variables(variables, v);
     Outcome {
         answer: Answer::Loaded,
-        state: State::loaded(v, n, p.mark),
+        state: st.loaded(v, n, p.mark),
     }
 }
 
@@ -231,7 +232,7 @@ fn load_text(
             answer: Answer::Refused(r),
             state: st,
         },
-        Verdict::Fits { v, n, body: _ } => lay(&numbers, v, n, clauses, literals, variables),
+        Verdict::Fits { v, n, body: _ } => lay(&numbers, v, n, clauses, literals, variables, st),
     }
 }
 

@@ -8,6 +8,7 @@ use lib.ListN.{length}
 use Rattle.stamps.specs.Fresh.{FreshStamps}
 use Rattle.state.specs.States.{opened, closed, marked}
 use Rattle.state.specs.declared.State.{State}
+use Rattle.programmes.specs.Rules.{Passing}
 use Rattle.state.specs.declared.Pass.the-variants.{Merge}
 use Rattle.tables.specs.Tables.{Tables, tables}
 use Rattle.tables.specs.Fates.{visits}
@@ -35,7 +36,7 @@ Shaped a = Shape (a .tables) (a .state)
 -- ---- visits from clause k on
 
 module _ (fresh : Bool) (steps k : ℕ) (t : Tables) (st : State) (F : FormedTo (st .v) (st .n) k t) (le : k ≤ st .n) (times : 4096 ≤ length (t .times)) (links : 4096 ≤ length (t .links))
-    (values : Spread (st .v) (t .variables)) (stamps : fresh ≡ true → FreshStamps (st .v) (t .times) (t .links)) where
+    (values : Spread (st .v) (t .variables)) (stamps : fresh ≡ true → FreshStamps (st .v) (t .times) (t .links)) (programme : Passing (st .programme)) where
   abbrev m : ℕ
   m = min steps (st .n - k)
 
@@ -57,10 +58,10 @@ module _ (fresh : Bool) (steps k : ℕ) (t : Tables) (st : State) (F : FormedTo 
   pub from-shaped : Shaped (mergeFrom fresh steps k t st)
   from-shaped =
       advance-cases Merge fresh fresh (mergeClause (t .variables)) steps k t st Shaped
-      (λ counts lt. formed-shape-as t t′ (opened (Merge (k + m)) fresh st) (B .stamps) times links stamps F′ values′ (lt, refl))
+      (λ counts lt. formed-shape-as t t′ (opened (Merge (k + m)) fresh st) (B .stamps) times links stamps F′ values′ (lt, refl) programme)
       (λ counts done.
       formed-shape-as t t′ (closed fresh st) (B .stamps) times links stamps
-      (subst (λ (x : ℕ). FormedTo (st .v) (st .n) x t′) (let q : k + m ≡ st .n = omega (arith, ends, done) in q) F′) values′ tt)
+      (subst (λ (x : ℕ). FormedTo (st .v) (st .n) x t′) (let q : k + m ≡ st .n = omega (arith, ends, done) in q) F′) values′ tt programme)
 
 -- ---- the call
 
@@ -69,8 +70,8 @@ module _ (steps : ℕ) (t : Tables) (st : State) (S : Shape t st) where
   unfolding mergedClasses
   open-shaped F settled =
       open-cases steps st t Shaped
-      (λ e. formed-shape t (marked st) (formed-marked F) (S .long .times) (S .long .links) (S .values) tt (λ z. absurd (false≢true z)))
-      (λ e. from-shaped false steps 0 (mergedClasses (st .v) (st .n) t) st (classes-formed t F e settled) (omega arith) (S .long .times) (S .long .links) (classes-spread t F e settled (S .values)) (λ z. absurd (false≢true z)))
+      (λ e. formed-shape t (marked st) (formed-marked F) (S .long .times) (S .long .links) (S .values) tt (λ z. absurd (false≢true z)) (S .programme))
+      (λ e. from-shaped false steps 0 (mergedClasses (st .v) (st .n) t) st (classes-formed t F e settled) (omega arith) (S .long .times) (S .long .links) (classes-spread t F e settled (S .values)) (λ z. absurd (false≢true z)) (S .programme))
 
   -- THE LAW
   pub merge-shaped : Shaped (mergeCall steps t st)
@@ -80,4 +81,4 @@ module _ (steps : ℕ) (t : Tables) (st : State) (S : Shape t st) where
       go : (x : Entry) → entryOf own.Merge t st ≡ x → Shaped (mergeBy x steps t st)
       go (No r) e = S
       go Opens e = settled-cases steps st t Shaped S (open-shaped (opens-formed steps t st e))
-      go (Resumes k changed) e = let R = resumes-resumable t st k changed e in from-shaped (st .fresh) steps k t st (R .formed) (R .within) (S .long .times) (S .long .links) (S .values) (S .stamps)
+      go (Resumes k changed) e = let R = resumes-resumable t st k changed e in from-shaped (st .fresh) steps k t st (R .formed) (R .within) (S .long .times) (S .long .links) (S .values) (S .stamps) (S .programme)

@@ -6,6 +6,7 @@ use mathlib.Core.Bool.{Bool, true, false, _||_, false≢true}
 use mathlib.Core.List.{List}
 use lib.Dec.{ltb}
 use Rattle.state.specs.declared.State.{State}
+use Rattle.programmes.specs.Rules.{Passing}
 use Rattle.tables.specs.Tables.{Tables, lengthOf, classOf}
 use Rattle.tables.specs.Fates.{Fate, kept, left, dropped, unit, conflict, store, fateAt}
 use Rattle.stamps.specs.Fresh.{FreshStamps}
@@ -84,15 +85,15 @@ replied-tables fresh before st m (contradicted t) = refl
 
 module _ (t : Tables) (st : State) (S : Shape t st) (fresh : Bool) (fresher : fresh ≡ true → FreshStamps (st .v) (t .times) (t .links)) where
   spread-shaped : (u : Tables) (st′ : State) → st′ .v ≡ st .v → SameStamps t u → (st′ .fresh ≡ true → FreshStamps (st′ .v) (t .times) (t .links))
-      → Formed (st′ .v) (st′ .n) (settledTo (st′ .pass) (st′ .n)) (st′ .mark) (u .clauses) (u .literals) (u .variables) → Cursor (st′ .pass) (st′ .n) (st′ .mark) → Shape (spreadTables (st .v) u) st′
-  spread-shaped u st′ e Q fresh′ F cursor =
+      → Formed (st′ .v) (st′ .n) (settledTo (st′ .pass) (st′ .n)) (st′ .mark) (u .clauses) (u .literals) (u .variables) → Cursor (st′ .pass) (st′ .n) (st′ .mark) → Passing (st′ .programme) → Shape (spreadTables (st .v) u) st′
+  spread-shaped u st′ e Q fresh′ F cursor programme =
       subst (λ (v : ℕ). Shape (spreadTables v u) st′) e
-      (formed-shape-as t (spreadTables (st′ .v) u) st′ (record { times = Q .times; links = Q .links }) (S .long .times) (S .long .links) fresh′ (spread-formed F) (spread-done (F .vars)) cursor)
+      (formed-shape-as t (spreadTables (st′ .v) u) st′ (record { times = Q .times; links = Q .links }) (S .long .times) (S .long .links) fresh′ (spread-formed F) (spread-done (F .vars)) cursor programme)
 
   replied-shaped : (m : ℕ) (before : List ℕ) (q : Progress) → Good (st .v) (st .n) q → SameStamps t (tablesAt q) → Shape (spreadTables (st .v) (replied fresh before st m q .tables)) (replied fresh before st m q .state)
-  replied-shaped m before (going i changed u) G Q = spread-shaped u (replied fresh before st m (going i changed u) .state) refl Q fresher (G .0) (G .1, refl)
-  replied-shaped m before (settled u) G Q = spread-shaped u (replied fresh before st m (settled u) .state) refl Q fresher G tt
-  replied-shaped m before (contradicted u) G Q = spread-shaped u (replied fresh before st m (contradicted u) .state) refl Q (λ e. absurd (false≢true e)) G tt
+  replied-shaped m before (going i changed u) G Q = spread-shaped u (replied fresh before st m (going i changed u) .state) refl Q fresher (G .0) (G .1, refl) (S .programme)
+  replied-shaped m before (settled u) G Q = spread-shaped u (replied fresh before st m (settled u) .state) refl Q fresher G tt (S .programme)
+  replied-shaped m before (contradicted u) G Q = spread-shaped u (replied fresh before st m (contradicted u) .state) refl Q (λ e. absurd (false≢true e)) G tt (S .programme)
 
   from-shaped : (steps : ℕ) (p : Progress) → Good (st .v) (st .n) p → tablesAt p ≡ t → Shape (propagateFrom fresh steps p t st .tables) (propagateFrom fresh steps p t st .state)
   unfolding propagateFrom

@@ -59,5 +59,6 @@ pub fn print_answer(answer: Answer) {
             print(b"written");
             print_number(length as u64);
         }
+        Answer::Set => print(b"set"),
     }
 }

@@ -19,11 +19,12 @@ use Rattle.merge.specs.Merge.{mergeCall}
 use Rattle.stamp.specs.Stamp.{stampCall}
 use Rattle.failed.specs.Failed.{failedCall}
 use Rattle.sweep.specs.Sweep.{sweepCall}
+use Rattle.set_programme.specs.SetProgramme.{setCall}
 use Rattle.run.specs.Run.{runCall}
 use Rattle.calls.specs.Calls.{recorded, AfterStamp, afterStamp, inRecords, AfterRun, afterRun, runInRecords}
 use Rattle.calls.proofs.Short.{few-lent}
-use Rattle.calls.proofs.Refused.{propagate-short, merge-short, stamp-short, failed-short, sweep-short}
-use Rattle.call_lists.specs.Lists.{Call, propagate, merge, stamp, failed, sweep}
+use Rattle.calls.proofs.Refused.{propagate-short, merge-short, stamp-short, failed-short, sweep-short, set-short}
+use Rattle.call_lists.specs.Lists.{Call, propagate, merge, stamp, failed, sweep, programme}
 use Rattle.recorded_calls.specs.Steps.{CallerTables, callerTables, columned, AfterCall, leaving, readingStamps, writingStamps, callOnRecords, loadOnRecords, runOnRecords, lend, Step, withBack, stepOn}
 
 -- before the call the tables, the records and the state are these; the code's outcome is o, and what it wrote is primed
@@ -52,6 +53,9 @@ module _ (clauses : List ℕ) (literals variables : List ℤ) (stamps : List Sta
   pub sweep-leaves : (n : ℕ) (clauses′ : List ℕ) (literals′ : List ℤ) → after o (recorded clauses′ literals′ variables stamps) ≡ sweepCall n t st → leaving o (callerTables clauses′ literals′ variables stamps) ≡ callOnRecords (sweep n) h st
   sweep-leaves n clauses′ literals′ e = ap (λ (a : After). readingStamps a stamps) e
 
+  pub set-leaves : (codes : List ℕ) → after o (recorded clauses literals variables stamps) ≡ setCall codes t st → leaving o (callerTables clauses literals variables stamps) ≡ callOnRecords (programme codes) h st
+  set-leaves codes e = ap (λ (a : After). readingStamps a stamps) e
+
   pub run-leaves : (n : ℕ) (clauses′ : List ℕ) (literals′ variables′ : List ℤ) (stamps′ : List StampRecord)
       → afterRun o clauses′ literals′ variables′ stamps′ ≡ runInRecords (runCall n t st) stamps → leaving o (callerTables clauses′ literals′ variables′ stamps′) ≡ runOnRecords n h st
   run-leaves n clauses′ literals′ variables′ stamps′ e = ap (λ (a : AfterRun). record { reply = a .reply; state = a .state; held = callerTables (a .clauses) (a .literals) (a .variables) (a .stamps) }) e
@@ -77,6 +81,7 @@ module _ (h : CallerTables) (st : State) (few : length (h .stamps) < 2048) where
       ∙ ap (λ (rs : List StampRecord). refusedShort st (callerTables (h .clauses) (h .literals) (h .variables) rs)) (packed-own (h .stamps))
   few-called failed = refuses (failed-short (columned h) st short)
   few-called (sweep n) = refuses (sweep-short (columned h) st short n)
+  few-called (programme codes) = refuses (set-short (columned h) st short codes)
 
 -- a call that is lent fewer than 2,048 records answers 1, and its caller holds what it held
 pub short-slice : (s : Step) (h : CallerTables) (st : State) → length (take (s .lent .stamps) (h .stamps)) < 2048 → stepOn s h st ≡ refusedShort st h

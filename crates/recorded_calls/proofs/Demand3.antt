@@ -1,6 +1,6 @@
--- DEMAND 3, over the calls that lend the stamps as a slice of records. After an accepted load and any list of Propagate, Merge, Stamp, Failed and Sweep calls, refused ones included, with any orders and step counts and any parts of the tables lent,
+-- DEMAND 3, over the calls that lend the stamps as a slice of records. After an accepted load and any list of Propagate, Merge, Stamp, Failed and Sweep calls and of calls that set a programme, refused ones included, with any orders, step counts and codes and any parts of the tables lent,
 -- slices of fewer than 2,048 records too, an assignment satisfies what stands exactly if it satisfies the loaded formula (`records-demand-3`), and every standing clause is the loaded one of its number with literals left out,
--- class literals put in on both sides (`records-left-out`). Assumes nothing.
+-- class literals put in on both sides (`records-left-out`); a run behind the list keeps the assignments too (`records-run`). Assumes nothing.
 use Prim.Native.Nat.{ℕ, _≤_, _<_}
 use native.Mathlib.Omega.{arith}
 use mathlib.Core.Path.{_≡_, sym, ap, subst, _∙_}
@@ -31,9 +31,9 @@ use Rattle.run.specs.Run.{runCall}
 use Rattle.call_lists.specs.Lists as columns
 use Rattle.calls.proofs.Spanned.{AsMany, run-many}
 use Rattle.refinement.proofs.Laid.{nth}
-use Rattle.refinement.proofs.Running.{run-keeps}
+use Rattle.refinement.proofs.Running.{runs-keep}
 use Rattle.refinement.proofs.Demand3.{demand-3, left-out}
-use Rattle.recorded_calls.specs.Steps.{CallerTables, columned, Enough, loadOnRecords, AfterCall, runOnRecords, Step, Trail, stepsOn}
+use Rattle.recorded_calls.specs.Steps.{CallerTables, columned, Enough, loadOnRecords, runOnRecords, Step, Trail, stepsOn}
 use Rattle.recorded_calls.proofs.Reading.{Reads, load-reads}
 use Rattle.recorded_calls.proofs.Simulated.{stepInColumns, trailInColumns, leftInColumns, steps-simulated}
 
@@ -59,6 +59,21 @@ load-simulated text h st = λ i. record { reply = a .reply; state = a .state; ta
 
     R : Reads (columned h) a
     R = load-reads text (columned h) st
+
+-- a run over records is the run over their columns
+run-simulated : (count : ℕ) (h : CallerTables) (st : State) → runCall count (columned h) st ≡ leftInColumns (runOnRecords count h st)
+run-simulated count h st = λ i. record { reply = a .reply; state = a .state; tables = tables (a .tables .clauses) (a .tables .literals) (a .tables .variables) (sym (packs .0) i) (sym (packs .1) i) }
+  where
+    a : After
+    a = runCall count (columned h) st
+
+    M : AsMany (columned h) (a .tables)
+    M = run-many count (columned h) st
+
+    packs : (timesOf (packed (a .tables .times) (a .tables .links) (h .stamps)) ≡ a .tables .times) × (linksOf (packed (a .tables .times) (a .tables .links) (h .stamps)) ≡ a .tables .links)
+    packs =
+        columns-packed (a .tables .times) (a .tables .links) (h .stamps) (M .times ∙ length-pairs (λ (r : StampRecord). r .discovery) (λ (r : StampRecord). r .finish) (take 2048 (h .stamps)))
+        (M .links ∙ length-pairs (λ (r : StampRecord). r .parent) (λ (r : StampRecord). r .start) (take 2048 (h .stamps)))
 
 -- the class literals of a list, on slots
 abbrev through : List ℤ → List ℤ → List ℕ
@@ -87,29 +102,9 @@ module _ (text : List ℕ) (v n body : ℕ) (accepted : judgeText text ≡ Fits 
       simulated
       (left-out text v n body accepted (columned h) (enough-long h enough) st (map stepInColumns ss))
 
--- ---- Run
-
-run-simulated : (count : ℕ) (h : CallerTables) (st : State) → runCall count (columned h) st ≡ leftInColumns (runOnRecords count h st)
-run-simulated count h st = λ i. record { reply = a .reply; state = a .state; tables = tables (a .tables .clauses) (a .tables .literals) (a .tables .variables) (sym (packs .0) i) (sym (packs .1) i) }
-  where
-    a : After
-    a = runCall count (columned h) st
-
-    M : AsMany (columned h) (a .tables)
-    M = run-many count (columned h) st
-
-    packs : (timesOf (packed (a .tables .times) (a .tables .links) (h .stamps)) ≡ a .tables .times) × (linksOf (packed (a .tables .times) (a .tables .links) (h .stamps)) ≡ a .tables .links)
-    packs =
-        columns-packed (a .tables .times) (a .tables .links) (h .stamps) (M .times ∙ length-pairs (λ (r : StampRecord). r .discovery) (λ (r : StampRecord). r .finish) (take 2048 (h .stamps)))
-        (M .links ∙ length-pairs (λ (r : StampRecord). r .parent) (λ (r : StampRecord). r .start) (take 2048 (h .stamps)))
-
--- after an accepted load, a run over records keeps the satisfying assignments too
-module _ (text : List ℕ) (v n body : ℕ) (accepted : judgeText text ≡ Fits v n body) (h : CallerTables) (enough : Enough h) (st : State) (count : ℕ) where
-  abbrev ran : AfterCall
-  ran = runOnRecords count (loadOnRecords text h st .held) (loadOnRecords text h st .state)
-
-  pub records-run : (τ : Assignment) → Stands (columned (ran .held)) (ran .state) τ ↔ Satisfies τ (textClauses text)
-  records-run τ =
+  -- a run behind the list: whatever programme the list has set
+  pub records-run : (count : ℕ) (τ : Assignment) → let ran = runOnRecords count (ended .held) (ended .state) in Stands (columned (ran .held)) (ran .state) τ ↔ Satisfies τ (textClauses text)
+  records-run count τ =
       subst (λ (a : After). Stands (a .tables) (a .state) τ ↔ Satisfies τ (textClauses text))
-      (ap (λ (a : After). runCall count (a .tables) (a .state)) (load-simulated text h st) ∙ run-simulated count (loadOnRecords text h st .held) (loadOnRecords text h st .state))
-      (run-keeps text v n body accepted (columned h) (enough-long h enough) st count τ)
+      (ap (λ (w : columns.Trail). runCall count (w .tables) (w .state)) simulated ∙ run-simulated count (ended .held) (ended .state))
+      (runs-keep text v n body accepted (columned h) (enough-long h enough) st (map stepInColumns ss) count τ)

@@ -41,6 +41,8 @@ use Rattle.failed.specs.Failed as failing
 use Rattle.sweep.specs.Sweep.{sweepBy, sweepCall}
 use Rattle.sweep_visits.specs.Clause.{sweepClause}
 use Rattle.sweep.specs.Sweep as sweeping
+use Rattle.set_programme.specs.SetProgramme.{setCall}
+use Rattle.set_programme.proofs.Setting.{set-tables}
 use Rattle.sweep_visits.proofs.Visiting.{sweep-shrinks}
 
 abbrev pub Reads : Tables → After → Type 0
@@ -113,3 +115,6 @@ sweep-reads steps t st = by (entryOf own.Sweep t st)
     by (No r) = stamps-same t
     by Opens = unless (st .fresh) 0
     by (Resumes k changed) = unless (st .fresh) k
+
+pub set-reads : (codes : List ℕ) (t : Tables) (st : State) → Reads t (setCall codes t st)
+set-reads codes t st = subst (SameStamps t) (sym (set-tables codes t st)) (stamps-same t)

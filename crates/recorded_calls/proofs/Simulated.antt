@@ -12,10 +12,10 @@ use Rattle.stamp_records.proofs.Packed.{columns-records}
 use Rattle.tables.specs.Tables.{Tables, tables}
 use Rattle.tables.specs.Calls.{After}
 use Rattle.calls.proofs.Recorded.{Kept, stamp-kept}
-use Rattle.call_lists.specs.Lists.{Call, propagate, merge, stamp, failed, sweep, callOn}
+use Rattle.call_lists.specs.Lists.{Call, propagate, merge, stamp, failed, sweep, programme, callOn}
 use Rattle.call_lists.specs.Lists as columns
 use Rattle.recorded_calls.specs.Steps.{CallerTables, columned, AfterCall, readingStamps, writingStamps, callOnRecords, Lent, lend, giveBack, Step, withBack, stepOn, Trail, stepsOn}
-use Rattle.recorded_calls.proofs.Reading.{Reads, propagate-reads, merge-reads, failed-reads, sweep-reads}
+use Rattle.recorded_calls.proofs.Reading.{Reads, propagate-reads, merge-reads, failed-reads, sweep-reads, set-reads}
 use Rattle.recorded_calls.proofs.Columns.{column-lent, column-read, column-written}
 
 -- ---- the call over columns that a call over records is
@@ -79,6 +79,7 @@ module _ (k : Lent) (h : CallerTables) where
   called (stamp order) st = let a = callOn (stamp order) (columned (lend k h)) st in λ i. record { reply = a .reply; state = a .state; tables = writing a (stamp-kept order (columned (lend k h)) st) i }
   called failed st = let a = callOn failed (columned (lend k h)) st in λ i. record { reply = a .reply; state = a .state; tables = reading a (failed-reads (columned (lend k h)) st) i }
   called (sweep steps) st = let a = callOn (sweep steps) (columned (lend k h)) st in λ i. record { reply = a .reply; state = a .state; tables = reading a (sweep-reads steps (columned (lend k h)) st) i }
+  called (programme codes) st = let a = callOn (programme codes) (columned (lend k h)) st in λ i. record { reply = a .reply; state = a .state; tables = reading a (set-reads codes (columned (lend k h)) st) i }
 
 -- ---- lists of calls
 

@@ -17,8 +17,9 @@ use Rattle.stamp.specs.Stamp.{stampCall}
 use Rattle.failed.specs.Failed.{failedCall}
 use Rattle.sweep.specs.Sweep.{sweepCall}
 use Rattle.run.specs.Run.{runCall}
+use Rattle.set_programme.specs.SetProgramme.{setCall}
 use Rattle.calls.specs.Calls.{recorded, inRecords, runInRecords}
-use Rattle.call_lists.specs.Lists.{Call, propagate, merge, stamp, failed, sweep}
+use Rattle.call_lists.specs.Lists.{Call, propagate, merge, stamp, failed, sweep, programme}
 
 -- what the caller holds: the tables, the stamps as records
 pub record CallerTables : Type 0 where
@@ -66,6 +67,7 @@ callOnRecords (merge steps) h st = readingStamps (mergeCall steps (columned h) s
 callOnRecords (stamp order) h st = writingStamps (stampCall order (columned h) st) h
 callOnRecords failed h st = readingStamps (failedCall (columned h) st) (h .stamps)
 callOnRecords (sweep steps) h st = readingStamps (sweepCall steps (columned h) st) (h .stamps)
+callOnRecords (programme codes) h st = readingStamps (setCall codes (columned h) st) (h .stamps)
 
 abbrev pub loadOnRecords : List ℕ → CallerTables → State → AfterCall
 loadOnRecords text h st = readingStamps (loadCall text (columned h) st) (h .stamps)

@@ -1,4 +1,4 @@
--- DEMAND 3, over the calls as their users see them. After an accepted load and any list of Propagate, Merge, Stamp, Failed and Sweep calls, refused ones included, with any orders and step counts and any parts of the tables lent,
+-- DEMAND 3, over the calls as their users see them. After an accepted load and any list of Propagate, Merge, Stamp, Failed and Sweep calls and of calls that set a programme, refused ones included, with any orders, step counts and codes and any parts of the tables lent,
 -- an assignment satisfies what stands exactly if it satisfies the loaded formula (`demand-3`), and every standing clause is the loaded one of its number with literals left out, class literals put in on both sides (`left-out`).
 -- Assumes nothing.
 use Prim.Native.Nat.{ℕ, suc, _+_, _*_, _≤_, _<_}
@@ -41,7 +41,8 @@ use Rattle.merge.specs.Merge.{mergeBy, mergeCall}
 use Rattle.stamp.specs.Stamp.{stampBy, stampCall}
 use Rattle.failed.specs.Failed.{failedBy, failedCall}
 use Rattle.sweep.specs.Sweep.{sweepBy, sweepCall}
-use Rattle.call_lists.specs.Lists.{Call, propagate, merge, stamp, failed, sweep, Lent, lend, giveBack, callOn, Step, stepOn, stepsOn}
+use Rattle.set_programme.proofs.Setting.{set-misshapen}
+use Rattle.call_lists.specs.Lists.{Call, propagate, merge, stamp, failed, sweep, programme, Lent, lend, giveBack, callOn, Step, stepOn, stepsOn}
 use Rattle.sound.specs.Formula.{Clause, dropped, standing}
 use Rattle.moves.proofs.Keeps as keeps
 use Rattle.moves.proofs.Traced.{only-left-out}
@@ -54,6 +55,7 @@ use Rattle.refinement.proofs.Equivalent.{tie}
 use Rattle.refinement.proofs.Held.{Held, propagate-held, merge-held}
 use Rattle.refinement.proofs.HeldStamp.{stamp-held}
 use Rattle.refinement.proofs.HeldSweep.{sweep-held}
+use Rattle.refinement.proofs.HeldProgramme.{programme-held}
 use Rattle.refinement.proofs.HeldFailed.{failed-held}
 use Rattle.refinement.proofs.Loaded.{loadedClauses, loaded-at, loaded-below, loaded-length, for-standing, all-member, above, models-satisfies, satisfies-models, load-held, each}
 use Rattle.refinement.proofs.Fronts.{Fronts, held-same}
@@ -66,6 +68,7 @@ call-held (merge steps) t st H = merge-held steps t st H
 call-held (stamp order) t st H = stamp-held order t st H
 call-held failed t st H = failed-held t st H
 call-held (sweep steps) t st H = sweep-held steps t st H
+call-held (programme codes) t st H = programme-held codes t st H
 
 -- a call on tables that break the shape rule, short ones among them, changes nothing
 pub call-refused : (c : Call) (t : Tables) (st : State) → shapeOk t st ≡ false → callOn c t st ≡ refuse refusal.Shape st t
@@ -75,6 +78,7 @@ call-refused (merge steps) t st e = ap (λ (x : Entry). mergeBy x steps t st) (e
 call-refused (stamp order) t st e = ap (λ (x : Opening). stampBy x order t st) (opening-misshapen t st e)
 call-refused failed t st e = ap (λ (x : Opening). failedBy x t st) (opening-misshapen t st e)
 call-refused (sweep steps) t st e = ap (λ (x : Entry). sweepBy x steps t st) (entry-misshapen own.Sweep t st e)
+call-refused (programme codes) t st e = sym (set-misshapen codes t st e)
 
 -- ---- what is lent, and given back
 

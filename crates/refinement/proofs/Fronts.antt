@@ -3,7 +3,7 @@ use Prim.Native.Nat.{ℕ, zero, suc, _+_, _*_, _-_, _≤_, _<_}
 use native.Mathlib.Omega.{arith}
 use mathlib.Core.Path.{_≡_, sym, ap, subst, _∙_}
 use mathlib.Core.Logic.{inl, inr}
-use mathlib.Core.List.{List, [], map}
+use mathlib.Core.List.{List, map}
 use lib.ListN.{length, getD, drop, length-drop}
 use lib.Seq.{getD-take, getD-drop, length-take-le}
 use lib.Dec.{ltb}
@@ -181,6 +181,7 @@ module _ {t u : Tables} {st : State} (A : Fronts t u) (S : Shape t st) where
     values = spread-same;
     cursor = S .cursor;
     stamps = λ e. fresh-same (st .v) (S .v-limit) (t .times) (u .times) (t .links) (u .links) (A .times) (A .links) (S .stamps e);
+    programme = S .programme;
   }
 
   part-same : (i : ℕ) → i < st .n → literalsOf (u .clauses) (u .literals) i ≡ literalsOf (t .clauses) (t .literals) i

@@ -13,6 +13,7 @@ pub mod Called
 pub mod Held
 pub mod HeldStamp
 pub mod HeldSweep
+pub mod HeldProgramme
 pub mod HeldFailed
 pub mod Laid
 pub mod LaidFormed

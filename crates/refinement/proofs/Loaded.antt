@@ -15,6 +15,7 @@ use Rattle.literal.specs.Clauses.{distinct, tautology}
 use Rattle.literal.specs.Assignments.{Assignment, someTrue, Satisfies}
 use Rattle.literal.proofs.Laws.{slot-lit, slot-below}
 use Rattle.state.specs.States.{loadedState}
+use Rattle.programmes.proofs.Programmes.{constant-passes}
 use Rattle.state.specs.declared.State.{State}
 use Rattle.tables.specs.Tables.{Tables}
 use Rattle.tables.specs.Tables as T
@@ -246,7 +247,7 @@ module _ (text : List ℕ) (v n body : ℕ) (accepted : judgeText text ≡ Fits 
         stamped = spent;
         moves = go stay (change (conflict (z .0) (z .2)));
         within = loaded-within v cs each;
-        shape = formed-shape (laid v cs t) (loadedState v (length cs) true) (subst (λ (b : Bool). Formed v (length cs) (length cs) b (laid v cs t .clauses) (laid v cs t .literals) (laid v cs t .variables)) e (laid-formed v cs t few many fits each)) (L .times) (L .links) (laid-spread v cs t few many fits each) tt (λ q. absurd (false≢true q));
+        shape = formed-shape (laid v cs t) (loadedState v (length cs) true) (subst (λ (b : Bool). Formed v (length cs) (length cs) b (laid v cs t .clauses) (laid v cs t .literals) (laid v cs t .variables)) e (laid-formed v cs t few many fits each)) (L .times) (L .links) (laid-spread v cs t few many fits each) tt (λ q. absurd (false≢true q)) constant-passes;
         tied = mark-represented (loaded-represented v cs t few many fits each);
         stamps = stale refl;
       }
@@ -255,7 +256,7 @@ module _ (text : List ℕ) (v n body : ℕ) (accepted : judgeText text ≡ Fits 
     stamped = spent;
     moves = stay;
     within = loaded-within v cs each;
-    shape = formed-shape (laid v cs t) (loadedState v (length cs) false) (subst (λ (b : Bool). Formed v (length cs) (length cs) b (laid v cs t .clauses) (laid v cs t .literals) (laid v cs t .variables)) e (laid-formed v cs t few many fits each)) (L .times) (L .links) (laid-spread v cs t few many fits each) tt (λ q. absurd (false≢true q));
+    shape = formed-shape (laid v cs t) (loadedState v (length cs) false) (subst (λ (b : Bool). Formed v (length cs) (length cs) b (laid v cs t .clauses) (laid v cs t .literals) (laid v cs t .variables)) e (laid-formed v cs t few many fits each)) (L .times) (L .links) (laid-spread v cs t few many fits each) tt (λ q. absurd (false≢true q)) constant-passes;
     tied = loaded-represented v cs t few many fits each;
     stamps = stale refl;
   }

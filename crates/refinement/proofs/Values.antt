@@ -26,9 +26,10 @@ use Rattle.merge.proofs.Shaped.{merge-shaped}
 use Rattle.stamp.proofs.Shaped.{stamp-shaped}
 use Rattle.failed.proofs.Shaping.{failed-shape}
 use Rattle.sweep.proofs.Shaped.{sweep-shaped}
+use Rattle.set_programme.proofs.Setting.{set-shaped}
 use Rattle.run.specs.Run.{runBy, runCall}
 use Rattle.run.proofs.Shaped.{run-shaped}
-use Rattle.call_lists.specs.Lists.{Call, propagate, merge, stamp, failed, sweep, callOn}
+use Rattle.call_lists.specs.Lists.{Call, propagate, merge, stamp, failed, sweep, programme, callOn}
 use Rattle.refinement.proofs.Loaded.{load-held}
 use Rattle.refinement.proofs.Demand3.{call-refused}
 
@@ -53,6 +54,7 @@ call-shaped (merge steps) t st S = merge-shaped steps t st S
 call-shaped (stamp order) t st S = stamp-shaped order t st S
 call-shaped failed t st S = failed-shape t st S
 call-shaped (sweep steps) t st S = sweep-shaped steps t st S
+call-shaped (programme codes) t st S = set-shaped codes t st S
 
 pub call-values : (c : Call) (t : Tables) (st : State) → Accepted (callOn c t st) → Spread (callOn c t st .state .v) (callOn c t st .tables .variables)
 call-values c t st h = call-shaped c t st (accepted-shape t st (callOn c t st) (call-refused c t st) h) .values

@@ -6,8 +6,10 @@ use mathlib.Core.List.{List, [], _∷_}
 use lib.IntN.{pos, negsuc}
 use Rattle.base.specs.Decide.{and?, or?, if?, not?, so?, every?, eqᵇ?, eqℤ?}
 use Rattle.stamps.specs.Decision.{literal?, fresh?}
+use Rattle.state.specs.Programmes.{programmeOf, constantProgramme}
 use Rattle.state.specs.States.{state, loadedState, emptyState}
 use Rattle.state.specs.declared.Pass.the-variants.{Merge}
+use Rattle.programmes.specs.Judging.{settled?, stamped?, fits?, rules?, passing?}
 use Rattle.tables.specs.Tables.{Tables, tables}
 use Rattle.tables.specs.Long.{long?, longOk}
 use Rattle.shape.specs.Decision.{parts?, literals?, variable?, spread?, cursor?, clauses?, shape?, shapeOk}
@@ -43,7 +45,7 @@ cases =
     ∷ loadedCase "p cnf 2 2\n1 0\n0\n" 12 0 12 "p cnf 2 1\n0\n" 0
     ∷ loadedCase "p cnf 2 2\n1 0\n0\n" 11 10 12 "" 11
     -- an open pass is no obstacle
-    ∷ case (full (0 ∷ 2 ∷ 1 ∷ []) (pos 1 ∷ negsuc 1 ∷ []) (pos 1 ∷ pos 0 ∷ pos 1 ∷ pos 0 ∷ [])) (state 2 1 (Merge 0) false false) 40 0 31 "p cnf 2 3\n2 -1 0\n-2 1 0\n1 -2 0\n" 9
+    ∷ case (full (0 ∷ 2 ∷ 1 ∷ []) (pos 1 ∷ negsuc 1 ∷ []) (pos 1 ∷ pos 0 ∷ pos 1 ∷ pos 0 ∷ [])) (state 2 1 (Merge 0) false false constantProgramme) 40 0 31 "p cnf 2 3\n2 -1 0\n-2 1 0\n1 -2 0\n" 9
     -- refusal 1: a short table; a literal out of range; a value that is not that of the class literal
     ∷ case short emptyState 20 1 0 "" 20
     ∷ case (full (0 ∷ 1 ∷ 1 ∷ []) (pos 3 ∷ []) (pos 1 ∷ pos 0 ∷ pos 2 ∷ pos 0 ∷ [])) (loadedState 2 1 false) 40 1 0 "" 40
@@ -51,5 +53,5 @@ cases =
     ∷ []
 
 pub hold : AllWritten cases
-unfolding writeCall writeText writtenClauses textOf clausesText clauseText digits loadCall laid clauseRecords literalPlaces variableRecords longOk judgeText judge clausesOf wordsAt header headerRest shapeOk shape? long? clauses? parts? literals? variable? spread? cursor? fresh? literal? and? or? if? not? so? every? eqᵇ? eqℤ? ℕ-discrete decLe decLt
+unfolding writeCall writeText writtenClauses textOf clausesText clauseText digits loadCall laid clauseRecords literalPlaces variableRecords longOk judgeText judge clausesOf wordsAt header headerRest shapeOk shape? long? clauses? parts? literals? variable? spread? cursor? fresh? literal? and? or? if? not? so? every? eqᵇ? eqℤ? ℕ-discrete decLe decLt constantProgramme programmeOf passing? rules? fits? stamped? settled?
 hold = (refl, (refl, (refl, (refl, (refl, (refl, (refl, (refl, (refl, (refl, (refl, (refl, tt))))))))))))

@@ -9,7 +9,8 @@ use lib.Seq.{getD-append-add, getD-take, length-take-le}
 use lib.Dec.{ltb}
 use lib.IntN.{ℤ, pos}
 use borrow.Author.Tests.{lt-ltb, le-ltb, ltb-true, ltb-false}
-use Rattle.base.specs.Lists.{first, numbers}
+use Rattle.base.specs.Lists.{numbers}
+use Rattle.base.proofs.Searches.{first-none}
 use Rattle.literal.specs.Literals.{Literal, inRange, slotOf, litAt}
 use Rattle.literal.specs.Clauses.{has}
 use Rattle.literal.proofs.Laws.{slot-lit, lit-var, literal-tested}
@@ -23,12 +24,6 @@ use Rattle.round_order.proofs.Orders.{listed, listed-length, turn-le, order-is,
 has-none : (l : ℤ) (xs : List ℤ) → ((j : ℕ) → j < length xs → getD xs j (pos 0) ≡ l → ⊥) → has l xs ≡ false
 has-none l [] h = refl
 has-none l (x ∷ xs) h = ap₂ (λ (a b : Bool). a || b) (ne-eqZ x l (h 0 (omega arith))) (has-none l xs (λ j lt. h (suc j) (omega arith)))
-
-first-none : (test : ℕ → Bool) (n k : ℕ) → ((j : ℕ) → k ≤ j → j < k + n → test j ≡ false) → first test n k ≡ k + n
-unfolding first
-first-none test zero k h = let q : k ≡ k + 0 = omega arith in q
-first-none test (suc n) k h =
-    (let e : test k ≡ false = h k (omega arith) (omega arith) in rw (e, first)) ∙ first-none test n (suc k) (λ j a b. h j (omega arith) (omega arith)) ∙ (let q : suc k + n ≡ k + suc n = omega arith in q)
 
 -- ---- the entries
 

@@ -3,6 +3,7 @@ use Prim.Native.Nat.{ℕ, zero, suc}
 use mathlib.Core.Path.{_≡_, refl}
 use mathlib.Core.Bool.{Bool, true, false, _||_}
 use mathlib.Core.List.{List}
+use Rattle.state.specs.Programmes.{codesOf}
 use Rattle.state.specs.declared.State.{State}
 use Rattle.tables.specs.Tables.{Tables}
 use Rattle.shape.specs.Shape.{Shape}
@@ -11,7 +12,7 @@ use Rattle.entry.specs.declared.Opening.{Opening}
 use Rattle.entry.specs.declared.Opening.the-variants.{Denied, Granted}
 use Rattle.settle.specs.Settle.{Standing}
 use Rattle.settle.specs.Steps.{standingIn}
-use Rattle.run.specs.Run.{programme, round, unchanged, Rounds, rounds, runFrom, runBy, runCall}
+use Rattle.run.specs.Run.{round, unchanged, Rounds, rounds, runFrom, runBy, runCall}
 use Rattle.run.specs.Steps.{Runs}
 use Rattle.run.proofs.Resting.{Rests, runs-rests}
 use Rattle.run.proofs.RoundKeeps.{round-rests, round-runs}
@@ -34,4 +35,4 @@ run-shaped count t st S = by (openingOf t st) refl
   where
     by : (e : Opening) → openingOf t st ≡ e → Shape (runBy e count t st .tables) (runBy e count t st .state)
     by (Denied r) q = S
-    by Granted q = rounds-rest programme count 0 (standingIn t st) (granted-runs t st q) .shape
+    by Granted q = rounds-rest (codesOf (st .programme)) count 0 (standingIn t st) (granted-runs t st q) .shape

@@ -1,5 +1,5 @@
--- A run's Stamp is never refused: what Settle leaves without the mark has no clause that refusal 6 names and no cycle for refusal 7, and the order of a round has no entry for refusal 8. Assumes nothing.
-use Prim.Native.Nat.{ℕ, _+_, _*_, _≤_}
+-- A Stamp that directly follows a settle is never refused in a run: what Settle leaves without the mark has no clause that refusal 6 names and no cycle for refusal 7, and the order of a round has no entry for refusal 8. Assumes nothing.
+use Prim.Native.Nat.{ℕ, _+_, _*_}
 use native.Mathlib.Omega.{arith}
 use mathlib.Core.Path.{_≡_, sym, ap, subst, _∙_}
 use mathlib.Core.Bool.{Bool, true, false}
@@ -54,13 +54,18 @@ module _ (order : List ℤ) (t : Tables) (st : State) where
             | false ↦ refuse (Order 0) st t
           ]
 
--- THE THEOREM
-pub stamp-taken : (k : ℕ) {w : Standing} → Runs w → settle w .state .mark ≡ false
-    → stampOrdered (orderOf (settle w .state .v) k) (settle w .tables) (settle w .state) ≡ stampFresh (orderOf (settle w .state .v) k) (settle w .tables) (settle w .state)
-stamp-taken k {w} R clear =
+-- no clause that refusal 6 names, and no cycle for refusal 7: what Settle leaves without the mark
+pub record Quiet (w : Standing) : Type 0 where
+  pub settled : firstUnsettled (w .tables) (w .state .n) ≡ w .state .n
+  pub acyclic : cyclic (edgesOf (w .tables) (w .state .n)) (2 * w .state .v) ≡ false
+
+pub settle-leaves : {w : Standing} → Runs w → settle w .state .mark ≡ false → Quiet (settle w)
+settle-leaves {w} R clear =
     let Q = settle-quiet (w .tables) (w .state) (runs-formed R) clear in
     let same-n : settle w .state .n ≡ w .state .n = ap (λ (s : State). s .n) (Q .state) in
-    let same-v : settle w .state .v ≡ w .state .v = ap (λ (s : State). s .v) (Q .state) in
-    let few : settle w .state .v ≤ 1024 = omega (arith, same-v, R .shape .v-limit) in
-    ordered-fresh (orderOf (settle w .state .v) k) (settle w .tables) (settle w .state) (order-length (settle w .state .v) k) (order-passes (settle w .state .v) k few)
-    (subst (λ (x : ℕ). firstUnsettled (settle w .tables) x ≡ x) (sym same-n) (Q .settled)) (Q .acyclic)
+    record { settled = subst (λ (x : ℕ). firstUnsettled (settle w .tables) x ≡ x) (sym same-n) (Q .settled); acyclic = Q .acyclic }
+
+-- THE THEOREM: there the Stamp of any round is made
+pub stamp-taken : (k : ℕ) {w : Standing} → Runs w → Quiet w → stampOrdered (orderOf (w .state .v) k) (w .tables) (w .state) ≡ stampFresh (orderOf (w .state .v) k) (w .tables) (w .state)
+stamp-taken k {w} R Q =
+    ordered-fresh (orderOf (w .state .v) k) (w .tables) (w .state) (order-length (w .state .v) k) (order-passes (w .state .v) k (R .shape .v-limit)) (Q .settled) (Q .acyclic)

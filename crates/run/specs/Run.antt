@@ -1,6 +1,6 @@
 -- Document 01: "Run takes a round count (0 to 65,535). A round follows a constant programme of codes: settle (1), stamp (2), failed (3), sweep (4). ..
 -- Round k, from 0, uses 1, −1, 2, −2, .. turned left by k mod 2V places (no turn for V = 0). Run stops at the mark, at the count or after a round that changed no clause, class or value, and answers the rounds made, the one in which the mark came included."
--- Assumes nothing: these are definitions.
+-- Document 02, CR 5: in place of the constant programme, "Run then follows it in every round, with the same stop": the state's codes, as far as its length goes. Assumes nothing: these are definitions.
 use Prim.Native.Nat.{ℕ, zero, suc, _*_}
 use mathlib.Core.Bool.{Bool, true, false, _&&_, _||_}
 use mathlib.Core.List.{List, [], _∷_}
@@ -8,6 +8,7 @@ use lib.ListN.{take}
 use lib.Dec.{eqb}
 use Rattle.base.specs.Lists.{allBelow, sameList}
 use Rattle.literal.specs.Literals.{eqZ}
+use Rattle.state.specs.Programmes.{codesOf}
 use Rattle.state.specs.declared.State.{State}
 use Rattle.state.specs.declared.Answer.the-variants.{Ran}
 use Rattle.tables.specs.Tables.{Tables}
@@ -24,10 +25,6 @@ use Rattle.round_order.specs.Order.{orderOf}
 use Rattle.settle.specs.Settle.{Standing, between, unmarked, settle}
 
 -- ---- a round
-
--- the constant programme
-abbrev pub programme : List ℕ
-programme = 1 ∷ 2 ∷ 3 ∷ 4 ∷ []
 
 -- what a code does in round k: settle, or the whole call, which needs no check of the shape
 unfoldable pub follow : ℕ → ℕ → Standing → Standing
@@ -81,7 +78,7 @@ runReply r = answered (Ran (r .made)) (r .standing .state) (r .standing .tables)
 
 abbrev pub runBy : Opening → ℕ → Tables → State → After
 runBy (Denied r) count t st = refuse r st t
-runBy Granted count t st = runReply (runFrom programme count 0 (record { tables = t; state = st }))
+runBy Granted count t st = runReply (runFrom (codesOf (st .programme)) count 0 (record { tables = t; state = st }))
 
 unfoldable pub runCall : ℕ → Tables → State → After
 runCall count t st = runBy (openingOf t st) count t st

@@ -1,17 +1,23 @@
-// Run: rounds of a constant programme of passes.
+// Run: rounds of the passes that the state's programme names.
 use entry::Opening;
 use stamp::Ruling;
 use state::Answer;
+use state::FAILED;
 use state::Outcome;
+use state::Programme;
+use state::SETTLE;
+use state::STAMP;
+use state::SWEEP;
 use state::State;
 ghost use mathlib.Core.Path.{_≡_};
 ghost use mathlib.Core.Bool.{true, _||_};
 ghost use mathlib.Core.List.{List};
-ghost use Prim.Native.Nat.{ℕ, _+_, _*_, _<_};
+ghost use Prim.Native.Nat.{ℕ, _+_, _*_, _≤_, _<_};
 ghost use lib.ListN.{length};
 ghost use lib.IntN.{ℤ};
 ghost use Rattle.base.specs.Lists.{allBelow, sameList};
 ghost use Rattle.literal.specs.Literals.{eqZ};
+ghost use Rattle.state.specs.Programmes.{codesOf};
 ghost use Rattle.state.specs.declared.State.{State};
 ghost use Rattle.tables.specs.Lent.{handed, lent, returned, unlent};
 ghost use Rattle.tables.specs.Clauses.{literalsOf};
@@ -23,21 +29,9 @@ ghost use Rattle.sweep.specs.Sweep as sweeping;
 ghost use Rattle.sweep_visits.specs.Visits.{Sweepable};
 ghost use Rattle.settle.specs.Settle.{between};
 ghost use Rattle.round_order.specs.Order.{orderOf};
-ghost use Rattle.run.specs.Run.{programme, follow, round, unchanged, rounds, runFrom, runReply, runCall};
+ghost use Rattle.run.specs.Run.{follow, round, unchanged, rounds, runFrom, runReply, runCall};
 ghost use Rattle.settle.specs.Steps.{standingIn};
 ghost use Rattle.run.specs.Steps.{Runs, PartsInside, Places, Saves, Saved, Comparable};
-
-// The pass codes.
-const SETTLE: u8 = 1;
-
-const STAMP: u8 = 2;
-
-const FAILED: u8 = 3;
-
-const SWEEP: u8 = 4;
-
-// The codes that each round follows.
-const PROGRAMME: [u8; 4] = [SETTLE, STAMP, FAILED, SWEEP];
 
 // What a round leaves, and whether the run stops after it.
 pub struct Turn {
@@ -225,7 +219,7 @@ fn follow_sweep(
 
 // What a code does in round k.
 fn follow(
-    code: u8,
+    code: u32,
     k: u32,
     clauses: &mut [u32],
     literals: &mut [i32],
@@ -254,7 +248,7 @@ fn follow(
 
 // ---- rounds
 
-// Round k: the codes of the programme in order, up to the mark.
+// Round k: the codes of a programme in order, up to the mark.
 fn round(
     k: u32,
     clauses: &mut [u32],
@@ -263,14 +257,17 @@ fn round(
     times: &mut [u32],
     links: &mut [i32],
     st: State,
+    programme: Programme,
 ) -> State
-    requires { ⌜ Runs (standingIn (handed clauses literals variables times links) st) ⌝ }
-    ensures { λ r. ⌜ standingIn (returned clauses literals variables times links) r ≡ round k programme (standingIn (lent clauses literals variables times links) st) ⌝ }
+    requires { ⌜ Runs (standingIn (handed clauses literals variables times links) st) × (programme .length ≤ 32) ⌝ }
+    ensures { λ r. ⌜ standingIn (returned clauses literals variables times links) r ≡ round k (codesOf programme) (standingIn (lent clauses literals variables times links) st) ⌝ }
 {
+    let codes = programme.codes;
+    let count = programme.length as usize;
     let mut state = st;
     let mut i = 0;
-    while i < 4 {
-        let code = PROGRAMME[i];
+    while i < count {
+        let code = codes[i];
         i += 1;
         state = follow(code, k, clauses, literals, variables, times, links, state);
         if state.mark {
@@ -289,18 +286,19 @@ fn make_round(
     times: &mut [u32],
     links: &mut [i32],
     st: State,
+    programme: Programme,
     kept: &mut [u32],
     parts: &mut [i32],
     rows: &mut [i32],
 ) -> Turn
-    requires { ⌜ Runs (standingIn (handed clauses literals variables times links) st) × Places (now kept) (now parts) (now rows) ⌝ }
-    ensures { λ r. ⌜ (standingIn (returned clauses literals variables times links) (r .state) ≡ round k programme (standingIn (lent clauses literals variables times links) st))
+    requires { ⌜ Runs (standingIn (handed clauses literals variables times links) st) × (programme .length ≤ 32) × Places (now kept) (now parts) (now rows) ⌝ }
+    ensures { λ r. ⌜ (standingIn (returned clauses literals variables times links) (r .state) ≡ round k (codesOf programme) (standingIn (lent clauses literals variables times links) st))
         × (r .stop ≡ (r .state .mark || unchanged (standingIn (lent clauses literals variables times links) st) (standingIn (returned clauses literals variables times links) (r .state)))) ⌝ }
 {
     save(clauses, literals, variables, kept, parts, rows);
     let v = st.v;
     let n = st.n;
-    let after = round(k, clauses, literals, variables, times, links, st);
+    let after = round(k, clauses, literals, variables, times, links, st, programme);
     let same = same_tables(v, n, kept, parts, rows, clauses, literals, variables);
     let stop = base::either(after.mark, same);
     Turn { state: after, stop }
@@ -315,12 +313,13 @@ fn make_rounds(
     times: &mut [u32],
     links: &mut [i32],
     st: State,
+    programme: Programme,
     kept: &mut [u32],
     parts: &mut [i32],
     rows: &mut [i32],
 ) -> Made
-    requires { ⌜ Runs (standingIn (handed clauses literals variables times links) st) × Places (now kept) (now parts) (now rows) ⌝ }
-    ensures { λ r. ⌜ rounds (r .made) (standingIn (returned clauses literals variables times links) (r .state)) ≡ runFrom programme count 0 (standingIn (lent clauses literals variables times links) st) ⌝ }
+    requires { ⌜ Runs (standingIn (handed clauses literals variables times links) st) × (programme .length ≤ 32) × Places (now kept) (now parts) (now rows) ⌝ }
+    ensures { λ r. ⌜ rounds (r .made) (standingIn (returned clauses literals variables times links) (r .state)) ≡ runFrom (codesOf programme) count 0 (standingIn (lent clauses literals variables times links) st) ⌝ }
 {
     let mut state = st;
     let mut k: u32 = 0;
@@ -333,6 +332,7 @@ fn make_rounds(
             times,
             links,
             state,
+            programme,
             kept,
             parts,
             rows,
@@ -356,9 +356,10 @@ fn run_rounds(
     times: &mut [u32],
     links: &mut [i32],
     st: State,
+    programme: Programme,
 ) -> Made
-    requires { ⌜ Runs (standingIn (handed clauses literals variables times links) st) ⌝ }
-    ensures { λ r. ⌜ rounds (r .made) (standingIn (returned clauses literals variables times links) (r .state)) ≡ runFrom programme count 0 (standingIn (lent clauses literals variables times links) st) ⌝ }
+    requires { ⌜ Runs (standingIn (handed clauses literals variables times links) st) × (programme .length ≤ 32) ⌝ }
+    ensures { λ r. ⌜ rounds (r .made) (standingIn (returned clauses literals variables times links) (r .state)) ≡ runFrom (codesOf programme) count 0 (standingIn (lent clauses literals variables times links) st) ⌝ }
 {
     let mut kept = [0u32; 12288];
     let mut parts = [0i32; 16384];
@@ -371,6 +372,7 @@ fn run_rounds(
         times,
         links,
         st,
+        programme,
         &mut kept,
         &mut parts,
         &mut rows,
@@ -379,7 +381,7 @@ fn run_rounds(
 
 // ---- the call
 
-// A call that no refusal stops.
+// A call that no refusal stops. No pass changes the programme, so that every round follows the one that the state has now.
 fn run_entered(
     count: u32,
     clauses: &mut [u32],
@@ -390,9 +392,19 @@ fn run_entered(
     st: State,
 ) -> Outcome
     requires { ⌜ Runs (standingIn (handed clauses literals variables times links) st) ⌝ }
-    ensures { λ r. ⌜ after r (returned clauses literals variables times links) ≡ runReply (runFrom programme count 0 (standingIn (lent clauses literals variables times links) st)) ⌝ }
+    ensures { λ r. ⌜ after r (returned clauses literals variables times links) ≡ runReply (runFrom (codesOf (st .programme)) count 0 (standingIn (lent clauses literals variables times links) st)) ⌝ }
 {
-    let made = run_rounds(count, clauses, literals, variables, times, links, st);
+    let programme = st.programme;
+    let made = run_rounds(
+        count,
+        clauses,
+        literals,
+        variables,
+        times,
+        links,
+        st,
+        programme,
+    );
     let number = made.made;
     let state = made.state;
     Outcome {

@@ -2,13 +2,14 @@
 use Prim.Native.Nat.{ℕ, zero, suc, _+_, _≤_}
 use native.Mathlib.Omega.{arith}
 use mathlib.Core.Path.{_≡_, refl, sym, ap, subst, _∙_}
-use mathlib.Core.Bool.{false}
+use mathlib.Core.Bool.{Bool, false}
 use mathlib.Core.List.{List, []}
 use Rattle.base.specs.Decide.{says-yes}
 use Rattle.state.specs.States.{opened}
 use Rattle.state.specs.declared.State.{State}
 use Rattle.state.specs.declared.Pass.the-variants.{Idle, Propagate}
 use Rattle.tables.specs.Tables.{Tables}
+use Rattle.tables.specs.Calls.{After}
 use Rattle.shape.specs.Shape.{Shape}
 use Rattle.shape.specs.Decision.{shape-agrees}
 use Rattle.entry.specs.Entry.{entryOf}
@@ -35,23 +36,33 @@ use Rattle.settle.specs.Settle.{Standing, between, enough, propagated}
 abbrev pub stop : State → Progress → Standing
 stop st q = between (spreadBehind (st .v) (replied false [] st 0 q))
 
-replied-stop : (before : List ℕ) (st st′ : State) (m : ℕ) (q : Progress) → st′ .v ≡ st .v → st′ .n ≡ st .n → between (spreadBehind (st .v) (replied false before st′ m q)) ≡ stop st q
-replied-stop before st st′ m (going k changed t) e d = cc
-replied-stop before st st′ m (settled t) e d = cc
-replied-stop before st st′ m (contradicted t) e d = cc
+replied-stop : (before : List ℕ) (st st′ : State) (m : ℕ) (q : Progress) → st′ .v ≡ st .v → st′ .n ≡ st .n → st′ .programme ≡ st .programme → between (spreadBehind (st .v) (replied false before st′ m q)) ≡ stop st q
+replied-stop before st st′ m (going k changed t) e d f = cc
+replied-stop before st st′ m (settled t) e d f = cc
+replied-stop before st st′ m (contradicted t) e d f = cc
 
 from-stop : (steps : ℕ) (p : Progress) (t : Tables) (st : State) → between (propagateFrom false steps p t st) ≡ stop st (propagateVisits (st .n) steps 0 p .progress)
 unfolding propagateFrom
-from-stop steps p t st = replied-stop (t .clauses) st st (propagateVisits (st .n) steps 0 p .visits) (propagateVisits (st .n) steps 0 p .progress) refl refl
+from-stop steps p t st = replied-stop (t .clauses) st st (propagateVisits (st .n) steps 0 p .visits) (propagateVisits (st .n) steps 0 p .progress) refl refl refl
 
--- what calls of Propagate, of at most 65,535 steps each, make of w
+-- visits are no refusal
+from-taken : (fresh : Bool) (steps : ℕ) (p : Progress) (t : Tables) (st : State) → propagateFrom fresh steps p t st .reply .number ≡ 0
+unfolding propagateFrom
+from-taken fresh steps p t st = by (propagateVisits (st .n) steps 0 p .progress)
+  where
+    by : (q : Progress) → replied fresh (t .clauses) st (propagateVisits (st .n) steps 0 p .visits) q .reply .number ≡ 0
+    by (going k changed u) = refl
+    by (settled u) = refl
+    by (contradicted u) = refl
+
+-- what calls of Propagate, of at most 65,535 steps each and none of them refused, make of w
 pub data Calls (w : Standing) : Standing → Type 0 where
   none : Calls w w
-  more : {x : Standing} → Calls w x → (steps : ℕ) → steps ≤ 65535 → Calls w (between (propagateCall steps (x .tables) (x .state)))
+  more : {x : Standing} → Calls w x → (steps : ℕ) → steps ≤ 65535 → propagateCall steps (x .tables) (x .state) .reply .number ≡ 0 → Calls w (between (propagateCall steps (x .tables) (x .state)))
 
 pub calls-shaped : {w x : Standing} → Calls w x → Shape (w .tables) (w .state) → Shape (x .tables) (x .state)
 calls-shaped none S = S
-calls-shaped (more {x} C steps h) S = propagate-shaped steps (x .tables) (x .state) (calls-shaped C S)
+calls-shaped (more {x} C steps h taken) S = propagate-shaped steps (x .tables) (x .state) (calls-shaped C S)
 
 -- the variables' records where a pass stands
 good-rows : (v n : ℕ) (q : Progress) → Good v n q → Variables v (tablesAt q .variables)
@@ -68,7 +79,8 @@ module _ (t : Tables) (st : State) (S : Shape t st) (idle : st .pass ≡ Idle) (
   after m = propagateVisits (st .n) m 0 (begin (st .n) t) .progress
 
   opens : Calls (record { tables = t; state = st }) (stop st (after 0))
-  opens = subst (Calls (record { tables = t; state = st })) (ap between (sym (call-opens 0 t st entry)) ∙ from-stop 0 (begin (st .n) t) t st) (more none 0 (omega arith))
+  opens = subst (Calls (record { tables = t; state = st })) (ap between (sym (call-opens 0 t st entry)) ∙ from-stop 0 (begin (st .n) t) t st)
+      (more none 0 (omega arith) (sym (ap (λ (a : After). a .reply .number) (call-opens 0 t st entry)) ∙ from-taken false 0 (begin (st .n) t) t st))
     where
       entry : entryOf own.Propagate t st ≡ Opens
       entry = entry-idle t st (sym (shape-agrees t st (says-yes S))) idle unmarked own.Propagate
@@ -78,11 +90,11 @@ module _ (t : Tables) (st : State) (S : Shape t st) (idle : st .pass ≡ Idle) (
   resumes b h (going k changed u) G C =
       subst (Calls (record { tables = t; state = st }))
       (ap between (sym (call-resumes b x (opened (Propagate k changed) false st) k changed entry)) ∙ from-stop b (going k changed x) x (opened (Propagate k changed) false st)
-      ∙ replied-stop [] st (opened (Propagate k changed) false st) 0 (propagateVisits (st .n) b 0 (going k changed x) .progress) refl refl
+      ∙ replied-stop [] st (opened (Propagate k changed) false st) 0 (propagateVisits (st .n) b 0 (going k changed x) .progress) refl refl refl
       ∙ ap between (resembling-replied (st .v) false [] st 0 (propagateVisits (st .n) b 0 (going k changed u) .progress) (propagateVisits (st .n) b 0 (going k changed x) .progress)
       (good-rows (st .v) (st .n) (propagateVisits (st .n) b 0 (going k changed u) .progress) (visits-good (st .v) (st .n) b 0 (going k changed u) G))
       (visits-resemble (st .v) (st .n) b 0 (going k changed u) (going k changed x) G (record { variables = x .variables; alike = spread-alike (G .0 .vars); is = refl }))))
-      (more C b h)
+      (more C b h (sym (ap (λ (a : After). a .reply .number) (call-resumes b x (opened (Propagate k changed) false st) k changed entry)) ∙ from-taken false b (going k changed x) x (opened (Propagate k changed) false st)))
     where
       x : Tables
       x = spreadTables (st .v) u

@@ -15,6 +15,7 @@ use Rattle.tables.specs.Tables.{Tables, startOf, lengthOf, standing, variableAt
 use Rattle.tables.specs.Values.{classValue}
 use Rattle.shape.specs.Shape.{Parts, Literals, Variable, Spread, settledTo, Cursor, Clauses, Shape}
 use Rattle.state.specs.declared.State.{State}
+use Rattle.programmes.specs.Judging.{passing?}
 use Rattle.state.specs.declared.Pass.{Pass}
 use Rattle.state.specs.declared.Pass.the-variants.{Idle, Propagate, Merge, Sweep}
 
@@ -68,8 +69,8 @@ clauses? v n settled mark clauses literals variables =
 unfoldable pub shape? : (t : Tables) (st : State) → Dec (Shape t st)
 shape? t st =
     so?
-    (λ h. record { long = h .0; v-limit = h .1 .0; n-limit = h .1 .1 .0; clauses = h .1 .1 .1 .0; variables = h .1 .1 .1 .1 .0; values = h .1 .1 .1 .1 .1 .0; cursor = h .1 .1 .1 .1 .1 .1 .0; stamps = h .1 .1 .1 .1 .1 .1 .1 })
-    (λ (S : Shape t st). (S .long, (S .v-limit, (S .n-limit, (S .clauses, (S .variables, (S .values, (S .cursor, S .stamps))))))))
+    (λ h. record { long = h .0; v-limit = h .1 .0; n-limit = h .1 .1 .0; clauses = h .1 .1 .1 .0; variables = h .1 .1 .1 .1 .0; values = h .1 .1 .1 .1 .1 .0; cursor = h .1 .1 .1 .1 .1 .1 .0; stamps = h .1 .1 .1 .1 .1 .1 .1 .0; programme = h .1 .1 .1 .1 .1 .1 .1 .1 })
+    (λ (S : Shape t st). (S .long, (S .v-limit, (S .n-limit, (S .clauses, (S .variables, (S .values, (S .cursor, (S .stamps, S .programme)))))))))
     (and? (long? t)
     (and? (decLe (st .v) 1024)
     (and? (decLe (st .n) 4096)
@@ -77,7 +78,8 @@ shape? t st =
     (and? (every? (st .v) (λ w. variable? (t .variables) (w + 1)))
     (and? (spread? (st .v) (t .variables))
     (and? (cursor? (st .pass) (st .n) (st .mark))
-    (if? (eqᵇ? (st .fresh) true) (fresh? (st .v) (t .times) (t .links))))))))))
+    (and? (if? (eqᵇ? (st .fresh) true) (fresh? (st .v) (t .times) (t .links)))
+    (passing? (st .programme))))))))))
 
 -- refusal 1 is given exactly where this is false
 unfoldable pub shapeOk : Tables → State → Bool

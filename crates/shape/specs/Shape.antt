@@ -13,6 +13,7 @@ use Rattle.tables.specs.Long.{Long}
 use Rattle.tables.specs.Tables.{Tables, startOf, lengthOf, standing, variableAt, classOf, valueOf}
 use Rattle.tables.specs.Values.{classValue}
 use Rattle.state.specs.declared.State.{State}
+use Rattle.programmes.specs.Rules.{Passing}
 use Rattle.state.specs.declared.Pass.{Pass}
 use Rattle.state.specs.declared.Pass.the-variants.{Idle, Propagate, Merge, Sweep}
 
@@ -69,3 +70,5 @@ pub record Shape (t : Tables) (st : State) : Type 0 where
   pub values : Spread (st .v) (t .variables)
   pub cursor : Cursor (st .pass) (st .n) (st .mark)
   pub stamps : st .fresh ≡ true → FreshStamps (st .v) (t .times) (t .links)
+  -- change request 5: "refusal 1's shape rule asks these rules"
+  pub programme : Passing (st .programme)

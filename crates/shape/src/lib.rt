@@ -10,6 +10,7 @@ ghost use Rattle.tables.specs.Values.{classValue};
 ghost use Rattle.tables.specs.Lent.{lent};
 ghost use Rattle.shape.specs.Shape.{Parts, Literals, Clauses, Variable, Spread, Cursor, settledTo};
 ghost use Rattle.stamps.specs.Fresh.{FreshStamps};
+ghost use Rattle.programmes.specs.Rules.{Passing};
 ghost use Rattle.shape.specs.Row.{Row, Below, Classed};
 ghost use Rattle.shape.specs.Decision.{shapeOk};
 use state::Pass;
@@ -279,6 +280,16 @@ fn within(cursor: u32, n: u32, mark: bool) -> bool
     false
 }
 
+// The open pass and the programme.
+fn state_ok(st: State) -> bool
+    ensures { λ r. ⌜ Decides r (Cursor (st .pass) (st .n) (st .mark) × Passing (st .programme)) ⌝ }
+{
+    if !programmes::programme_ok(st.programme) {
+        return false;
+    }
+    cursor_ok(st)
+}
+
 // The number of clauses from the first on whose variables must be their own class.
 fn settled_to(st: State) -> u32
     ensures { λ r. ⌜ r ≡ settledTo (st .pass) (st .n) ⌝ }
@@ -327,7 +338,7 @@ pub fn shape_ok(
     if 4096 < n {
         return false;
     }
-    if !cursor_ok(st) {
+    if !state_ok(st) {
         return false;
     }
     if !variables_ok(variables, v) {

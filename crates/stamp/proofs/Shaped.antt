@@ -44,7 +44,7 @@ module _ {order : List ℤ} {t : Tables} {st : State} (K : Known order t st) whe
       formed-shape t′ (closed true st) F
       (omega (arith, times-long (known-proper K) (K .full) t (R .first), S .long .times))
       (omega (arith, links-long (known-proper K) (K .full) t (R .second), S .long .links))
-      (S .values) tt (λ e. written-fresh)
+      (S .values) tt (λ e. written-fresh) (S .programme)
 
 -- THE THEOREM: a call of Stamp keeps the shape rule
 pub stamp-shaped : (order : List ℤ) (t : Tables) (st : State) → Shape t st → Shape (stampCall order t st .tables) (stampCall order t st .state)

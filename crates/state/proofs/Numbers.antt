@@ -1,4 +1,4 @@
--- The ten numbers of document 01's table written out, and the places: what pins the definitions of Answers.antt; and that no two answers have the same reply. Assumes nothing.
+-- The numbers of the documents written out, and the places: what pins the definitions of Answers.antt; and that no two answers have the same reply. Assumes nothing.
 use Prim.Native.Nat.{ℕ, zero, suc, _≤_, _<_}
 use native.Mathlib.Omega.{arith}
 use mathlib.Core.Path.{_≡_, refl, sym, ap, _∙_}
@@ -8,30 +8,30 @@ use lib.IntN.{pos, negℤ}
 use Rattle.state.specs.Answers.{refusalNumber, refusalPlace, Reply, reply, replyOf, resultBy}
 use Rattle.state.specs.declared.Refusal.{Refusal}
 use Rattle.state.specs.declared.Answer.{Answer}
-use Rattle.state.specs.declared.Refusal.the-variants.{Shape, Grammar, Limit, OtherPass, Marked, Unsettled, Cyclic, Order, Stale, Short}
+use Rattle.state.specs.declared.Refusal.the-variants.{Shape, Grammar, Limit, OtherPass, Marked, Unsettled, Cyclic, Order, Stale, Short, Codes}
 use Rattle.state.specs.declared.Counts.{Counts}
-use Rattle.state.specs.declared.Answer.the-variants.{Refused, Loaded, Open, Done, Stamped, Failed, Ran, Written}
+use Rattle.state.specs.declared.Answer.the-variants.{Refused, Loaded, Open, Done, Stamped, Failed, Ran, Written, Set}
 
 pub refusal-numbers : (p : ℕ) → refusalNumber Shape ∷ refusalNumber (Grammar p) ∷ refusalNumber (Limit p) ∷ refusalNumber OtherPass ∷ refusalNumber Marked ∷ refusalNumber (Unsettled p)
-    ∷ refusalNumber Cyclic ∷ refusalNumber (Order p) ∷ refusalNumber Stale ∷ refusalNumber (Short p) ∷ []
-    ≡ 1 ∷ 2 ∷ 3 ∷ 4 ∷ 5 ∷ 6 ∷ 7 ∷ 8 ∷ 9 ∷ 10 ∷ []
+    ∷ refusalNumber Cyclic ∷ refusalNumber (Order p) ∷ refusalNumber Stale ∷ refusalNumber (Short p) ∷ refusalNumber (Codes p) ∷ []
+    ≡ 1 ∷ 2 ∷ 3 ∷ 4 ∷ 5 ∷ 6 ∷ 7 ∷ 8 ∷ 9 ∷ 10 ∷ 12 ∷ []
 refusal-numbers p = refl
 
 -- 1, 4, 5, 7 and 9 name no place
 pub refusal-places : (p : ℕ) → refusalPlace Shape ∷ refusalPlace (Grammar p) ∷ refusalPlace (Limit p) ∷ refusalPlace OtherPass ∷ refusalPlace Marked ∷ refusalPlace (Unsettled p)
-    ∷ refusalPlace Cyclic ∷ refusalPlace (Order p) ∷ refusalPlace Stale ∷ refusalPlace (Short p) ∷ []
-    ≡ 0 ∷ p ∷ p ∷ 0 ∷ 0 ∷ p ∷ 0 ∷ p ∷ 0 ∷ p ∷ []
+    ∷ refusalPlace Cyclic ∷ refusalPlace (Order p) ∷ refusalPlace Stale ∷ refusalPlace (Short p) ∷ refusalPlace (Codes p) ∷ []
+    ≡ 0 ∷ p ∷ p ∷ 0 ∷ 0 ∷ p ∷ 0 ∷ p ∷ 0 ∷ p ∷ p ∷ []
 refusal-places p = refl
 
 pub replies : (c : Counts) (p : ℕ) → (replyOf (Refused (Order p)) ≡ reply 0 8 (p ∷ [])) × (replyOf Loaded ≡ reply 1 0 []) × (replyOf (Open c) ≡ reply 2 0 (c .visits ∷ c .clauses ∷ c .literals ∷ []))
-    × (replyOf (Done c) ≡ reply 3 0 (c .visits ∷ c .clauses ∷ c .literals ∷ [])) × (replyOf Stamped ≡ reply 4 0 []) × (replyOf (Failed p) ≡ reply 5 0 (p ∷ [])) × (replyOf (Ran p) ≡ reply 6 0 (p ∷ [])) × (replyOf (Written p) ≡ reply 7 0 (p ∷ []))
-replies c p = (refl, refl, refl, refl, refl, refl, refl, refl)
+    × (replyOf (Done c) ≡ reply 3 0 (c .visits ∷ c .clauses ∷ c .literals ∷ [])) × (replyOf Stamped ≡ reply 4 0 []) × (replyOf (Failed p) ≡ reply 5 0 (p ∷ [])) × (replyOf (Ran p) ≡ reply 6 0 (p ∷ [])) × (replyOf (Written p) ≡ reply 7 0 (p ∷ [])) × (replyOf Set ≡ reply 8 0 [])
+replies c p = (refl, refl, refl, refl, refl, refl, refl, refl, refl)
 
 -- ---- no two answers have the same reply
 
 -- the refusal of a number and a place
 abbrev refusalBy : ℕ → ℕ → Refusal
-refusalBy number place = getD (Shape ∷ Shape ∷ Grammar place ∷ Limit place ∷ OtherPass ∷ Marked ∷ Unsettled place ∷ Cyclic ∷ Order place ∷ Stale ∷ Short place ∷ []) number Shape
+refusalBy number place = getD (Shape ∷ Shape ∷ Grammar place ∷ Limit place ∷ OtherPass ∷ Marked ∷ Unsettled place ∷ Cyclic ∷ Order place ∷ Stale ∷ Short place ∷ Shape ∷ Codes place ∷ []) number Shape
 
 refusal-back : (r : Refusal) → refusalBy (refusalNumber r) (refusalPlace r) ≡ r
 refusal-back Shape = refl
@@ -44,6 +44,7 @@ refusal-back Cyclic = refl
 refusal-back (Order index) = refl
 refusal-back Stale = refl
 refusal-back (Short needed) = refl
+refusal-back (Codes index) = refl
 
 abbrev countsBy : List ℕ → Counts
 countsBy values = record { visits = getD values 0 0; clauses = getD values 1 0; literals = getD values 2 0 }
@@ -51,7 +52,7 @@ countsBy values = record { visits = getD values 0 0; clauses = getD values 1 0; 
 -- the answer of a reply
 abbrev answerBy : Reply → Answer
 answerBy r =
-    getD (Refused (refusalBy (r .number) (getD (r .values) 0 0)) ∷ Loaded ∷ Open (countsBy (r .values)) ∷ Done (countsBy (r .values)) ∷ Stamped ∷ Failed (getD (r .values) 0 0) ∷ Ran (getD (r .values) 0 0) ∷ Written (getD (r .values) 0 0) ∷ [])
+    getD (Refused (refusalBy (r .number) (getD (r .values) 0 0)) ∷ Loaded ∷ Open (countsBy (r .values)) ∷ Done (countsBy (r .values)) ∷ Stamped ∷ Failed (getD (r .values) 0 0) ∷ Ran (getD (r .values) 0 0) ∷ Written (getD (r .values) 0 0) ∷ Set ∷ [])
     (r .kind) Loaded
 
 answer-back : (a : Answer) → answerBy (replyOf a) ≡ a
@@ -63,6 +64,7 @@ answer-back Stamped = refl
 answer-back (Failed set) = refl
 answer-back (Ran rounds) = refl
 answer-back (Written length) = refl
+answer-back Set = refl
 
 -- THE LAW: an answer is known by its reply
 pub reply-tells : (a b : Answer) → replyOf a ≡ replyOf b → a ≡ b
@@ -70,7 +72,7 @@ reply-tells a b e = sym (answer-back a) ∙ ap answerBy e ∙ answer-back b
 
 -- ---- a refusal's number, negative
 
-pub number-bounds : (r : Refusal) → (0 < refusalNumber r) × (refusalNumber r ≤ 10)
+pub number-bounds : (r : Refusal) → (0 < refusalNumber r) × (refusalNumber r ≤ 12)
 number-bounds Shape = (omega arith, omega arith)
 number-bounds (Grammar at) = (omega arith, omega arith)
 number-bounds (Limit at) = (omega arith, omega arith)
@@ -81,6 +83,7 @@ number-bounds Cyclic = (omega arith, omega arith)
 number-bounds (Order index) = (omega arith, omega arith)
 number-bounds Stale = (omega arith, omega arith)
 number-bounds (Short needed) = (omega arith, omega arith)
+number-bounds (Codes index) = (omega arith, omega arith)
 
 pub result-negative : (n v : ℕ) → 0 < n → resultBy n v ≡ negℤ (pos n)
 result-negative zero v h = absurd (omega arith)

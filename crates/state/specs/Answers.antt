@@ -4,11 +4,11 @@ use Prim.Native.Nat.{ℕ, zero, suc}
 use mathlib.Core.List.{List, [], _∷_}
 use lib.IntN.{ℤ, pos, negsuc}
 use Rattle.state.specs.declared.Refusal.{Refusal}
-use Rattle.state.specs.declared.Refusal.the-variants.{Shape, Grammar, Limit, OtherPass, Marked, Unsettled, Cyclic, Order, Stale, Short}
+use Rattle.state.specs.declared.Refusal.the-variants.{Shape, Grammar, Limit, OtherPass, Marked, Unsettled, Cyclic, Order, Stale, Short, Codes}
 use Rattle.state.specs.declared.Answer.{Answer}
-use Rattle.state.specs.declared.Answer.the-variants.{Refused, Loaded, Open, Done, Stamped, Failed, Ran, Written}
+use Rattle.state.specs.declared.Answer.the-variants.{Refused, Loaded, Open, Done, Stamped, Failed, Ran, Written, Set}
 
--- the number that document 01 gives a refusal
+-- the number that the documents give a refusal: 1 to 10 document 01, 12 document 02's CR 5
 abbrev pub refusalNumber : Refusal → ℕ
 refusalNumber Shape = 1
 refusalNumber (Grammar at) = 2
@@ -20,6 +20,7 @@ refusalNumber Cyclic = 7
 refusalNumber (Order index) = 8
 refusalNumber Stale = 9
 refusalNumber (Short needed) = 10
+refusalNumber (Codes index) = 12
 
 -- its place: an offset, a clause number, an index, the length needed, or 0
 abbrev pub refusalPlace : Refusal → ℕ
@@ -33,6 +34,7 @@ refusalPlace Cyclic = 0
 refusalPlace (Order index) = index
 refusalPlace Stale = 0
 refusalPlace (Short needed) = needed
+refusalPlace (Codes index) = index
 
 -- an answer in numbers: its kind, the refusal's number, or 0, and the values that come with it. No two answers have the same (law `reply-tells`)
 pub record Reply : Type 0 where
@@ -53,6 +55,7 @@ replyOf Stamped = reply 4 0 []
 replyOf (Failed set) = reply 5 0 (set ∷ [])
 replyOf (Ran rounds) = reply 6 0 (rounds ∷ [])
 replyOf (Written length) = reply 7 0 (length ∷ [])
+replyOf Set = reply 8 0 []
 
 -- the first of the values: a refusal's place, the length written, ..; 0 where there is none
 abbrev pub firstValue : List ℕ → ℕ

@@ -1,2 +1,3 @@
+pub mod Programmes
 pub mod States
 pub mod Answers

@@ -2,7 +2,8 @@
 ghost use mathlib.Core.Path.{_≡_};
 ghost use Prim.Native.Nat.{_-_, _^_, _≤_};
 ghost use Rattle.state.specs.Answers.{refusalNumber, refusalPlace, replyOf, firstValue, resultBy};
-ghost use Rattle.state.specs.States.{state, loadedState, emptyState, opened, closed, marked};
+ghost use Rattle.state.specs.Programmes.{constantProgramme};
+ghost use Rattle.state.specs.States.{state, loadedState, emptyState, opened, closed, marked, programmed};
 
 // The pass that is open, with its cursor: the number of clauses visited in this time through. Propagate has a change flag besides.
 pub enum Pass {
@@ -12,19 +13,52 @@ pub enum Pass {
     Sweep(u32),
 }
 
-// The small state of document 01: V, N, the open pass, whether stamps are fresh, and the mark (no assignment is left).
+// The pass codes.
+pub const SETTLE: u32 = 1;
+
+pub const STAMP: u32 = 2;
+
+pub const FAILED: u32 = 3;
+
+pub const SWEEP: u32 = 4;
+
+// The constant programme of document 01.
+const PROGRAMME: [u32; 4] = [SETTLE, STAMP, FAILED, SWEEP];
+
+// The pass codes that each round of Run follows: the first `length` of them. What stands behind is not looked at.
+pub struct Programme {
+    pub codes: [u32; 32],
+    pub length: u32,
+}
+
+impl Programme {
+    // What a load puts into the state.
+    pub fn constant() -> Programme
+        ensures { λ r. ⌜ r ≡ constantProgramme ⌝ }
+    {
+        let mut codes = [0u32; 32];
+        codes[0] = PROGRAMME[0];
+        codes[1] = PROGRAMME[1];
+        codes[2] = PROGRAMME[2];
+        codes[3] = PROGRAMME[3];
+        Programme { codes, length: 4 }
+    }
+}
+
+// The small state of document 01: V, N, the open pass, whether stamps are fresh, and the mark (no assignment is left); and the programme of document 02.
 pub struct State {
     pub v: u32,
     pub n: u32,
     pub pass: Pass,
     pub fresh: bool,
     pub mark: bool,
+    pub programme: Programme,
 }
 
 impl State {
     // The state of these parts.
-    pub fn of(v: u32, n: u32, pass: Pass, fresh: bool, mark: bool) -> State
-        ensures { λ r. ⌜ r ≡ state v n pass fresh mark ⌝ }
+    pub fn of(v: u32, n: u32, pass: Pass, fresh: bool, mark: bool, programme: Programme) -> State
+        ensures { λ r. ⌜ r ≡ state v n pass fresh mark programme ⌝ }
     {
         State {
             v,
@@ -32,40 +66,30 @@ impl State {
             pass,
             fresh,
             mark,
+            programme,
         }
     }
 
-    // What a load leaves.
-    pub fn loaded(v: u32, n: u32, mark: bool) -> State
+    // What a load makes of any state: all is new, and the constant programme is put back.
+    pub fn loaded(self, v: u32, n: u32, mark: bool) -> State
         ensures { λ r. ⌜ r ≡ loadedState v n mark ⌝ }
     {
-        State {
-            v,
-            n,
-            pass: Pass::Idle,
-            fresh: false,
-            mark,
-        }
+        let programme = Programme::constant();
+        State::of(v, n, Pass::Idle, false, mark, programme)
     }
 
     // The state before any load.
     pub fn empty() -> State
         ensures { λ r. ⌜ r ≡ emptyState ⌝ }
     {
-        State::loaded(0, 0, false)
+        State::of(0, 0, Pass::Idle, false, false, Programme::constant())
     }
 
     // Without the mark, with this pass open, or none.
     pub fn opened(self, pass: Pass, fresh: bool) -> State
         ensures { λ r. ⌜ r ≡ opened pass fresh self ⌝ }
     {
-        State {
-            v: self.v,
-            n: self.n,
-            pass,
-            fresh,
-            mark: false,
-        }
+        State::of(self.v, self.n, pass, fresh, false, self.programme)
     }
 
     pub fn closed(self, fresh: bool) -> State
@@ -78,17 +102,19 @@ impl State {
     pub fn marked(self) -> State
         ensures { λ r. ⌜ r ≡ marked self ⌝ }
     {
-        State {
-            v: self.v,
-            n: self.n,
-            pass: Pass::Idle,
-            fresh: false,
-            mark: true,
-        }
+        State::of(self.v, self.n, Pass::Idle, false, true, self.programme)
+    }
+
+    // With another programme, and nothing else changed.
+    pub fn programmed(self, programme: Programme) -> State
+        ensures { λ r. ⌜ r ≡ programmed programme self ⌝ }
+    {
+        let pass = self.pass;
+        State::of(self.v, self.n, pass, self.fresh, self.mark, programme)
     }
 }
 
-// The refusals, with their places; `refusalNumber` of specs/Answers.antt gives document 01's numbers.
+// The refusals, with their places; `refusalNumber` of specs/Answers.antt gives the documents' numbers.
 pub enum Refusal {
     // a table is shorter than stated, or the shape rule fails
     Shape,
@@ -110,6 +136,8 @@ pub enum Refusal {
     Stale,
     // the output is shorter than the length needed
     Short(usize),
+    // the index of the first code that breaks the rules of programmes, 0 for a wrong length
+    Codes(usize),
 }
 
 impl Refusal {
@@ -127,10 +155,11 @@ impl Refusal {
             Refusal::Order(_) => 8,
             Refusal::Stale => 9,
             Refusal::Short(_) => 10,
+            Refusal::Codes(_) => 12,
         }
     }
 
-    // 0 where document 01 names none.
+    // 0 where the documents name none.
     pub fn place(self) -> u64
         ensures { λ r. ⌜ r ≡ refusalPlace self ⌝ }
     {
@@ -145,6 +174,7 @@ impl Refusal {
             Refusal::Order(index) => index as u64,
             Refusal::Stale => 0,
             Refusal::Short(needed) => needed as u64,
+            Refusal::Codes(index) => index as u64,
         }
     }
 }
@@ -172,12 +202,14 @@ pub enum Answer {
     Ran(u32),
     // Write: the length written
     Written(usize),
+    // a programme is set
+    Set,
 }
 
 impl Answer {
     // The refusal's number, 0 where nothing is refused.
     pub fn number(self) -> u64
-        ensures { λ r. ⌜ (r ≡ replyOf self .number) × (r ≤ 10) ⌝ }
+        ensures { λ r. ⌜ (r ≡ replyOf self .number) × (r ≤ 12) ⌝ }
     {
         if let Answer::Refused(refusal) = self {
             return refusal.number();
@@ -198,6 +230,7 @@ impl Answer {
             Answer::Failed(set) => set as u64,
             Answer::Ran(rounds) => rounds as u64,
             Answer::Written(length) => length as u64,
+            Answer::Set => 0,
         }
     }
 }
@@ -208,9 +241,9 @@ pub struct Outcome {
     pub state: State,
 }
 
-// What a function for C returns: a value, or the refusal's number, negative. Numbers of refusals are at most 10, and a length of text is below 2^63.
+// What a function for C returns: a value, or the refusal's number, negative. Numbers of refusals are at most 12, and a length of text is below 2^63.
 pub fn result(number: u64, value: u64) -> i64
-    requires { ⌜ (number ≤ 10) × (number ≡ 0 → value ≤ 2 ^ 63 - 1) ⌝ }
+    requires { ⌜ (number ≤ 12) × (number ≡ 0 → value ≤ 2 ^ 63 - 1) ⌝ }
     ensures { λ r. ⌜ r ≡ resultBy number value ⌝ }
 {
     if number == 0 {

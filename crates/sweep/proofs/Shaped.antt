@@ -56,8 +56,8 @@ module _ (steps k : ℕ) (t : Tables) (st : State) (S : Shape t st) (F : FormedI
   pub from-shaped : Shaped (sweepFrom steps k t st)
   from-shaped =
       advance-cases Sweep true false (sweepClause σ) steps k t st Shaped
-      (λ counts lt. formed-shape-as t t′ (opened (Sweep (k + m)) true st) (B .stamps) (S .long .times) (S .long .links) (λ e. S .stamps fresh) F′ values (lt, refl))
-      (λ counts done. formed-shape-as t t′ (closed false st) (B .stamps) (S .long .times) (S .long .links) (λ e. absurd (false≢true e)) F′ values tt)
+      (λ counts lt. formed-shape-as t t′ (opened (Sweep (k + m)) true st) (B .stamps) (S .long .times) (S .long .links) (λ e. S .stamps fresh) F′ values (lt, refl) (S .programme))
+      (λ counts done. formed-shape-as t t′ (closed false st) (B .stamps) (S .long .times) (S .long .links) (λ e. absurd (false≢true e)) F′ values tt (S .programme))
 
 -- ---- the call
 

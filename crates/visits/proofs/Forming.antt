@@ -12,6 +12,7 @@ use lib.IntN.{ℤ, pos, natAbs}
 use Rattle.base.specs.Decide.{same-or}
 use Rattle.literal.specs.Literals.{Literal}
 use Rattle.state.specs.declared.State.{State}
+use Rattle.programmes.specs.Rules.{Passing}
 use Rattle.tables.specs.Tables.{Tables, startOf, lengthOf, standing, classOf, valueOf}
 use Rattle.tables.specs.Clauses.{literalsOf}
 use Rattle.shape.specs.Shape.{Variable, Spread, settledTo, Cursor, Shape}
@@ -32,8 +33,8 @@ shape-formed S = record {
 }
 
 pub formed-shape : (t : Tables) (st : State) → Formed (st .v) (st .n) (settledTo (st .pass) (st .n)) (st .mark) (t .clauses) (t .literals) (t .variables) → 4096 ≤ length (t .times) → 4096 ≤ length (t .links)
-    → Spread (st .v) (t .variables) → Cursor (st .pass) (st .n) (st .mark) → (st .fresh ≡ true → FreshStamps (st .v) (t .times) (t .links)) → Shape t st
-formed-shape t st F times links values cursor stamps = record {
+    → Spread (st .v) (t .variables) → Cursor (st .pass) (st .n) (st .mark) → (st .fresh ≡ true → FreshStamps (st .v) (t .times) (t .links)) → Passing (st .programme) → Shape t st
+formed-shape t st F times links values cursor stamps programme = record {
   long = record { clauses = F .records; literals = F .places; variables = F .vars .room; times = times; links = links };
   v-limit = F .vars .few;
   n-limit = F .number;
@@ -42,6 +43,7 @@ formed-shape t st F times links values cursor stamps = record {
   values = values;
   cursor = cursor;
   stamps = stamps;
+  programme = programme;
 }
 
 -- ---- one clause

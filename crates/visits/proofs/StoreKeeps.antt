@@ -9,6 +9,7 @@ use lib.Dec.{ltb}
 use lib.IntN.{ℤ}
 use Rattle.stamps.specs.Fresh.{FreshStamps}
 use Rattle.state.specs.declared.State.{State}
+use Rattle.programmes.specs.Rules.{Passing}
 use Rattle.tables.specs.Tables.{Tables, lengthOf, standing}
 use Rattle.tables.specs.Clauses.{literalsOf}
 use Rattle.tables.specs.Fates.{Fate, kept, fateAt, shortened, droppedAt}
@@ -49,7 +50,7 @@ formed-cases t F k lt rule P none some = fate-cases rule k t P none (λ d. some 
 
 -- tables that are formed, and whose stamp records are those of tables that have them long enough, and fresh if the state says so
 pub formed-shape-as : (t u : Tables) (st : State) → SameStamps t u → 4096 ≤ length (t .times) → 4096 ≤ length (t .links) → (st .fresh ≡ true → FreshStamps (st .v) (t .times) (t .links))
-    → Formed (st .v) (st .n) (settledTo (st .pass) (st .n)) (st .mark) (u .clauses) (u .literals) (u .variables) → Spread (st .v) (u .variables) → Cursor (st .pass) (st .n) (st .mark) → Shape u st
-formed-shape-as t u st S times links fresh F values cursor =
+    → Formed (st .v) (st .n) (settledTo (st .pass) (st .n)) (st .mark) (u .clauses) (u .literals) (u .variables) → Spread (st .v) (u .variables) → Cursor (st .pass) (st .n) (st .mark) → Passing (st .programme) → Shape u st
+formed-shape-as t u st S times links fresh F values cursor programme =
     formed-shape u st F (subst (λ (x : List ℕ). 4096 ≤ length x) (sym (S .times)) times) (subst (λ (x : List ℤ). 4096 ≤ length x) (sym (S .links)) links) values cursor
-    (λ e. subst₂ (FreshStamps (st .v)) (sym (S .times)) (sym (S .links)) (fresh e))
+    (λ e. subst₂ (FreshStamps (st .v)) (sym (S .times)) (sym (S .links)) (fresh e)) programme

@@ -29,10 +29,10 @@ static int failed;
 static int64_t run_load(const uint8_t *text, size_t length)
 {
     struct tables *t = &by_load;
-    uint32_t state[7] = {0};
+    uint32_t state[40] = {0};
     uint64_t answer[4] = {0};
     int64_t result = unhide_load(text, length, t->clauses, CLAUSE_PLACES + 1, t->literals, MAX_LITERALS + 1, t->variables,
-                                 VARIABLE_PLACES + 1, times, STAMP_PLACES, links, STAMP_PLACES, state, 7, answer, 4);
+                                 VARIABLE_PLACES + 1, times, STAMP_PLACES, links, STAMP_PLACES, state, 40, answer, 4);
     t->place = result < 0 ? answer[0] : 0;
     return result < 0 ? result : (int64_t)state[0];
 }

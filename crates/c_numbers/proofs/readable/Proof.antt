@@ -11,21 +11,21 @@ use Rattle.c_numbers.proofs.readable.Tie as tie
 
 returns : tie.Need-returns
 unfolding readable
-returns c = let s = c .before .before .args .state .now in fails (leb 7 (length s)) _ (lt-leb 7 (length s) (c .if1 .taken))
+returns c = let s = c .before .before .args .state .now in fails (leb 40 (length s)) _ (lt-leb 40 (length s) (c .if1 .taken))
 
 shared-slice-read-if2 : tie.Need-shared-slice-read-if2
 shared-slice-read-if2 c = search needs
 
 returns-2 : tie.Need-returns-2
 unfolding readable
-returns-2 c = let s = c .before .before .before .before .args .state .now in passes (leb 7 (length s)) _ _ (le-leb 7 (length s) (omega (arith, c .before .before .if1 .left))) (fails (leb (getD s 5 0) 1) _ (lt-leb _ _ (c .if2 .taken)))
+returns-2 c = let s = c .before .before .before .before .args .state .now in passes (leb 40 (length s)) _ _ (le-leb 40 (length s) (omega (arith, c .before .before .if1 .left))) (fails (leb (getD s 5 0) 1) _ (lt-leb _ _ (c .if2 .taken)))
 
 shared-slice-read-if3 : tie.Need-shared-slice-read-if3
 shared-slice-read-if3 c = search needs
 
 returns-3 : tie.Need-returns-3
 unfolding readable
-returns-3 c = let s = c .before .before .before .before .before .before .args .state .now in passes (leb 7 (length s)) _ _ (le-leb 7 (length s) (omega (arith, c .before .before .before .before .if1 .left))) (passes (leb (getD s 5 0) 1) _ _ (le-leb _ _ (c .before .before .if2 .left)) (fails (leb (getD s 6 0) 1) _ (lt-leb _ _ (c .if3 .taken))))
+returns-3 c = let s = c .before .before .before .before .before .before .args .state .now in passes (leb 40 (length s)) _ _ (le-leb 40 (length s) (omega (arith, c .before .before .before .before .if1 .left))) (passes (leb (getD s 5 0) 1) _ _ (le-leb _ _ (c .before .before .if2 .left)) (fails (leb (getD s 6 0) 1) _ (lt-leb _ _ (c .if3 .taken))))
 
 shared-slice-read-pass-readable : tie.Need-shared-slice-read-pass-readable
 shared-slice-read-pass-readable c = search needs
@@ -41,7 +41,7 @@ pass-readable-requires c κs = search needs
 
 returns-4 : tie.Need-returns-4
 unfolding readable
-returns-4 c = let s = c .before .before .before .before .before .before .before .before .before .before .args .state .now in passes (leb 7 (length s)) _ _ (le-leb 7 (length s) (omega (arith, c .before .before .before .before .before .before .before .before .if1 .left))) (passes (leb (getD s 5 0) 1) _ _ (le-leb _ _ (c .before .before .before .before .before .before .if2 .left)) (passes (leb (getD s 6 0) 1) _ _ (le-leb _ _ (c .before .before .before .before .if3 .left)) (c .pass-readable .ensures)))
+returns-4 c = let s = c .before .before .before .before .before .before .before .before .before .before .args .state .now in passes (leb 40 (length s)) _ _ (le-leb 40 (length s) (omega (arith, c .before .before .before .before .before .before .before .before .if1 .left))) (passes (leb (getD s 5 0) 1) _ _ (le-leb _ _ (c .before .before .before .before .before .before .if2 .left)) (passes (leb (getD s 6 0) 1) _ _ (le-leb _ _ (c .before .before .before .before .if3 .left)) (c .pass-readable .ensures)))
 
 pub readable-spec : {M : Type 1} → statement M
 readable-spec =

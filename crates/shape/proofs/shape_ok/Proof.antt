@@ -27,11 +27,11 @@ returns-2 c = shape-agrees (lent (c .before .before .before .before .before)) (c
 returns-3 : tie.Need-returns-3
 returns-3 c = shape-agrees (lent (c .before .before .before .before .before .before)) (c .before .before .before .before .before .before .args .st) (says-no (λ S. omega (arith, c .if3 .taken, S .n-limit)))
 
-cursor-ok-requires : tie.Need-cursor-ok-requires
-cursor-ok-requires c κs = search needs
+state-ok-requires : tie.Need-state-ok-requires
+state-ok-requires c κs = search needs
 
 returns-4 : tie.Need-returns-4
-returns-4 c = shape-agrees (lent (c .before .before .before .before .before .before .before .before)) (c .before .before .before .before .before .before .before .before .args .st) (says-no (λ S. c .before .cursor-ok .ensures .fails (not-true _ (c .if4 .taken)) (S .cursor)))
+returns-4 c = shape-agrees (lent (c .before .before .before .before .before .before .before .before)) (c .before .before .before .before .before .before .before .before .args .st) (says-no (λ S. c .before .state-ok .ensures .fails (not-true _ (c .if4 .taken)) (S .cursor, S .programme)))
 
 variables-ok-requires : tie.Need-variables-ok-requires
 variables-ok-requires c κs = (c .before .before .before .if2 .left, omega (arith, c .before .before .before .if2 .left, long (c .before .before .before .before) .variables))
@@ -72,7 +72,8 @@ returns-7 c = let s = c .before .before .before .before .before .before .before 
       clauses = (rw (c .before .before .before .settled-to .ensures) at (c .before .before .clauses-ok .ensures)) .holds (not-false _ (c .before .if6 .left));
       variables = c .before .before .before .before .before .variables-ok .ensures .holds (not-false _ (c .before .before .before .before .if5 .left)) .0;
       values = c .before .before .before .before .before .variables-ok .ensures .holds (not-false _ (c .before .before .before .before .if5 .left)) .1;
-      cursor = c .before .before .before .before .before .before .before .cursor-ok .ensures .holds (not-false _ (c .before .before .before .before .before .before .if4 .left));
+      cursor = c .before .before .before .before .before .before .before .state-ok .ensures .holds (not-false _ (c .before .before .before .before .before .before .if4 .left)) .0;
+      programme = c .before .before .before .before .before .before .before .state-ok .ensures .holds (not-false _ (c .before .before .before .before .before .before .if4 .left)) .1;
       stamps = f;
     })
     (λ S. S .stamps) (c .fresh-ok .ensures))
@@ -85,7 +86,7 @@ shape-ok-spec =
     returns
     returns-2
     returns-3
-    cursor-ok-requires
+    state-ok-requires
     returns-4
     variables-ok-requires
     returns-5

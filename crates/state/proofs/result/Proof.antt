@@ -1,4 +1,4 @@
--- `state::result` meets its contract: a refusal's number is 1 to 10, so it has a negative. Assumes nothing.
+-- `state::result` meets its contract: a refusal's number is 1 to 12, so it has a negative. Assumes nothing.
 use Prim.Native.Nat.{ℕ, zero, suc, _≤_}
 use native.Mathlib.Omega.{arith}
 use mathlib.Core.Path.{_≡_, sym, ap, subst, _∙_}
@@ -11,10 +11,8 @@ use Rattle.state.proofs.Numbers.{result-negative}
 use borrow.Author.Needs.{needs}
 use Rattle.state.proofs.result.Statement.{statement}
 use Rattle.state.proofs.result.Tie as tie
-use Rattle.state.proofs.result.Reads as reads
-use Rattle.state.proofs.result.Lts as lts
 
-negative-fits : (n : ℕ) → n ≤ 10 → SFits w64 (negℤ (pos n))
+negative-fits : (n : ℕ) → n ≤ 12 → SFits w64 (negℤ (pos n))
 negative-fits zero h = record { sfits = omega arith }
 negative-fits (suc n) h = record { sfits = omega arith }
 
