@@ -1,7 +1,10 @@
 //! The named cases, the pallet cases P1 to P11 among them.
 
+use crate::compare_reach::{Reach, Stamped};
 use crate::named;
+use crate::named_reach::{ReachCase, REACH};
 use crate::replay::Replay;
+use crate::tables::literal_of;
 use crate::unhide::unhide;
 
 /// Prints `ok` or what differs for each case; the result is the exit status.
@@ -15,11 +18,51 @@ pub fn cases() -> i32 {
     for case in named::cases() {
         let mut replay = Replay::new();
         replay.take(&case.script());
-        if !told(case.name, replay.output, &case.prints) {
+        let reach = REACH.iter().find(|reach| reach.lines.0 == case.name);
+        if let Some(Err(difference)) = reach.map(reach_agrees) {
+            println!("{} {difference}", case.name);
+            status = 1;
+        } else if !told(case.name, replay.output, &case.prints) {
             status = 1;
         }
     }
     status
+}
+
+/// The arrows of the case are those that are written; behind each line the reach
+/// is such as Sweeps may leave.
+fn reach_agrees(case: &ReachCase) -> Result<(), String> {
+    let (name, text, calls, prints) = case.lines;
+    let mut lines = calls.split_inclusive('\n');
+    let stamp = lines.next().unwrap_or("");
+    let mut replay = Replay::new();
+    replay.take(&named::with_calls(&(name, text, stamp, prints)).script());
+    let stamped = Stamped::of(&replay.formula);
+    let then = Reach::of(&replay.formula);
+    for line in lines {
+        replay.take(line.as_bytes());
+        stamped.compare(&replay.formula)?;
+    }
+    arrows_agree(case, &then, &Reach::of(&replay.formula), replay.formula.v())
+}
+
+/// An arrow from p to q is also one from -q to -p, and each literal reaches itself.
+fn arrows_agree(case: &ReachCase, then: &Reach, now: &Reach, v: usize) -> Result<(), String> {
+    for p in (0..2 * v).map(literal_of) {
+        for q in (0..2 * v).map(literal_of) {
+            let is_in =
+                |arrows: &[(i32, i32)]| arrows.contains(&(p, q)) || arrows.contains(&(-q, -p));
+            let is_kept = p == q || is_in(case.kept);
+            let wanted = (is_kept || is_in(case.lost), is_kept || is_in(case.added));
+            let found = (then.has(p, q), now.has(p, q));
+            if found != wanted {
+                return Err(format!(
+                    "reach from {p} to {q} found {found:?}, wanted {wanted:?}"
+                ));
+            }
+        }
+    }
+    Ok(())
 }
 
 /// Prints whether what was found is what is wanted.

@@ -7,12 +7,13 @@ use crate::compare_calls::{in_two_calls, run_by_passes};
 use crate::compare_figures::figures_agree;
 use crate::compare_intervals::{comparisons_agree, numbers_agree};
 use crate::compare_programmes::{refusal_agrees, rules_agree, setting_agrees};
+use crate::compare_reach::{Counts, Stamped};
 use crate::compare_repeats::{loaded_agrees, merged_agrees};
 use crate::compare_values::{own_values, values_agree, values_stay, written_clauses};
 use crate::compare_walks::{groups_agree, is_subsequence, stamps_agree};
 use crate::failed::failed;
 use crate::forest::forest;
-use crate::formulas::{draft, odd_text, plain_text};
+use crate::formulas::{draft, odd_text, plain_text, Draft};
 use crate::implied;
 use crate::load::{load, without_repeats};
 use crate::merge::merge;
@@ -28,6 +29,7 @@ use crate::tables::{
     ClauseRecord, Formula, Pass, StampRecord, VariableRecord, MOST_CLAUSES, MOST_LITERALS,
     MOST_VARIABLES,
 };
+use crate::transitive;
 use crate::truth::{Assignments, Truth, MOST_TRIED};
 use crate::valued;
 use crate::visits::Answer;
@@ -46,12 +48,14 @@ pub fn check(seed: u64, count: usize) -> i32 {
     let mut calls = 0;
     let mut accepted = 0;
     let mut other_runs = 0;
+    let mut reach = Counts::default();
     while calls < count {
         let mut one = Check::start(&mut random, &truth);
         let outcome = one.calls(&mut random);
         calls += one.calls;
         accepted += one.accepted;
         other_runs += one.other_runs;
+        reach.add(&one.reach);
         if let Err(difference) = outcome {
             println!("differs: {difference}");
             print!("{}", String::from_utf8_lossy(&one.script));
@@ -62,6 +66,7 @@ pub fn check(seed: u64, count: usize) -> i32 {
         "checked {calls} calls, {accepted} of them accepted, \
          {other_runs} runs under other programmes than the constant one"
     );
+    println!("{}", reach.told());
     0
 }
 
@@ -86,6 +91,10 @@ struct Check<'a> {
     accepted: usize,
     /// The runs of a round or more under another programme than the constant one.
     other_runs: usize,
+    /// What the last Stamp left, as long as only Sweep, Failed and calls that
+    /// set a programme have been accepted since.
+    stamped: Option<Stamped>,
+    reach: Counts,
 }
 
 /// What the tables and the programme hold before the load.
@@ -110,16 +119,7 @@ const OLD_PROGRAMME: Programme = Programme {
 impl<'a> Check<'a> {
     /// Loads a random formula into tables that are not empty.
     fn start(random: &mut Random, truth: &'a Truth) -> Check<'a> {
-        let draft = if random.once_in(3) {
-            let variables = random.between(3, MOST_TRIED);
-            implied::draft(random, variables)
-        } else if random.once_in(3) {
-            let variables = random.between(2, MOST_TRIED);
-            valued::draft(random, variables)
-        } else {
-            let variables = random.below(MOST_TRIED + 1);
-            draft(random, variables)
-        };
+        let draft = any_draft(random);
         let plain = plain_text(&draft);
         let text = if random.once_in(2) {
             odd_text(random, &draft)
@@ -145,6 +145,8 @@ impl<'a> Check<'a> {
             calls: 1,
             accepted: accepted as usize,
             other_runs: 0,
+            stamped: None,
+            reach: Counts::default(),
         }
     }
 
@@ -166,28 +168,56 @@ impl<'a> Check<'a> {
             self.script.extend_from_slice(line(&call).as_bytes());
             self.script.push(b'\n');
             self.calls += 1;
-            let before = self.formula.clone();
-            match make(&mut self.formula, &call) {
-                Err(refusal) => {
-                    if self.formula != before {
-                        return Err("a refused call changed something".to_string());
-                    }
-                    if let Call::Programme(codes) = &call {
-                        refusal_agrees(codes, refusal)?;
-                    }
-                }
-                Ok(outcome) => {
-                    self.accepted += 1;
-                    let is_other = before.state.programme != Programme::constant();
-                    if is_other && matches!(outcome, Outcome::Ran(1..)) {
-                        self.other_runs += 1;
-                    }
-                    self.tables_agree()?;
-                    self.outcome_agrees(random, &before, &call, outcome)?;
-                }
-            }
+            self.call(random, &call)?;
+            self.reach_agrees(&call)?;
             if self.formula.state.mark && random.once_in(2) {
                 break;
+            }
+        }
+        Ok(())
+    }
+
+    fn call(&mut self, random: &mut Random, call: &Call) -> Result<(), String> {
+        let before = self.formula.clone();
+        match make(&mut self.formula, call) {
+            Err(refusal) => {
+                if self.formula != before {
+                    return Err("a refused call changed something".to_string());
+                }
+                if let Call::Programme(codes) = call {
+                    refusal_agrees(codes, refusal)?;
+                }
+            }
+            Ok(outcome) => {
+                self.accepted += 1;
+                let is_other = before.state.programme != Programme::constant();
+                if is_other && matches!(outcome, Outcome::Ran(1..)) {
+                    self.other_runs += 1;
+                }
+                self.remember_stamped(call);
+                self.tables_agree()?;
+                self.outcome_agrees(random, &before, call, outcome)?;
+            }
+        }
+        Ok(())
+    }
+
+    /// Behind an accepted call other than these three the stamps are fresh if it
+    /// was a Stamp, a Run of no rounds or one whose last code but for Failed was a
+    /// stamp. Then the clauses are those that were stamped.
+    fn remember_stamped(&mut self, call: &Call) {
+        if !matches!(call, Call::Sweep(_) | Call::Failed | Call::Programme(_)) {
+            let is_stamped = self.formula.state.fresh;
+            self.stamped = is_stamped.then(|| Stamped::of(&self.formula));
+        }
+    }
+
+    /// Behind any call, a refused one too, the reach is such as Sweeps may leave.
+    fn reach_agrees(&mut self, call: &Call) -> Result<(), String> {
+        if let Some(stamped) = &self.stamped {
+            let change = stamped.compare(&self.formula)?;
+            if matches!(call, Call::Sweep(_)) {
+                self.reach.count(change);
             }
         }
         Ok(())
@@ -379,7 +409,8 @@ impl<'a> Check<'a> {
     }
 
     /// The visits made one by one: what stands after each has the same
-    /// satisfying assignments, and each value is that of the class literal.
+    /// satisfying assignments, each value is that of the class literal, and in
+    /// a Sweep the reach is such as it may leave.
     fn every_stop_agrees(
         &self,
         before: &Formula,
@@ -393,8 +424,29 @@ impl<'a> Check<'a> {
                 return Err(format!("other satisfying assignments after visit {visit}"));
             }
             values_agree(&formula).map_err(|e| format!("after visit {visit}: {e}"))?;
+            if let Some(stamped) = &self.stamped {
+                let change = stamped.compare(&formula);
+                change.map_err(|e| format!("after visit {visit}: {e}"))?;
+            }
         }
         Ok(())
+    }
+}
+
+/// A formula of at most 12 variables, of any kind.
+fn any_draft(random: &mut Random) -> Draft {
+    if random.once_in(4) {
+        let variables = random.between(3, MOST_TRIED);
+        transitive::draft(random, variables)
+    } else if random.once_in(3) {
+        let variables = random.between(3, MOST_TRIED);
+        implied::draft(random, variables)
+    } else if random.once_in(3) {
+        let variables = random.between(2, MOST_TRIED);
+        valued::draft(random, variables)
+    } else {
+        let variables = random.below(MOST_TRIED + 1);
+        draft(random, variables)
     }
 }
 

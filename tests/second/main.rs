@@ -35,11 +35,14 @@ mod compare_calls;
 mod compare_figures;
 mod compare_intervals;
 mod compare_programmes;
+mod compare_reach;
 mod compare_repeats;
 mod compare_values;
 mod compare_walks;
 mod named;
 mod named_programmes;
+mod named_reach;
+mod transitive;
 mod truth;
 
 #[path = "../generate/calls.rs"]

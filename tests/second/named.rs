@@ -2,9 +2,10 @@
 //! repeated literals in loads and in Merge, pairs that a Sweep drops or keeps,
 //! values of classes that have several variables, how two intervals lie, and
 //! formulas at the limits; each with what a replay of it prints. Those of the
-//! programme stand in `named_programmes.rs`.
+//! programme stand in `named_programmes.rs`, those of the reach in
+//! `named_reach.rs`.
 
-use crate::named_programmes;
+use crate::{named_programmes, named_reach};
 
 /// The bytes of a load, the calls behind it, a line each, and what a replay of
 /// both prints.
@@ -64,7 +65,10 @@ fn short() -> Vec<Case> {
     let passes = CALLS.iter().chain(REPEATS).chain(PAIRS).chain(VALUES);
     let passes = passes.chain(COMPARISONS).map(with_calls);
     let programmes = named_programmes::PROGRAMMES.iter().map(with_calls);
-    texts.chain(passes).chain(programmes).collect()
+    let reach = named_reach::REACH
+        .iter()
+        .map(|case| with_calls(&case.lines));
+    texts.chain(passes).chain(programmes).chain(reach).collect()
 }
 
 /// Cases that end with a wrong line.
@@ -73,7 +77,7 @@ fn wrong_lines() -> Vec<Case> {
     lines.map(with_calls).collect()
 }
 
-fn with_calls(&(name, text, calls, prints): &(&'static str, &str, &'static str, &str)) -> Case {
+pub fn with_calls(&(name, text, calls, prints): &(&'static str, &str, &'static str, &str)) -> Case {
     Case {
         name,
         text: text.as_bytes().to_vec(),

@@ -18,7 +18,7 @@ use Rattle.stamp.specs.Stamp.{stampsOf}
 use Rattle.sound.specs.Formula.{Clause, dropped, standing, literalsIn, Models, graph}
 use Rattle.sound.proofs.Tests.{once?, clause?, shaped?, lists?, shaped-of, lists-of}
 use Rattle.moves.specs.Core.{Core, ModelOf, load, put, learn}
-use Rattle.moves.specs.Moves.{satisfied, spent, change, stamp, failed, Moves, stay, go}
+use Rattle.moves.specs.Moves.{satisfied, spent, failed, change, stamp, behind, Moves, stay, go}
 use Rattle.moves.proofs.Keeps.{demand-3}
 
 f6 : List Clause
@@ -38,7 +38,7 @@ p6 =
     let order : List ℕ = 0 ∷ 1 ∷ 2 ∷ 3 ∷ [] in
     go (go (go (go stay
     (stamp order (shaped-of 2 f6 refl) (lists-of 4 order refl) refl))
-    (failed 0 (omega arith) refl))
+    (behind (failed 0 (omega arith) refl)))
     (change (satisfied 0 refl (List·Memᴰ·head refl) refl)))
     (change (satisfied 1 refl (List·Memᴰ·head refl) refl))
 

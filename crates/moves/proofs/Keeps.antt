@@ -2,7 +2,7 @@
 use Prim.Native.Nat.{ℕ, _*_, _≤_, _<_}
 use mathlib.Core.Path.{_≡_, refl, sym, ap, subst, _∙_}
 use mathlib.Core.Bool.{Bool, true, _||_, or-true}
-use mathlib.Core.Logic.{_⊎_, ⊎-elim, _↔_, Iff·rfl, Iff·trans}
+use mathlib.Core.Logic.{⊎-elim, _↔_, Iff·rfl, Iff·trans}
 use mathlib.Core.List.{List, [], _∷_, List·Memᴰ·head, List·Memᴰ·not-nil, List·Memᴰ·cases-cons, Memᴰ·map, Memᴰ·of-map}
 use lib.ListN.{length, getD, set}
 use lib.Seq.{getD-set-same, getD-set-other, set-out}
@@ -19,7 +19,7 @@ use Rattle.sound.proofs.Truth.{true-or, not-both}
 use Rattle.sound.proofs.Sound.{nth-mem, reach-true}
 use Rattle.sound.proofs.Fresh.{Fresh, fresh-stamp, fresh-sweep, sweep-models, failed-true}
 use Rattle.moves.specs.Core.{Core, ModelOf, load, coreClause, put, learn, markedCore, coreTrue, coreFalse}
-use Rattle.moves.specs.Moves.{Change, satisfied, falsified, unit, conflict, contrary, grouped, substituted, tautology, Freshness, spent, fresh, Move, change, spend, stamp, failed, opposite, sweep, Moves, stay, go}
+use Rattle.moves.specs.Moves.{Change, satisfied, falsified, unit, conflict, contrary, grouped, substituted, tautology, Freshness, spent, fresh, Behind, spend, failed, opposite, sweep, Move, change, stamp, behind, Moves, stay, go}
 
 -- the same assignments satisfy both
 abbrev Same : Core → Core → Type 0
@@ -152,20 +152,23 @@ abbrev pub Good : ℕ → Core → Freshness → Type 0
 Good vars k spent = Unit {0}
 Good vars k (fresh σ c) = Fresh vars σ c (k .clauses)
 
-move-kept : {vars : ℕ} {k k′ : Core} {w w′ : Freshness} → Move vars k w k′ w′ → Good vars k w → Good vars k′ w′ × Same k k′
-move-kept (change c) g = (tt, change-same c)
-move-kept spend g = (tt, λ τ. Iff·rfl)
-move-kept {vars} (stamp {k = k} order shaped list uncyclic) g = (fresh-stamp vars (k .clauses) order shaped list uncyclic, λ τ. Iff·rfl)
-move-kept {vars} (failed {k = k} {σ = σ} {c = c} s lt e) g = (g, learn-same k (twin (failedSlot σ (2 * vars) s)) (λ τ S. failed-true vars σ c (k .clauses) g τ (S .models) s lt e))
-move-kept {vars} (opposite {k = k} {σ = σ} {c = c} s lt e h) g =
+behind-kept : {vars : ℕ} {k k′ : Core} {w w′ : Freshness} → Behind vars k w k′ w′ → Good vars k w → Good vars k′ w′ × Same k k′
+behind-kept spend g = (tt, λ τ. Iff·rfl)
+behind-kept {vars} (failed {k = k} {σ = σ} {c = c} s lt e) g = (g, learn-same k (twin (failedSlot σ (2 * vars) s)) (λ τ S. failed-true vars σ c (k .clauses) g τ (S .models) s lt e))
+behind-kept {vars} (opposite {k = k} {σ = σ} {c = c} s lt e h) g =
     (tt, marked-same k (λ τ S. false-is k τ (S .classes, S .met) (twin (failedSlot σ (2 * vars) s)) h (failed-true vars σ c (k .clauses) g τ (S .models) s lt e)))
-move-kept {vars} (sweep {k = k} {σ = σ} {c = c} n) g = (
+behind-kept {vars} (sweep {k = k} {σ = σ} {c = c} n) g = (
   fresh-sweep vars σ c (k .clauses) g n,
   λ τ. let m = sweep-models vars σ c (k .clauses) g n τ in (
     λ S. record { unmarked = S .unmarked; models = m .0 (S .models); classes = S .classes; met = S .met },
     λ S. record { unmarked = S .unmarked; models = m .1 (S .models); classes = S .classes; met = S .met },
   ),
 )
+
+move-kept : {vars : ℕ} {k k′ : Core} {w w′ : Freshness} → Move vars k w k′ w′ → Good vars k w → Good vars k′ w′ × Same k k′
+move-kept (change c) g = (tt, change-same c)
+move-kept {vars} (stamp {k = k} order shaped list uncyclic) g = (fresh-stamp vars (k .clauses) order shaped list uncyclic, λ τ. Iff·rfl)
+move-kept (behind m) g = behind-kept m g
 
 pub moves-kept : {vars : ℕ} {k k′ : Core} {w w′ : Freshness} → Moves vars k w k′ w′ → Good vars k w → Good vars k′ w′ × Same k k′
 moves-kept stay g = (g, λ τ. Iff·rfl)

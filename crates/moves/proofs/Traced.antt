@@ -13,7 +13,7 @@ use Rattle.sound.specs.Formula.{Clause, dropped, standing, graph}
 use Rattle.sound.proofs.Graph.{not-standing, standing-eq, edge-pair}
 use Rattle.sound.proofs.Sound.{from-sub}
 use Rattle.moves.specs.Core.{Core, load, coreClause, put, Traced}
-use Rattle.moves.specs.Moves.{Owned, Change, satisfied, falsified, unit, conflict, contrary, grouped, substituted, tautology, Freshness, spent, Move, change, spend, stamp, failed, opposite, sweep, Moves, stay, go}
+use Rattle.moves.specs.Moves.{Owned, Change, satisfied, falsified, unit, conflict, contrary, grouped, substituted, tautology, Freshness, spent, Behind, spend, failed, opposite, sweep, Move, change, stamp, behind, Moves, stay, go}
 
 map-sub : (g : ℕ → ℕ) {D C : List ℕ} → Sublistᴰ D C → Sublistᴰ (map g D) (map g C)
 map-sub g Sublistᴰ·slnil = Sublistᴰ·slnil
@@ -81,13 +81,11 @@ change-traced f {k} (grouped ρ own both once) T =
 change-traced f {k} (substituted i {C = C} {D = D} e s all) T = shorter-traced f k T i D C e (subst (Sublistᴰ (map (k .class) D)) (class-class f k T C) (map-sub (k .class) s))
 change-traced f {k} (tautology i e m n) T = dropped-traced f k T i
 
-move-traced : (f : List Clause) {vars : ℕ} {k k′ : Core} {w w′ : Freshness} → Move vars k w k′ w′ → Traced f k → Traced f k′
-move-traced f (change c) T = change-traced f c T
-move-traced f spend T = T
-move-traced f (stamp order shaped list uncyclic) T = T
-move-traced f (failed s lt e) T = record { part = T .part; once = T .once }
-move-traced f (opposite s lt e h) T = record { part = T .part; once = T .once }
-move-traced f (sweep {k = k} {σ = σ} {c = c} n) T =
+behind-traced : (f : List Clause) {vars : ℕ} {k k′ : Core} {w w′ : Freshness} → Behind vars k w k′ w′ → Traced f k → Traced f k′
+behind-traced f spend T = T
+behind-traced f (failed s lt e) T = record { part = T .part; once = T .once }
+behind-traced f (opposite s lt e h) T = record { part = T .part; once = T .once }
+behind-traced f (sweep {k = k} {σ = σ} {c = c} n) T =
     record {
       once = T .once;
       part = λ i D e.
@@ -95,6 +93,11 @@ move-traced f (sweep {k = k} {σ = σ} {c = c} n) T =
           let o = T .part i (r .0) (r .1) in
           (o .0, o .1, Sublistᴰ·trans (map-sub (k .class) (r .2)) (o .2));
     }
+
+move-traced : (f : List Clause) {vars : ℕ} {k k′ : Core} {w w′ : Freshness} → Move vars k w k′ w′ → Traced f k → Traced f k′
+move-traced f (change c) T = change-traced f c T
+move-traced f (stamp order shaped list uncyclic) T = T
+move-traced f (behind m) T = behind-traced f m T
 
 pub moves-traced : (f : List Clause) {vars : ℕ} {k k′ : Core} {w w′ : Freshness} → Moves vars k w k′ w′ → Traced f k → Traced f k′
 moves-traced f stay T = T

@@ -43,18 +43,22 @@ pub data Freshness : Type 0 where
   spent : Freshness
   fresh : Stamps → ℕ → Freshness
 
--- one move, from what stands and its stamps to what then stands and its stamps, over so many variables
+-- from what stands and its stamps to what then stands and its stamps, over so many variables: a move behind a Stamp, which goes by the stamps or gives them up
+pub data Behind (vars : ℕ) : Core → Freshness → Core → Freshness → Type 0 where
+  spend : {k : Core} {w : Freshness} → Behind vars k w k spent
+  -- Failed sets the complement's value, or meets the opposite one
+  failed : {k : Core} {σ : Stamps} {c : ℕ} (s : ℕ) → s < 2 * vars → sameStart σ s ≡ true → Behind vars k (fresh σ c) (learn (k .class (twin (failedSlot σ (2 * vars) s))) k) (fresh σ c)
+  opposite : {k : Core} {σ : Stamps} {c : ℕ} (s : ℕ) → s < 2 * vars → sameStart σ s ≡ true → coreFalse k (twin (failedSlot σ (2 * vars) s)) ≡ true → Behind vars k (fresh σ c) (markedCore k) spent
+  -- n visits of Sweep from the cursor on
+  sweep : {k : Core} {σ : Stamps} {c : ℕ} (n : ℕ) → Behind vars k (fresh σ c) (withClauses (visitFrom (sweepVisit σ) c n (k .clauses)) k) (fresh σ (c + n))
+
+-- one move
 pub data Move (vars : ℕ) : Core → Freshness → Core → Freshness → Type 0 where
   change : {k k′ : Core} {w : Freshness} → Change k k′ → Move vars k w k′ spent
-  spend : {k : Core} {w : Freshness} → Move vars k w k spent
   -- Stamp takes a shaped formula, a list of all literals, and no graph with cycles
   stamp : {k : Core} {w : Freshness} (order : List ℕ) → Shaped vars (k .clauses) → Lists (2 * vars) order → cyclic (graph (k .clauses)) (2 * vars) ≡ false
       → Move vars k w k (fresh (formulaStamps vars order (k .clauses)) 0)
-  -- Failed sets the complement's value, or meets the opposite one
-  failed : {k : Core} {σ : Stamps} {c : ℕ} (s : ℕ) → s < 2 * vars → sameStart σ s ≡ true → Move vars k (fresh σ c) (learn (k .class (twin (failedSlot σ (2 * vars) s))) k) (fresh σ c)
-  opposite : {k : Core} {σ : Stamps} {c : ℕ} (s : ℕ) → s < 2 * vars → sameStart σ s ≡ true → coreFalse k (twin (failedSlot σ (2 * vars) s)) ≡ true → Move vars k (fresh σ c) (markedCore k) spent
-  -- n visits of Sweep from the cursor on
-  sweep : {k : Core} {σ : Stamps} {c : ℕ} (n : ℕ) → Move vars k (fresh σ c) (withClauses (visitFrom (sweepVisit σ) c n (k .clauses)) k) (fresh σ (c + n))
+  behind : {k k′ : Core} {w w′ : Freshness} → Behind vars k w k′ w′ → Move vars k w k′ w′
 
 -- any number of moves
 pub data Moves (vars : ℕ) (k : Core) (w : Freshness) : Core → Freshness → Type 0 where

@@ -83,7 +83,7 @@ module _ (k : Lent) (h : CallerTables) where
 
 -- ---- lists of calls
 
-step-simulated : (s : Step) (h : CallerTables) (st : State) → columns.stepOn (stepInColumns s) (columned h) st ≡ leftInColumns (stepOn s h st)
+pub step-simulated : (s : Step) (h : CallerTables) (st : State) → columns.stepOn (stepInColumns s) (columned h) st ≡ leftInColumns (stepOn s h st)
 unfolding stepOn columns.stepOn
 step-simulated s h st = ap (λ (t : Tables). columns.withBack (inColumns (s .lent)) (columned h) (callOn (s .call) t st)) (lent-same (s .lent) h) ∙ sym (called (s .lent) h (s .call) st)
 

@@ -44,7 +44,9 @@ use Rattle.sweep.specs.Sweep.{sweepBy, sweepCall}
 use Rattle.set_programme.proofs.Setting.{set-misshapen}
 use Rattle.call_lists.specs.Lists.{Call, propagate, merge, stamp, failed, sweep, programme, Lent, lend, giveBack, callOn, Step, stepOn, stepsOn}
 use Rattle.sound.specs.Formula.{Clause, dropped, standing}
-use Rattle.moves.proofs.Keeps as keeps
+use Rattle.moves.specs.Core.{Core}
+use Rattle.moves.specs.Moves.{Freshness}
+use Rattle.moves.proofs.Keeps as kept
 use Rattle.moves.proofs.Traced.{only-left-out}
 use Rattle.repeats.proofs.Repeats.{All, distinct-all}
 use Rattle.refinement.proofs.Literals.{class-is}
@@ -52,7 +54,7 @@ use Rattle.refinement.proofs.Standing.{stands-clause}
 use Rattle.refinement.proofs.Laid.{nth}
 use Rattle.refinement.proofs.LaidFormed.{in-nth}
 use Rattle.refinement.proofs.Equivalent.{tie}
-use Rattle.refinement.proofs.Held.{Held, propagate-held, merge-held}
+use Rattle.refinement.proofs.Held.{HeldBy, Held, load-lasting, propagate-held, merge-held}
 use Rattle.refinement.proofs.HeldStamp.{stamp-held}
 use Rattle.refinement.proofs.HeldSweep.{sweep-held}
 use Rattle.refinement.proofs.HeldProgramme.{programme-held}
@@ -66,8 +68,8 @@ call-held : {f : List Clause} (c : Call) (t : Tables) (st : State) → Held f t 
 call-held (propagate steps) t st H = propagate-held steps t st H
 call-held (merge steps) t st H = merge-held steps t st H
 call-held (stamp order) t st H = stamp-held order t st H
-call-held failed t st H = failed-held t st H
-call-held (sweep steps) t st H = sweep-held steps t st H
+call-held {f} failed t st H = failed-held (load-lasting f) t st H
+call-held {f} (sweep steps) t st H = sweep-held (load-lasting f) steps t st H
 call-held (programme codes) t st H = programme-held codes t st H
 
 -- a call on tables that break the shape rule, short ones among them, changes nothing
@@ -85,7 +87,7 @@ call-refused (programme codes) t st e = sym (set-misshapen codes t st e)
 taken : {A : Type 0} (k size : ℕ) (l : List A) → size ≤ length (take k l) → size ≤ k
 taken k size l h = omega (arith, h, length-take k l, min-le-left k (length l))
 
-lent-fronts : (k : Lent) (t : Tables) → Long (lend k t) → Fronts t (lend k t)
+pub lent-fronts : (k : Lent) (t : Tables) → Long (lend k t) → Fronts t (lend k t)
 lent-fronts k t L = record {
   long = L;
   clauses = λ i h. getD-take (k .clauses) (t .clauses) i 0 (omega (arith, h, taken (k .clauses) 12288 (t .clauses) (L .clauses)));
@@ -98,7 +100,7 @@ lent-fronts k t L = record {
 longer : {A : Type 0} (size : ℕ) (xs ys : List A) → size ≤ length xs → size ≤ length (xs ++ ys)
 longer size xs ys h = omega (arith, h, length-append xs ys)
 
-back-fronts : (k : Lent) (t u : Tables) → Long u → Fronts u (giveBack k t u)
+pub back-fronts : (k : Lent) (t u : Tables) → Long u → Fronts u (giveBack k t u)
 back-fronts k t u L = record {
   long = record {
     clauses = longer 12288 (u .clauses) (drop (k .clauses) (t .clauses)) (L .clauses);
@@ -119,26 +121,28 @@ back-same k t = λ i. tables (take-append-drop (k .clauses) (t .clauses) i) (tak
 
 -- ---- lists of calls
 
-step-held : {f : List Clause} (s : Step) (t : Tables) (st : State) → Held f t st → Held f (stepOn s t st .tables) (stepOn s t st .state)
+-- what a call keeps on the tables that it is lent, it keeps on the whole
+pub step-held : {P : ℕ → Core → Freshness → Type 0} (s : Step) (t : Tables) (st : State) → ((u : Tables) → HeldBy P u st → HeldBy P (callOn (s .call) u st .tables) (callOn (s .call) u st .state))
+    → HeldBy P t st → HeldBy P (stepOn s t st .tables) (stepOn s t st .state)
 unfolding stepOn
-step-held {f} s t st H = by (shapeOk (lend (s .lent) t) st) refl
+step-held {P} s t st keeps H = by (shapeOk (lend (s .lent) t) st) refl
   where
     a : After
     a = callOn (s .call) (lend (s .lent) t) st
 
-    by : (b : Bool) → shapeOk (lend (s .lent) t) st ≡ b → Held f (giveBack (s .lent) t (a .tables)) (a .state)
+    by : (b : Bool) → shapeOk (lend (s .lent) t) st ≡ b → HeldBy P (giveBack (s .lent) t (a .tables)) (a .state)
     by true e =
         let lent = held-same (lent-fronts (s .lent) t (shaped (lend (s .lent) t) st e .long)) H in
-        let after = call-held (s .call) (lend (s .lent) t) st lent in
+        let after = keeps (lend (s .lent) t) lent in
         held-same (back-fronts (s .lent) t (a .tables) (after .shape .long)) after
     by false e =
-        subst (λ (x : After). Held f (giveBack (s .lent) t (x .tables)) (x .state)) (sym (call-refused (s .call) (lend (s .lent) t) st e))
-        (subst (λ (u : Tables). Held f u st) (sym (back-same (s .lent) t)) H)
+        subst (λ (x : After). HeldBy P (giveBack (s .lent) t (x .tables)) (x .state)) (sym (call-refused (s .call) (lend (s .lent) t) st e))
+        (subst (λ (u : Tables). HeldBy P u st) (sym (back-same (s .lent) t)) H)
 
 pub steps-held : {f : List Clause} (ss : List Step) (t : Tables) (st : State) → Held f t st → Held f (stepsOn ss t st .tables) (stepsOn ss t st .state)
 unfolding stepsOn
 steps-held [] t st H = H
-steps-held (s ∷ ss) t st H = steps-held ss (stepOn s t st .tables) (stepOn s t st .state) (step-held s t st H)
+steps-held (s ∷ ss) t st H = steps-held ss (stepOn s t st .tables) (stepOn s t st .state) (step-held s t st (λ u. call-held (s .call) u st) H)
 
 -- ---- lists of literals
 
@@ -165,7 +169,7 @@ module _ (text : List ℕ) (v n body : ℕ) (accepted : judgeText text ≡ Fits 
   pub demand-3 : (τ : Assignment) → Stands t′ st′ τ ↔ Satisfies τ (textClauses text)
   demand-3 τ =
       Iff·trans (tie st′ t′ (held .core) (settledTo (st′ .pass) (st′ .n)) (shape-formed (held .shape)) (held .shape .values) (held .tied) τ)
-      (Iff·trans (keeps.demand-3 (loadedClauses (textClauses text)) (held .moves) τ)
+      (Iff·trans (kept.demand-3 (loadedClauses (textClauses text)) (held .so .moves) τ)
       (models-satisfies v τ (textClauses text) (each text v n body accepted t L st), satisfies-models v τ (textClauses text) (each text v n body accepted t L st)))
 
   -- ---- literals left out
@@ -182,7 +186,7 @@ module _ (text : List ℕ) (v n body : ℕ) (accepted : judgeText text ≡ Fits 
       → (tautology (nth (textClauses text) i) ≡ false) × Sublistᴰ (through (literalsOf (t′ .clauses) (t′ .literals) i)) (through (distinct (nth (textClauses text) i)))
   left-out i h stood =
       let D = literalsOf (t′ .clauses) (t′ .literals) i in
-      let r = only-left-out (loadedClauses (textClauses text)) (held .moves) .part i (map slotOf D) (held .tied .clauses i h ∙ stands-clause (t′ .clauses) (t′ .literals) i stood) in
+      let r = only-left-out (loadedClauses (textClauses text)) (held .so .moves) .part i (map slotOf D) (held .tied .clauses i h ∙ stands-clause (t′ .clauses) (t′ .literals) i stood) in
       let lt : i < length (textClauses text) = loaded-below (textClauses text) i (r .1) in
       let q = for-standing (nth (textClauses text) i) (sym (loaded-at (textClauses text) i lt) ∙ r .1) in
       (q .0, subst₂ Sublistᴰ (through-classes D ranged) (ap (map (held .core .class)) (sym (q .1)) ∙ through-classes (distinct (nth (textClauses text) i)) (loaded-ranged i lt (r .1) (q .1))) (r .2))
@@ -200,4 +204,4 @@ module _ (text : List ℕ) (v n body : ℕ) (accepted : judgeText text ≡ Fits 
           let real = distinct-all (λ x. 0 < natAbs x) c (above v c (in-nth v (textClauses text) j (each text v n body accepted t L st) lt)) in
           all-members (Literal (st′ .v)) (distinct c)
           (λ l m. literal-of l (all-member (λ x. 0 < natAbs x) (distinct c) real l m)
-          (held .within C (subst (λ (x : Clause). List·Memᴰ x (loadedClauses (textClauses text))) e (getD-mem (loadedClauses (textClauses text)) j dropped (omega (arith, lt, loaded-length (textClauses text))))) (slotOf l) (subst (List·Memᴰ (slotOf l)) q (Memᴰ·map slotOf m))))
+          (held .so .within C (subst (λ (x : Clause). List·Memᴰ x (loadedClauses (textClauses text))) e (getD-mem (loadedClauses (textClauses text)) j dropped (omega (arith, lt, loaded-length (textClauses text))))) (slotOf l) (subst (List·Memᴰ (slotOf l)) q (Memᴰ·map slotOf m))))

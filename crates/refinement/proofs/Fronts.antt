@@ -28,10 +28,11 @@ use Rattle.shape.specs.Shape.{Literals, Variable, Spread, Shape, settledTo}
 use Rattle.visits.proofs.Forming.{shape-formed}
 use Rattle.visits.proofs.Known.{class-ranged}
 use Rattle.sound.specs.Formula.{Clause, dropped, standing}
+use Rattle.moves.specs.Core.{Core}
 use Rattle.moves.specs.Moves.{Freshness}
 use Rattle.refinement.specs.Represented.{clauseOf, Represented}
 use Rattle.refinement.proofs.Literals.{slot-literal}
-use Rattle.refinement.proofs.Held.{StampsOf, stale, from, Held}
+use Rattle.refinement.proofs.Held.{StampsOf, stale, from, HeldBy}
 
 -- u is long enough, and has what t has in the stated places
 pub record Fronts (t u : Tables) : Type 0 where
@@ -203,12 +204,11 @@ module _ {t u : Tables} {st : State} (A : Fronts t u) (S : Shape t st) where
   clause-same i h = λ z. elim (flags i h z) as (λ y. Clause) [ zero ↦ dropped | suc _ ↦ standing (map slotOf (part-same i h z)) ]
 
 -- THE LAW
-pub held-same : {f : List Clause} {t u : Tables} {st : State} → Fronts t u → Held f t st → Held f u st
-held-same {f} {t} {u} {st} A H = record {
+pub held-same : {P : ℕ → Core → Freshness → Type 0} {t u : Tables} {st : State} → Fronts t u → HeldBy P t st → HeldBy P u st
+held-same {P} {t} {u} {st} A H = record {
   core = H .core;
   stamped = H .stamped;
-  moves = H .moves;
-  within = H .within;
+  so = H .so;
   shape = shape-same A (H .shape);
   tied = record {
     number = R .number;

@@ -1,5 +1,5 @@
--- The invariant of a list of calls after a load of the clauses f: what stands is reached by moves from f, the tables hold it and keep the shape rule, and fresh stamps are those of the last Stamp.
--- Propagate and Merge keep it. Assumes nothing.
+-- The invariant of a list of calls: what stands has a property, the tables hold it and keep the shape rule, and fresh stamps are those of the last Stamp (`HeldBy`).
+-- After a load of the clauses f the property is that what stands is reached by moves from f (`Held`); Propagate and Merge keep that. Assumes nothing.
 use Prim.Native.Nat.{ℕ, _+_, _-_, _*_, _<_, min}
 use mathlib.Core.Path.{_≡_, refl, sym, subst, subst₂}
 use mathlib.Core.Bool.{Bool, true, false}
@@ -33,7 +33,7 @@ use Rattle.merge_visits.specs.Clause.{mergeClause}
 use Rattle.merge.proofs.Shaped.{merge-shaped}
 use Rattle.sound.specs.Formula.{Clause, standing}
 use Rattle.moves.specs.Core.{Core, load}
-use Rattle.moves.specs.Moves.{Freshness, spent, fresh, spend, Moves, go}
+use Rattle.moves.specs.Moves.{Freshness, spent, fresh, Behind, spend, behind, Moves, go}
 use Rattle.refinement.specs.Represented.{Represented}
 use Rattle.refinement.proofs.Propagation.{moves-join}
 use Rattle.refinement.proofs.Called.{Reached, propagate-reached, merge-reached}
@@ -50,15 +50,30 @@ pub data StampsOf (t : Tables) (st : State) : Freshness → Type 0 where
   stale : {w : Freshness} → st .fresh ≡ false → StampsOf t st w
   from : (σ : Stamps) (c : ℕ) → Agree (2 * st .v) (columns (t .times) (t .links)) σ → At (st .pass) c → StampsOf t st (fresh σ c)
 
-pub record Held (f : List Clause) (t : Tables) (st : State) : Type 0 where
+-- what stands has P, over the variables and with the stamps that there are
+pub record HeldBy (P : ℕ → Core → Freshness → Type 0) (t : Tables) (st : State) : Type 0 where
   pub core : Core
   pub stamped : Freshness
-  pub moves : Moves (st .v) (load f) spent core stamped
-  -- the loaded literals are those of the variables
-  pub within : (C : List ℕ) → List·Memᴰ (standing C) f → (l : ℕ) → List·Memᴰ l C → l < 2 * st .v
+  pub so : P (st .v) core stamped
   pub shape : Shape t st
   pub tied : Represented (st .v) (st .n) (st .mark) t core
   pub stamps : StampsOf t st stamped
+
+-- moves behind a Stamp keep P
+pub record Lasting (P : ℕ → Core → Freshness → Type 0) : Type 0 where
+  pub step : {v : ℕ} {k k′ : Core} {w w′ : Freshness} → P v k w → Behind v k w k′ w′ → P v k′ w′
+
+-- what stands is reached by moves from a load of the clauses f
+pub record FromLoad (f : List Clause) (v : ℕ) (k : Core) (w : Freshness) : Type 0 where
+  pub moves : Moves v (load f) spent k w
+  -- the loaded literals are those of the variables
+  pub within : (C : List ℕ) → List·Memᴰ (standing C) f → (l : ℕ) → List·Memᴰ l C → l < 2 * v
+
+abbrev pub Held : List Clause → Tables → State → Type 0
+Held f t st = HeldBy (FromLoad f) t st
+
+pub load-lasting : (f : List Clause) → Lasting (FromLoad f)
+load-lasting f = record { step = λ L m. record { moves = go (L .moves) (behind m); within = L .within } }
 
 -- a call that leaves V and N, and no fresh stamps
 pub record Spends (st : State) (a : After) : Type 0 where
@@ -70,8 +85,7 @@ pub held-spent : {f : List Clause} {t : Tables} {st : State} (H : Held f t st) (
 held-spent {f} H a E S R = record {
   core = R .to;
   stamped = spent;
-  moves = subst (λ (x : ℕ). Moves x (load f) spent (R .to) spent) (sym (E .v)) (moves-join (go (H .moves) spend) (R .moves));
-  within = subst (λ (x : ℕ). (C : List ℕ) → List·Memᴰ (standing C) f → (l : ℕ) → List·Memᴰ l C → l < 2 * x) (sym (E .v)) (H .within);
+  so = subst (λ (x : ℕ). FromLoad f x (R .to) spent) (sym (E .v)) (record { moves = moves-join (go (H .so .moves) (behind spend)) (R .moves); within = H .so .within });
   shape = S;
   tied = subst₂ (λ (x y : ℕ). Represented x y (a .state .mark) (a .tables) (R .to)) (sym (E .v)) (sym (E .n)) (R .tied);
   stamps = stale (E .fresh);

@@ -32,32 +32,31 @@ use Rattle.failed.proofs.Climbing.{failed-below, slot-ranged}
 use Rattle.failed.proofs.Valuing.{kept-true}
 use Rattle.failed.proofs.Calling.{shape-stamped}
 use Rattle.failed.proofs.Shaping.{failed-shape}
-use Rattle.sound.specs.Formula.{Clause}
-use Rattle.moves.specs.Core.{Core, load, learn}
+use Rattle.moves.specs.Core.{Core, learn}
 use Rattle.moves.specs.Core as core
-use Rattle.moves.specs.Moves.{Freshness, spent, fresh, Moves, failed, opposite, go}
+use Rattle.moves.specs.Moves.{Freshness, spent, fresh, failed, opposite}
 use Rattle.refinement.specs.Represented.{Represented}
 use Rattle.refinement.proofs.Literals.{false-is, spread-represented}
 use Rattle.refinement.proofs.Propagated.{mark-represented, learn-represented}
-use Rattle.refinement.proofs.Held.{At, StampsOf, stale, from, Held}
+use Rattle.refinement.proofs.Held.{At, StampsOf, stale, from, HeldBy, Lasting}
 
--- what some variables leave: moves from the load, up to the mark where the opposite value was met
-pub record Going (f : List Clause) (v n : ℕ) (mark : Bool) (w : Freshness) (t : Tables) : Type 0 where
+-- what some variables leave, up to the mark where the opposite value was met
+pub record Going (P : ℕ → Core → Freshness → Type 0) (v n : ℕ) (mark : Bool) (w : Freshness) (t : Tables) : Type 0 where
   pub core : Core
-  pub moves : Moves v (load f) spent core w
+  pub so : P v core w
   pub tied : Represented v n mark t core
   pub rows : Variables v (t .variables)
 
-module _ (f : List Clause) (v n : ℕ) (t : Tables) (S : FullStamps v (t .times) (t .links)) (σ : Stamps) (c : ℕ) (A : Agree (2 * v) (columns (t .times) (t .links)) σ) where
+module _ {P : ℕ → Core → Freshness → Type 0} (lasting : Lasting P) (v n : ℕ) (t : Tables) (S : FullStamps v (t .times) (t .links)) (σ : Stamps) (c : ℕ) (A : Agree (2 * v) (columns (t .times) (t .links)) σ) where
   abbrev ρ : Stamps
   ρ = columns (t .times) (t .links)
 
   -- by whether the opposite value was met
   abbrev After? : Bool → List ℤ → Type 0
-  After? b w = elim b [ true ↦ Going f v n true spent (withVariables w t) | false ↦ Going f v n false (fresh σ c) (withVariables w t) ]
+  After? b w = elim b [ true ↦ Going P v n true spent (withVariables w t) | false ↦ Going P v n false (fresh σ c) (withVariables w t) ]
 
   -- one variable
-  one-variable : (w : List ℤ) (m k : ℕ) → k < v → Going f v n false (fresh σ c) (withVariables w t) → After? (failedAt ρ (2 * v) k w m .opposite) (failedAt ρ (2 * v) k w m .variables)
+  one-variable : (w : List ℤ) (m k : ℕ) → k < v → Going P v n false (fresh σ c) (withVariables w t) → After? (failedAt ρ (2 * v) k w m .opposite) (failedAt ρ (2 * v) k w m .variables)
   unfolding failedAt
   one-variable w m k lt G = by (sameStart ρ (2 * k)) refl
     where
@@ -82,7 +81,7 @@ module _ (f : List Clause) (v n : ℕ) (t : Tables) (S : FullStamps v (t .times)
       by-values e true b p q = G
       by-values e false true p q = record {
         core = core.markedCore (G .core);
-        moves = go (G .moves) (opposite (2 * k) s-in (sym (same-agree (2 * v) ρ σ A (2 * k) s-in (twin-below v (2 * k) s-in)) ∙ e)
+        so = lasting .step (G .so) (opposite (2 * k) s-in (sym (same-agree (2 * v) ρ σ A (2 * k) s-in (twin-below v (2 * k) s-in)) ∙ e)
             (ap (core.coreFalse (G .core)) (sym back) ∙ false-is (G .tied) (G .rows) l L ∙ q));
         tied = mark-represented (G .tied);
         rows = G .rows;
@@ -92,8 +91,8 @@ module _ (f : List Clause) (v n : ℕ) (t : Tables) (S : FullStamps v (t .times)
           L = slot-ranged S (twin x) (twin-below v x (failed-below S (2 * k) s-in e))
       by-values e false false p q = record {
         core = learn (G .core .class (slotOf l)) (G .core);
-        moves = subst (λ (y : ℕ). Moves v (load f) spent (learn (G .core .class y) (G .core)) (fresh σ c)) (sym back)
-            (go (G .moves) (failed (2 * k) s-in (sym (same-agree (2 * v) ρ σ A (2 * k) s-in (twin-below v (2 * k) s-in)) ∙ e)));
+        so = subst (λ (y : ℕ). P v (learn (G .core .class y) (G .core)) (fresh σ c)) (sym back)
+            (lasting .step (G .so) (failed (2 * k) s-in (sym (same-agree (2 * v) ρ σ A (2 * k) s-in (twin-below v (2 * k) s-in)) ∙ e)));
         tied = learn-represented (G .tied) (G .rows) l L q;
         rows = set-rows;
       }
@@ -125,19 +124,18 @@ module _ (f : List Clause) (v n : ℕ) (t : Tables) (S : FullStamps v (t .times)
 at-idle : (p : Pass) (c : ℕ) → p ≡ Idle → At p c → c ≡ 0
 at-idle p c e a = subst (λ (q : Pass). At q c) e a
 
-module _ {f : List Clause} {t : Tables} {st : State} (H : Held f t st) where
+module _ {P : ℕ → Core → Freshness → Type 0} (lasting : Lasting P) {t : Tables} {st : State} (H : HeldBy P t st) where
   -- the tables once the values are spread
   abbrev spreadFound : Found → Tables
   spreadFound x = spreadTables (st .v) (withVariables (x .variables) t)
 
   replied-held : (σ : Stamps) → Agree (2 * st .v) (columns (t .times) (t .links)) σ → (x : Found) → Shape (spreadFound x) (failedReply x t st .state)
-      → (b : Bool) → x .opposite ≡ b → (elim b as (λ y. Type 0) [ true ↦ Going f (st .v) (st .n) true spent (withVariables (x .variables) t) | false ↦ Going f (st .v) (st .n) false (fresh σ 0) (withVariables (x .variables) t) ])
-      → Held f (spreadFound x) (elim b as (λ y. State) [ true ↦ marked st | false ↦ closed true st ])
+      → (b : Bool) → x .opposite ≡ b → (elim b as (λ y. Type 0) [ true ↦ Going P (st .v) (st .n) true spent (withVariables (x .variables) t) | false ↦ Going P (st .v) (st .n) false (fresh σ 0) (withVariables (x .variables) t) ])
+      → HeldBy P (spreadFound x) (elim b as (λ y. State) [ true ↦ marked st | false ↦ closed true st ])
   replied-held σ A x Q true e G = record {
     core = G .core;
     stamped = spent;
-    moves = G .moves;
-    within = H .within;
+    so = G .so;
     shape = subst (λ (b : Bool). Shape (spreadFound x) (elim b as (λ y. State) [ true ↦ marked st | false ↦ closed true st ])) e Q;
     tied = spread-represented (G .rows) (G .tied);
     stamps = stale refl;
@@ -145,41 +143,40 @@ module _ {f : List Clause} {t : Tables} {st : State} (H : Held f t st) where
   replied-held σ A x Q false e G = record {
     core = G .core;
     stamped = fresh σ 0;
-    moves = G .moves;
-    within = H .within;
+    so = G .so;
     shape = subst (λ (b : Bool). Shape (spreadFound x) (elim b as (λ y. State) [ true ↦ marked st | false ↦ closed true st ])) e Q;
     tied = spread-represented (G .rows) (G .tied);
     stamps = from σ 0 A refl;
   }
 
   -- on fresh stamps
-  fresh-held : Entered Idle t st → st .fresh ≡ true → Shape (failedFresh t st .tables) (failedFresh t st .state) → Held f (failedFresh t st .tables) (failedFresh t st .state)
+  fresh-held : Entered Idle t st → st .fresh ≡ true → Shape (failedFresh t st .tables) (failedFresh t st .state) → HeldBy P (failedFresh t st .tables) (failedFresh t st .state)
   unfolding failedFresh
-  fresh-held E e Q = by-stamps (H .stamps) (H .moves)
+  fresh-held E e Q = by-stamps (H .stamps) (H .so)
     where
       x : Found
       x = failedFrom (columns (t .times) (t .links)) (2 * st .v) (st .v) 0 (found (t .variables) 0 false)
 
-      by-stamps : {w : Freshness} → StampsOf t st w → Moves (st .v) (load f) spent (H .core) w → Held f (spreadFound x) (failedReply x t st .state)
+      by-stamps : {w : Freshness} → StampsOf t st w → P (st .v) (H .core) w → HeldBy P (spreadFound x) (failedReply x t st .state)
       by-stamps (stale h) ms = absurd (false≢true (sym h ∙ e))
       by-stamps (from σ c A at) ms =
           let R = subst (λ (b : Bool). Represented (st .v) (st .n) b t (H .core)) (E .unmarked) (H .tied) in
-          let begun : Going f (st .v) (st .n) false (fresh σ 0) (withVariables (t .variables) t) = record {
+          let begun : Going P (st .v) (st .n) false (fresh σ 0) (withVariables (t .variables) t) = record {
             core = H .core;
-            moves = subst (λ (y : ℕ). Moves (st .v) (load f) spent (H .core) (fresh σ y)) (at-idle (st .pass) c (E .pass) at) ms;
+            so = subst (λ (y : ℕ). P (st .v) (H .core) (fresh σ y)) (at-idle (st .pass) c (E .pass) at) ms;
             tied = record { number = R .number; clauses = R .clauses; classes = R .classes; facts = R .facts; beyond = R .beyond; marks = R .marks };
             rows = entered-formed E tt .vars;
           } in
-          replied-held σ A x Q (x .opposite) refl (variables-going f (st .v) (st .n) t (shape-stamped (H .shape) e) σ 0 A (st .v) 0 (omega arith) (found (t .variables) 0 false) begun)
+          replied-held σ A x Q (x .opposite) refl (variables-going lasting (st .v) (st .n) t (shape-stamped (H .shape) e) σ 0 A (st .v) 0 (omega arith) (found (t .variables) 0 false) begun)
 
-pub failed-held : {f : List Clause} (t : Tables) (st : State) → Held f t st → Held f (failedCall t st .tables) (failedCall t st .state)
+pub failed-held : {P : ℕ → Core → Freshness → Type 0} → Lasting P → (t : Tables) (st : State) → HeldBy P t st → HeldBy P (failedCall t st .tables) (failedCall t st .state)
 unfolding failedCall
-failed-held {f} t st H = by (openingOf t st) refl (failed-shape t st (H .shape))
+failed-held {P} lasting t st H = by (openingOf t st) refl (failed-shape t st (H .shape))
   where
-    unless : Entered Idle t st → (b : Bool) → st .fresh ≡ b → Shape (failedUnlessStale b t st .tables) (failedUnlessStale b t st .state) → Held f (failedUnlessStale b t st .tables) (failedUnlessStale b t st .state)
-    unless E true e Q = fresh-held H E e Q
+    unless : Entered Idle t st → (b : Bool) → st .fresh ≡ b → Shape (failedUnlessStale b t st .tables) (failedUnlessStale b t st .state) → HeldBy P (failedUnlessStale b t st .tables) (failedUnlessStale b t st .state)
+    unless E true e Q = fresh-held lasting H E e Q
     unless E false e Q = H
 
-    by : (e : Opening) → openingOf t st ≡ e → Shape (failedBy e t st .tables) (failedBy e t st .state) → Held f (failedBy e t st .tables) (failedBy e t st .state)
+    by : (e : Opening) → openingOf t st ≡ e → Shape (failedBy e t st .tables) (failedBy e t st .state) → HeldBy P (failedBy e t st .tables) (failedBy e t st .state)
     by (Denied r) q Q = H
     by Granted q Q = unless (granted-entered t st q) (st .fresh) refl Q

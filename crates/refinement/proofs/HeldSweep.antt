@@ -32,22 +32,21 @@ use Rattle.sweep.specs.Sweep.{sweepFrom, sweepUnlessStale, sweepBy, sweepCall}
 use Rattle.sweep.proofs.Shaped.{from-shaped}
 use Rattle.sweep_visits.specs.Clause.{sweepClause}
 use Rattle.sweep_visits.proofs.Visiting.{sweep-shrinks}
-use Rattle.sound.specs.Formula.{Clause}
 use Rattle.sound.specs.Sweep as sound
-use Rattle.moves.specs.Core.{Core, load, withClauses}
-use Rattle.moves.specs.Moves.{Freshness, spent, fresh, Moves, spend, sweep, go}
+use Rattle.moves.specs.Core.{Core, withClauses}
+use Rattle.moves.specs.Moves.{Freshness, spent, fresh, spend, sweep}
 use Rattle.refinement.specs.Represented.{Represented}
 use Rattle.refinement.proofs.Swept.{sweeps-tied}
-use Rattle.refinement.proofs.Held.{At, StampsOf, stale, from, Held}
+use Rattle.refinement.proofs.Held.{At, StampsOf, stale, from, HeldBy, Lasting}
 
 -- ---- visits from the cursor on
 
-module _ {f : List Clause} {t : Tables} {st : State} (H : Held f t st) (F : Formed (st .v) (st .n) (st .n) false (t .clauses) (t .literals) (t .variables)) (R : Represented (st .v) (st .n) false t (H .core))
+module _ {P : ℕ → Core → Freshness → Type 0} (lasting : Lasting P) {t : Tables} {st : State} (H : HeldBy P t st) (F : Formed (st .v) (st .n) (st .n) false (t .clauses) (t .literals) (t .variables)) (R : Represented (st .v) (st .n) false t (H .core))
     (fresh-is : st .fresh ≡ true) (c : ℕ) (le : c ≤ st .n) where
   abbrev ρ : Stamps
   ρ = columns (t .times) (t .links)
 
-  module _ (σ : Stamps) (A : Agree (2 * st .v) ρ σ) (since : Moves (st .v) (load f) spent (H .core) (fresh σ c)) (steps : ℕ) where
+  module _ (σ : Stamps) (A : Agree (2 * st .v) ρ σ) (since : P (st .v) (H .core) (fresh σ c)) (steps : ℕ) where
     abbrev m : ℕ
     m = min steps (st .n - c)
 
@@ -72,31 +71,29 @@ module _ {f : List Clause} {t : Tables} {st : State} (H : Held f t st) (F : Form
     agree-still : Agree (2 * st .v) (columns (t′ .times) (t′ .links)) σ
     agree-still = subst (λ (x : List ℕ). Agree (2 * st .v) (columns x (t′ .links)) σ) (sym (B .times)) (subst (λ (x : List ℤ). Agree (2 * st .v) (columns (t .times) x) σ) (sym (B .links)) A)
 
-    open-held : Shape t′ (opened (Sweep (c + m)) true st) → Held f t′ (opened (Sweep (c + m)) true st)
+    open-held : Shape t′ (opened (Sweep (c + m)) true st) → HeldBy P t′ (opened (Sweep (c + m)) true st)
     open-held Q = record {
       core = k′;
       stamped = fresh σ (c + m);
-      moves = go since (sweep m);
-      within = H .within;
+      so = lasting .step since (sweep m);
       shape = Q;
       tied = tied;
       stamps = from σ (c + m) agree-still refl;
     }
 
-    done-held : Shape t′ (closed false st) → Held f t′ (closed false st)
+    done-held : Shape t′ (closed false st) → HeldBy P t′ (closed false st)
     done-held Q = record {
       core = k′;
       stamped = spent;
-      moves = go (go since (sweep m)) spend;
-      within = H .within;
+      so = lasting .step (lasting .step since (sweep m)) spend;
       shape = Q;
       tied = tied;
       stamps = stale refl;
     }
 
-    from-held : Held f (sweepFrom steps c t st .tables) (sweepFrom steps c t st .state)
+    from-held : HeldBy P (sweepFrom steps c t st .tables) (sweepFrom steps c t st .state)
     from-held =
-        advance-cases Sweep true false (sweepClause ρ) steps c t st (λ (a : After). Shape (a .tables) (a .state) → Held f (a .tables) (a .state)) (λ counts lt. open-held) (λ counts done. done-held)
+        advance-cases Sweep true false (sweepClause ρ) steps c t st (λ (a : After). Shape (a .tables) (a .state) → HeldBy P (a .tables) (a .state)) (λ counts lt. open-held) (λ counts done. done-held)
         (from-shaped steps c t st (H .shape) F fresh-is le)
 
 -- ---- the call
@@ -116,24 +113,24 @@ begins-unmerged : (p : Pass) (k : ℕ) → Begins p k → NoMerge p
 begins-unmerged Idle k b = tt
 begins-unmerged (Sweep i) k b = tt
 
-pub sweep-held : {f : List Clause} (steps : ℕ) (t : Tables) (st : State) → Held f t st → Held f (sweepCall steps t st .tables) (sweepCall steps t st .state)
+pub sweep-held : {P : ℕ → Core → Freshness → Type 0} → Lasting P → (steps : ℕ) (t : Tables) (st : State) → HeldBy P t st → HeldBy P (sweepCall steps t st .tables) (sweepCall steps t st .state)
 unfolding sweepCall
-sweep-held {f} steps t st H = by (entryOf own.Sweep t st) refl
+sweep-held {P} lasting steps t st H = by (entryOf own.Sweep t st) refl
   where
-    stamped : {p : Pass} → Entered p t st → (k : ℕ) → Begins p k → k ≤ st .n → st .fresh ≡ true → Held f (sweepFrom steps k t st .tables) (sweepFrom steps k t st .state)
-    stamped {p} E k b le e = by-stamps (H .stamps) (H .moves)
+    stamped : {p : Pass} → Entered p t st → (k : ℕ) → Begins p k → k ≤ st .n → st .fresh ≡ true → HeldBy P (sweepFrom steps k t st .tables) (sweepFrom steps k t st .state)
+    stamped {p} E k b le e = by-stamps (H .stamps) (H .so)
       where
-        by-stamps : {w : Freshness} → StampsOf t st w → Moves (st .v) (load f) spent (H .core) w → Held f (sweepFrom steps k t st .tables) (sweepFrom steps k t st .state)
+        by-stamps : {w : Freshness} → StampsOf t st w → P (st .v) (H .core) w → HeldBy P (sweepFrom steps k t st .tables) (sweepFrom steps k t st .state)
         by-stamps (stale h) ms = absurd (false≢true (sym h ∙ e))
         by-stamps (from σ c A at) ms =
-            from-held H (entered-formed E (begins-unmerged p k b)) (subst (λ (b : Bool). Represented (st .v) (st .n) b t (H .core)) (E .unmarked) (H .tied)) e k le σ A
-            (subst (λ (x : ℕ). Moves (st .v) (load f) spent (H .core) (fresh σ x)) (at-cursor p c k (subst (λ (q : Pass). At q c) (E .pass) at) b) ms) steps
+            from-held lasting H (entered-formed E (begins-unmerged p k b)) (subst (λ (b : Bool). Represented (st .v) (st .n) b t (H .core)) (E .unmarked) (H .tied)) e k le σ A
+            (subst (λ (x : ℕ). P (st .v) (H .core) (fresh σ x)) (at-cursor p c k (subst (λ (q : Pass). At q c) (E .pass) at) b) ms) steps
 
-    unless : {p : Pass} → Entered p t st → (k : ℕ) → Begins p k → k ≤ st .n → (b : Bool) → st .fresh ≡ b → Held f (sweepUnlessStale b steps k t st .tables) (sweepUnlessStale b steps k t st .state)
+    unless : {p : Pass} → Entered p t st → (k : ℕ) → Begins p k → k ≤ st .n → (b : Bool) → st .fresh ≡ b → HeldBy P (sweepUnlessStale b steps k t st .tables) (sweepUnlessStale b steps k t st .state)
     unless E k b le true e = stamped E k b le e
     unless E k b le false e = H
 
-    by : (e : Entry) → entryOf own.Sweep t st ≡ e → Held f (sweepBy e steps t st .tables) (sweepBy e steps t st .state)
+    by : (e : Entry) → entryOf own.Sweep t st ≡ e → HeldBy P (sweepBy e steps t st .tables) (sweepBy e steps t st .state)
     by (No r) q = H
     by Opens q = unless (opens-entered own.Sweep t st q) 0 refl (omega arith) (st .fresh) refl
     by (Resumes k changed) q = let E = resumes-entered own.Sweep t st k changed q in unless E k refl (omega (arith, entered-cursor E .0)) (st .fresh) refl

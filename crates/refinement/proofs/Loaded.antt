@@ -245,8 +245,7 @@ module _ (text : List ℕ) (v n body : ℕ) (accepted : judgeText text ≡ Fits 
       record {
         core = markedCore (load (loadedClauses cs));
         stamped = spent;
-        moves = go stay (change (conflict (z .0) (z .2)));
-        within = loaded-within v cs each;
+        so = record { moves = go stay (change (conflict (z .0) (z .2))); within = loaded-within v cs each };
         shape = formed-shape (laid v cs t) (loadedState v (length cs) true) (subst (λ (b : Bool). Formed v (length cs) (length cs) b (laid v cs t .clauses) (laid v cs t .literals) (laid v cs t .variables)) e (laid-formed v cs t few many fits each)) (L .times) (L .links) (laid-spread v cs t few many fits each) tt (λ q. absurd (false≢true q)) constant-passes;
         tied = mark-represented (loaded-represented v cs t few many fits each);
         stamps = stale refl;
@@ -254,8 +253,7 @@ module _ (text : List ℕ) (v n body : ℕ) (accepted : judgeText text ≡ Fits 
   laid-held false e = record {
     core = load (loadedClauses cs);
     stamped = spent;
-    moves = stay;
-    within = loaded-within v cs each;
+    so = record { moves = stay; within = loaded-within v cs each };
     shape = formed-shape (laid v cs t) (loadedState v (length cs) false) (subst (λ (b : Bool). Formed v (length cs) (length cs) b (laid v cs t .clauses) (laid v cs t .literals) (laid v cs t .variables)) e (laid-formed v cs t few many fits each)) (L .times) (L .links) (laid-spread v cs t few many fits each) tt (λ q. absurd (false≢true q)) constant-passes;
     tied = loaded-represented v cs t few many fits each;
     stamps = stale refl;

@@ -1,9 +1,9 @@
 -- What formed tables represent is a shaped formula, every literal its own class once all clauses are settled, with the graph of the tables. Assumes nothing.
-use Prim.Native.Nat.{ℕ, zero, suc, _+_, _*_, _-_, _<_}
+use Prim.Native.Nat.{ℕ, zero, suc, _+_, _*_, _<_}
 use native.Mathlib.Nat.{add-zero}
 use native.Mathlib.Omega.{arith}
 use mathlib.Core.Path.{_≡_, refl, sym, ap, subst, _∙_}
-use mathlib.Core.Bool.{false}
+use mathlib.Core.Bool.{Bool, false}
 use mathlib.Core.List.{List, [], _∷_, map, List·Memᴰ}
 use lib.ListN.{length, getD}
 use lib.IntN.{ℤ, pos, natAbs}
@@ -39,7 +39,7 @@ same-slots c l (x ∷ f) (suc m) i e h =
     let b = same-slots c l f m (suc i) (let q : length f ≡ m = omega (arith, e) in q) (λ j lt. h (suc j) (omega (arith, lt)) ∙ ap (slotsAt c l) (let q : i + suc j ≡ suc i + j = omega arith in q)) in
     λ z. a z ∷ b z
 
-module _ {v n sl : ℕ} {t : Tables} {k : core.Core} (F : Formed v n sl false (t .clauses) (t .literals) (t .variables)) (R : Represented v n false t k) where
+module _ {v n sl : ℕ} {mark : Bool} {t : Tables} {k : core.Core} (F : Formed v n sl mark (t .clauses) (t .literals) (t .variables)) (R : Represented v n mark t k) where
   -- a standing clause is that of a record
   pub clause-number : {C : List ℕ} → List·Memᴰ (standing C) (k .clauses) → (i : ℕ) × (i < n) × (map slotOf (literalsAt t i) ≡ C)
   clause-number m =

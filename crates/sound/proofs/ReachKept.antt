@@ -1,18 +1,21 @@
--- Change request 13: reach is kept. Lemma R once more, with "p reaches it over the pairs that now stand" for the property. Assumes nothing.
-use Prim.Native.Nat.{ℕ, zero, suc}
-use mathlib.Core.Path.{_≡_, sym, subst₂, _∙_}
+-- Change request 13: reach is kept. Lemma R once more, with "p reaches it over the pairs that now stand" for the property. And where a pair was shortened, the literal that is left is reached from its complement (`pair-fails`). Assumes nothing.
+use Prim.Native.Nat.{ℕ, zero, suc, _<_}
+use native.Mathlib.Omega.{arith}
+use mathlib.Core.Path.{_≡_, refl, sym, ap, subst, subst₂, _∙_}
 use mathlib.Core.Logic.{_⊎_, inl, inr, ⊎-elim, _↔_}
-use mathlib.Core.List.{List, [], _∷_}
-use lib.ListN.{getD}
-use Rattle.base.proofs.Lists.{mem-getD}
+use mathlib.Core.List.{List, [], _∷_, List·Memᴰ, List·Memᴰ·head, List·Memᴰ·tail, List·Memᴰ·not-nil, List·Memᴰ·cases-cons}
+use lib.ListN.{length, getD}
+use Rattle.base.proofs.Lists.{mem-getD, sub-mem}
+use Rattle.literal.specs.Literals.{twin}
 use Rattle.walk.specs.Walk.{Stamps}
 use Rattle.walk.specs.Forest.{Reach, here, on}
 use Rattle.walk.proofs.Theorems.{reach-implies}
+use Rattle.scc.proofs.Kosaraju.{reach-trans}
 use Rattle.hidden.proofs.Pairs.{by-reads}
 use Rattle.sound.specs.Formula.{Clause, dropped, standing, graph}
 use Rattle.sound.specs.Sweep.{sweepFirst}
-use Rattle.sound.specs.Kept.{Detour, Kept, same, Since, none, each}
-use Rattle.sound.proofs.Graph.{not-standing, edge-pair, reads-edge}
+use Rattle.sound.specs.Kept.{Detour, Kept, same, shorter, round, implied, Since, none, each}
+use Rattle.sound.proofs.Graph.{standing-eq, not-standing, edge-pair, reads-edge}
 use Rattle.sound.proofs.Rule.{rule}
 use Rattle.sound.proofs.Chains.{dropped-round}
 use Rattle.sound.proofs.Sound.{StampedFormula, graph-below, sweep-since, nth-mem}
@@ -69,3 +72,44 @@ module _ (vars : ℕ) (f : List Clause) (σ : Stamps) (R : StampedFormula vars f
     sweep-reach (whole-pairs f (sweepFirst k σ f) w) p q,
     λ r. reach-same vars f σ R (sweepFirst k σ f) (sweep-since vars f σ R k) w r,
   )
+
+-- ---- a pair that was shortened
+
+-- of a pair that has lost a literal one is left, and both lead to it
+one-left : {adj : ℕ → List ℕ} {a b : ℕ} {c d : Clause} → Kept adj c d → c ≡ standing (a ∷ b ∷ []) → (D : List ℕ) → d ≡ standing D → length D < 2
+    → (x : ℕ) × (D ≡ x ∷ []) × List·Memᴰ x (a ∷ b ∷ []) × ((l : ℕ) → List·Memᴰ l (a ∷ b ∷ []) → Reach adj l x)
+one-left same e D k few = absurd (omega (arith, few, ap length (standing-eq (sym e ∙ k))))
+one-left {adj} {a} {b} (shorter {C = C} {D = E} sub leads) e D k few = by D (standing-eq k) few
+  where
+    lead : (l : ℕ) → List·Memᴰ l (a ∷ b ∷ []) → (m : ℕ) × List·Memᴰ m E × Reach adj l m
+    lead l m = leads l (subst (List·Memᴰ l) (sym (standing-eq e)) m)
+
+    by : (F : List ℕ) → E ≡ F → length F < 2 → (x : ℕ) × (F ≡ x ∷ []) × List·Memᴰ x (a ∷ b ∷ []) × ((l : ℕ) → List·Memᴰ l (a ∷ b ∷ []) → Reach adj l x)
+    by [] q few = let r = lead a (List·Memᴰ·head refl) in absurd (List·Memᴰ·not-nil (subst (List·Memᴰ (r .0)) q (r .1)))
+    by (x ∷ []) q few = (
+      x,
+      refl,
+      subst (List·Memᴰ x) (standing-eq e) (sub-mem sub (subst (List·Memᴰ x) (sym q) (List·Memᴰ·head refl))),
+      λ l m.
+          let r = lead l m in
+          subst (Reach adj l) (⊎-elim (λ (o : r .0 ≡ x). o) (λ n. absurd (List·Memᴰ·not-nil n)) (List·Memᴰ·cases-cons (subst (List·Memᴰ (r .0)) q (r .1)))) (r .2),
+    )
+    by (x ∷ y ∷ F) q few = absurd (omega (arith, few))
+one-left (round p q) e D k few = absurd (not-standing k)
+one-left (implied long l m r) e D k few = absurd (not-standing k)
+
+-- it is reached from its complement, over the pair's own edge
+pub pair-fails : (f g : List Clause) → Since (graph f) f g → (i a b : ℕ) → getD f i dropped ≡ standing (a ∷ b ∷ []) → (D : List ℕ) → getD g i dropped ≡ standing D → length D < 2 → (x : ℕ) × (D ≡ x ∷ []) × Reach (graph f) (twin x) x
+pair-fails f g S i a b e D k few =
+    let r = one-left (since-nth S i) e D k few in
+    let m = nth-mem f i (a ∷ b ∷ []) e in (
+      r .0,
+      r .1,
+      ⊎-elim
+          (λ (o : r .0 ≡ a). reach-trans (on here (subst (λ (s : ℕ). List·Memᴰ b (graph f (twin s))) (sym o) (reads-edge f a b (twin a) b m (inl (refl, refl))))) (r .3 b (List·Memᴰ·tail (List·Memᴰ·head refl))))
+          (λ n. ⊎-elim
+          (λ (o : r .0 ≡ b). reach-trans (on here (subst (λ (s : ℕ). List·Memᴰ a (graph f (twin s))) (sym o) (reads-edge f a b (twin b) a m (inr (refl, refl))))) (r .3 a (List·Memᴰ·head refl)))
+          (λ z. absurd (List·Memᴰ·not-nil z))
+          (List·Memᴰ·cases-cons n))
+          (List·Memᴰ·cases-cons (r .2)),
+    )
