@@ -6,11 +6,13 @@
  *     stamp L L ..                the order, at most 4,096 literals
  *     failed
  *     programme C C ..            the codes that `run` follows, at most 64, each 0 to 255
+ *     learn L L ..                a learnt clause, at most 4,096 literals
  *     write K                     into an output of K bytes, at most 131,072
- *     state, codes, clauses, literals, variables, stamps
+ *     state, codes, clauses, literals, variables, stamps, window
  *     compare P Q                 how the intervals of two literals lie, by the stamps as they stand
  *     lend TABLE K                from now on the calls are lent the first K records of a table
  *     set TABLE RECORD FIELD VALUE, set state FIELD VALUE
+ *     set window FIELD VALUE      field 0 is the number of clauses, 1 their literals together
  *     set programme FIELD VALUE   field 0 is the length, 1 to 32 are the codes; 0 to 255
  *
  * Words are separated by single spaces, numbers are decimal without leading zeros. A refused call prints `refused NUMBER PLACE`.
@@ -41,7 +43,14 @@ static int32_t literals[UNHIDE_LITERALS + EXTRA];
 static int32_t variables[2 * (UNHIDE_VARIABLES + EXTRA)];
 static uint32_t times[2 * (UNHIDE_SLOTS + EXTRA)];
 static int32_t links[2 * (UNHIDE_SLOTS + EXTRA)];
+static uint32_t sizes[UNHIDE_LEARNT + EXTRA];
+static int32_t learnt[UNHIDE_LEARNT * UNHIDE_LEARNT_LITERALS + EXTRA];
 static uint64_t answer[4];
+
+/* The number of clauses in the window, and their literals together. */
+enum { COUNT, TOTAL };
+
+static uint32_t window[2];
 
 /* The numbers of the state. Behind the length stand the codes of the programme, which is the constant one before the first load. */
 enum { V, N, PASS, CURSOR, CHANGED, FRESH, MARK, LENGTH, CODES };
@@ -49,7 +58,7 @@ enum { V, N, PASS, CURSOR, CHANGED, FRESH, MARK, LENGTH, CODES };
 static uint32_t state[CODES + UNHIDE_CODES] = {
     [LENGTH] = 4, [CODES] = UNHIDE_CODE_SETTLE, UNHIDE_CODE_STAMP, UNHIDE_CODE_FAILED, UNHIDE_CODE_SWEEP};
 
-enum table_name { CLAUSES, LITERALS, VARIABLES, STAMPS, TABLES };
+enum table_name { CLAUSES, LITERALS, VARIABLES, STAMPS, SIZES, LEARNT, TABLES };
 
 struct table {
     const char *name;
@@ -62,6 +71,8 @@ static struct table tables[TABLES] = {
     {"literals", UNHIDE_LITERALS, UNHIDE_LITERALS},
     {"variables", UNHIDE_VARIABLES, UNHIDE_VARIABLES},
     {"stamps", UNHIDE_SLOTS, UNHIDE_SLOTS},
+    {"sizes", UNHIDE_LEARNT, UNHIDE_LEARNT},
+    {"learnt", UNHIDE_LEARNT * UNHIDE_LEARNT_LITERALS, UNHIDE_LEARNT * UNHIDE_LEARNT_LITERALS},
 };
 
 /* ---- lending */
@@ -151,6 +162,32 @@ static void take_all_back(struct loan loan) {
     take_back(answer, loan.answer, sizeof answer);
 }
 
+/* The window, which a load and `learn` are lent besides. */
+struct window_loan {
+    uint32_t *sizes;
+    int32_t *learnt;
+    uint32_t *window;
+};
+
+static size_t sizes_lent(void) { return tables[SIZES].lent; }
+static size_t learnt_lent(void) { return tables[LEARNT].lent; }
+
+#define WINDOW_LENT(loan) (loan).sizes, sizes_lent(), (loan).learnt, learnt_lent(), (loan).window, sizeof window / sizeof window[0]
+
+static struct window_loan lend_window(void) {
+    struct window_loan loan;
+    loan.sizes = lend(sizes, sizes_lent() * sizeof sizes[0]);
+    loan.learnt = lend(learnt, learnt_lent() * sizeof learnt[0]);
+    loan.window = lend(window, sizeof window);
+    return loan;
+}
+
+static void take_window_back(struct window_loan loan) {
+    take_back(sizes, loan.sizes, sizes_lent() * sizeof sizes[0]);
+    take_back(learnt, loan.learnt, learnt_lent() * sizeof learnt[0]);
+    take_back(window, loan.window, sizeof window);
+}
+
 /* ---- words and numbers */
 
 struct word {
@@ -158,7 +195,7 @@ struct word {
     size_t length;
 };
 
-/* The words of a line. No line that is understood has more than `stamp` and its list. */
+/* The words of a line. No line that is understood has more than `stamp` or `learn` and its list. */
 struct line {
     struct word words[MOST_LISTED + 1];
     size_t count;
@@ -248,9 +285,11 @@ static int take_load(const struct line *line) {
     if (size >= input_length - rest || input[rest + size] != '\n')
         return 0;
     struct loan loan = lend_all();
+    struct window_loan window_loan = lend_window();
     uint8_t *text = lend(input + rest, size);
-    int64_t result = unhide_load(text, size, LENT(loan));
+    int64_t result = unhide_load(text, size, LENT(loan), WINDOW_LENT(window_loan));
     take_back(input + rest, text, size);
+    take_window_back(window_loan);
     take_all_back(loan);
     rest += size + 1;
     if (result != 0)
@@ -282,21 +321,50 @@ static int take_propagate(const struct line *line) { return take_pass(line, prop
 static int take_merge(const struct line *line) { return take_pass(line, merge); }
 static int take_sweep(const struct line *line) { return take_pass(line, sweep); }
 
-static int take_stamp(const struct line *line) {
-    static int32_t listed[MOST_LISTED];
-    size_t count = line->count - 1;
+/* The list of literals behind the first word. */
+static int32_t listed[MOST_LISTED];
+
+static int read_literals(const struct line *line, size_t count) {
     for (size_t i = 0; i < count; i++) {
         int64_t literal;
         if (!read_number(line->words[i + 1], INT32_MIN, INT32_MAX, &literal))
             return 0;
         listed[i] = (int32_t)literal;
     }
+    return 1;
+}
+
+static int take_stamp(const struct line *line) {
+    size_t count = line->count - 1;
+    if (!read_literals(line, count))
+        return 0;
     struct loan loan = lend_all();
     int32_t *order = lend(listed, count * sizeof listed[0]);
     int64_t result = unhide_stamp(LENT(loan), order, count);
     take_back(listed, order, count * sizeof listed[0]);
     take_all_back(loan);
     print_answer(result, "stamped", 0);
+    return 1;
+}
+
+static int take_learn(const struct line *line) {
+    static const char *const verdicts[] = {"kept", "dropped", "shortened"};
+    size_t count = line->count - 1;
+    if (!read_literals(line, count))
+        return 0;
+    struct loan loan = lend_all();
+    struct window_loan window_loan = lend_window();
+    int32_t *newcomer = lend(listed, count * sizeof listed[0]);
+    int64_t result = unhide_learn(LENT(loan), newcomer, count, WINDOW_LENT(window_loan));
+    take_back(listed, newcomer, count * sizeof listed[0]);
+    take_window_back(window_loan);
+    take_all_back(loan);
+    if (result != 0)
+        print_refusal(result);
+    else if (answer[0] == UNHIDE_DROPPED)
+        printf("%s\n", verdicts[answer[0]]);
+    else
+        printf("%s %" PRIu64 "\n", verdicts[answer[0]], answer[1]);
     return 1;
 }
 
@@ -420,6 +488,20 @@ static int take_stamps(const struct line *line) {
     return 1;
 }
 
+/* For each clause of the window its size and its literals, as far as there are records and places. */
+static int take_window(const struct line *line) {
+    (void)line;
+    uint32_t count = printed(window[COUNT], SIZES);
+    printf("window %" PRIu32 " %" PRIu32 "\n", window[COUNT], window[TOTAL]);
+    for (uint32_t k = 0; k < count; k++) {
+        printf("%" PRIu32, sizes[k]);
+        for (uint32_t i = 0; i < sizes[k] && i < UNHIDE_LEARNT_LITERALS; i++)
+            printf(" %" PRId32, learnt[UNHIDE_LEARNT_LITERALS * k + i]);
+        printf("\n");
+    }
+    return 1;
+}
+
 /* No line where one of the two is not a literal of the variables, which have records: that the call refuses. */
 static int take_compare(const struct line *line) {
     static const char *const answers[] = {"same", "holds", "held", "earlier", "later"};
@@ -477,6 +559,12 @@ static int set_state(struct word field_word, struct word value) {
     return read_number(field_word, V, MARK, &field) && set_unsigned(&state[field], value, most[field]);
 }
 
+/* The number of clauses in the window, or their literals together. */
+static int set_window(struct word field_word, struct word value) {
+    int64_t field;
+    return read_number(field_word, COUNT, TOTAL, &field) && set_unsigned(&window[field], value, UINT32_MAX);
+}
+
 /* The length, or a code counted from 1. */
 static int set_programme(struct word field_word, struct word value) {
     int64_t field;
@@ -489,7 +577,7 @@ static int set_stamp(int64_t record, int64_t field, struct word value) {
 }
 
 static int set_record(enum table_name table, struct word record_word, struct word field_word, struct word value) {
-    static const int64_t fields[TABLES] = {3, 1, 2, 4};
+    static const int64_t fields[TABLES] = {3, 1, 2, 4, 1, 1};
     int64_t record, field;
     if (!read_number(record_word, 0, (int64_t)tables[table].stated + EXTRA - 1, &record))
         return 0;
@@ -502,6 +590,10 @@ static int set_record(enum table_name table, struct word record_word, struct wor
         return set_signed(&literals[record], value);
     case VARIABLES:
         return set_signed(&variables[2 * record + field], value);
+    case SIZES:
+        return set_unsigned(&sizes[record], value, UINT32_MAX);
+    case LEARNT:
+        return set_signed(&learnt[record], value);
     default:
         return set_stamp(record, field, value);
     }
@@ -511,6 +603,8 @@ static int take_set(const struct line *line) {
     const struct word *words = line->words;
     if (line->count == 4 && is_word(words[1], "state"))
         return set_state(words[2], words[3]);
+    if (line->count == 4 && is_word(words[1], "window"))
+        return set_window(words[2], words[3]);
     if (line->count == 4 && is_word(words[1], "programme"))
         return set_programme(words[2], words[3]);
     enum table_name table = line->count == 5 ? find_table(words[1]) : TABLES;
@@ -532,6 +626,7 @@ static const struct form forms[] = {
     {"merge", 2, take_merge},
     {"sweep", 2, take_sweep},
     {"stamp", 0, take_stamp},
+    {"learn", 0, take_learn},
     {"failed", 1, take_failed},
     {"run", 2, take_run},
     {"programme", 0, take_programme},
@@ -542,6 +637,7 @@ static const struct form forms[] = {
     {"literals", 1, take_literals},
     {"variables", 1, take_variables},
     {"stamps", 1, take_stamps},
+    {"window", 1, take_window},
     {"compare", 3, take_compare},
     {"lend", 3, take_lend},
     {"set", 0, take_set},

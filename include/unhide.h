@@ -25,8 +25,8 @@ extern "C" {
  *    -3   the formula is larger than the limits above, names a variable that its header does not have,
  *         or has more or fewer clauses than its header says
  *   -10   the output is shorter than the text to write
- * The other refusals of the library, -1, -4 to -9 and -12, are about tables, passes, stamps and programmes that a caller lends; here none
- * of these is lent, and the rounds are those of the constant programme.
+ * The other refusals of the library, -1, -4 to -9, -11 and -12, are about tables, passes, stamps, learnt clauses and programmes that a
+ * caller lends; here none of these is lent, and the rounds are those of the constant programme.
  * The same law says that nothing else is returned.
  *
  * A formula that has an empty clause is written without a round, as `p cnf V 1` and the clause `0`; a formula that turns out
@@ -43,12 +43,15 @@ int64_t unhide_text(const uint8_t *text, size_t text_len, uint16_t rounds, uint8
  * A first load may be given tables and a state that are all zero. The other calls refuse that state, since a programme has at least
  * one code.
  *
- *   unhide_load            reads a DIMACS text into the tables, whatever they hold; closes any pass, puts the constant programme back
+ *   unhide_load            reads a DIMACS text into the tables, whatever they hold; closes any pass, puts the constant programme back,
+ *                          empties the window
  *   unhide_propagate       unit propagation, n clauses in a call; resumes an open Propagate
  *   unhide_merge           equivalent literals become one, n clauses in a call; resumes an open Merge
  *   unhide_stamp           stamps all literals in the order given; the stamps are then fresh
  *   unhide_failed          sets the complements of failed literals, by fresh stamps
  *   unhide_sweep           drops hidden tautologies and removes hidden literals, by fresh stamps, n clauses in a call; resumes an open Sweep
+ *   unhide_learn           judges a learnt clause by Sweep's rules, under fresh stamps, and keeps it in the window, whole or shortened,
+ *                          or drops it; changes neither tables nor state
  *   unhide_run             at most `count` rounds of the state's programme
  *   unhide_set_programme   replaces the state's programme; changes nothing else
  *   unhide_write           writes what stands as DIMACS text; changes neither tables nor state
@@ -56,42 +59,45 @@ int64_t unhide_text(const uint8_t *text, size_t text_len, uint16_t rounds, uint8
  *
  * A call of Propagate, Merge or Sweep opens its pass, or resumes it where it is open, and makes at most n visits to clauses; Propagate goes
  * through the clauses again until one time through changes nothing. Where the answer says open, visits are left, and another call
- * goes on where this one stopped. While a pass is open the other passes and Run are refused; Load, Write and Set programme are not.
+ * goes on where this one stopped. While a pass is open the other passes, Learn and Run are refused; Load, Write and Set programme are not.
  * Opening Propagate or Merge, the end of Sweep, the mark and a load spend the stamps: they are fresh no more.
  *
  * Most callers use unhide_tables_load and so on, further below, with one `struct unhide_tables`. The calls that these make take a pointer
  * and a length, in numbers, for each slice: clauses, literals, variables, times, links, the state and the answer. The stated lengths
- * are 12,288, 16,384, 2,048, 4,096, 4,096, 40 and 4 numbers; what is lent beyond them is neither read nor written.
+ * are 12,288, 16,384, 2,048, 4,096, 4,096, 40 and 4 numbers; what is lent beyond them is neither read nor written. Load and Learn take
+ * the window besides: sizes, learnt and the window's numbers, of 64, 4,096 and 2 numbers.
  *
  * No pointer may be null, not even with a length of 0. Slices that are lent to one call must not overlap.
  *
- * Every call but Compare returns 0 where it was made, else the number of a refusal, negative. A refused call changes no table, no output
- * and not the state.
+ * Every call but Compare returns 0 where it was made, else the number of a refusal, negative. A refused call changes no table, no output,
+ * not the window and not the state.
  *
  * Nothing is kept between calls and nothing is allocated. Calls in several threads on tables of their own do not disturb each other;
  * two threads must not use the same tables at the same time. Run needs the most stack, 839,680 bytes (measured as above); 896 KiB are
  * enough. A thread that makes these calls should have 2 MiB. */
 
 /* The most that a formula may have, and the records of each table. There is a slot for each literal: 2v - 2 for v, 2v - 1 for -v.
- * Last the most codes that a programme may have. */
+ * Then the most codes that a programme may have, the most clauses of the window, and the most literals that one of them may have. */
 enum {
     UNHIDE_CLAUSES = 4096,
     UNHIDE_LITERALS = 16384,
     UNHIDE_VARIABLES = 1024,
     UNHIDE_SLOTS = 2048,
-    UNHIDE_CODES = 32
+    UNHIDE_CODES = 32,
+    UNHIDE_LEARNT = 64,
+    UNHIDE_LEARNT_LITERALS = 64
 };
 
 /* Refusals. Where several apply, the topmost holds; of -2 and -3 the one at the smaller offset. The place is 0 where none is named. */
 enum unhide_refusal {
     /* all calls: a slice is shorter than stated (an answer of fewer than four numbers stays as it is), a number of the state, its programme
      * apart, is none that it can have, or (but for Load) tables and state, its programme included, break the rules that every call keeps:
-     * then nothing was loaded, or the caller has written into them.
+     * then nothing was loaded, or the caller has written into them; Learn: the window breaks its rules (struct unhide_window).
      * Compare looks at no rules: it refuses fewer times than stated and literals that are not of the variables */
     UNHIDE_SHAPE = -1,
-    /* the passes and Run: a pass is open, other than the one that this call resumes */
+    /* the passes, Learn and Run: a pass is open, other than the one that this call resumes */
     UNHIDE_OTHER_PASS = -4,
-    /* the passes and Run: the mark is set, no assignment satisfies the formula */
+    /* the passes, Learn and Run: the mark is set, no assignment satisfies the formula */
     UNHIDE_MARKED = -5,
     /* Stamp: the list is not all 2V literals, each once. Place: the index of the first wrong entry, 0 for a wrong length */
     UNHIDE_ORDER = -8,
@@ -99,7 +105,7 @@ enum unhide_refusal {
     UNHIDE_UNSETTLED = -6,
     /* Stamp: two different literals imply each other */
     UNHIDE_CYCLE = -7,
-    /* Failed, Sweep: the stamps are not fresh */
+    /* Failed, Sweep, Learn: the stamps are not fresh */
     UNHIDE_STALE = -9,
     /* Load: the text breaks the grammar. Place: the offset in the text */
     UNHIDE_GRAMMAR = -2,
@@ -107,6 +113,8 @@ enum unhide_refusal {
     UNHIDE_LIMIT = -3,
     /* Write: the output is too short. Place: the length that is needed, at most 135,184 */
     UNHIDE_OUTPUT = -10,
+    /* Learn: the clause has more than 64 literals, or one that is 0, not of the variables or of a variable already in it */
+    UNHIDE_NEWCOMER = -11,
     /* Set programme: the codes break the rules of a programme. Place: the index of the first wrong code, 0 for a wrong length */
     UNHIDE_PROGRAMME = -12
 };
@@ -181,7 +189,27 @@ struct unhide_state {
     uint32_t programme[UNHIDE_CODES];
 };
 
-/* All that a formula needs. These are 155,808 bytes: too many for a small stack. */
+/* The window: the last 64 learnt clauses that were kept, eldest first. Clause k, counted from 0, has size k and its literals in record k,
+ * from the front on; Learn puts 0 behind them. A window that Learn takes has at most 64 clauses, each of at most 64 literals of the variables,
+ * no variable twice, and the literals that its numbers say. What lies behind a clause's literals and behind the clauses is not looked at.
+ * A window that is all zero is empty, and a load empties any. */
+struct unhide_window {
+    uint32_t sizes[UNHIDE_LEARNT];
+    int32_t learnt[UNHIDE_LEARNT][UNHIDE_LEARNT_LITERALS];
+    /* the clauses in the window, and their literals together */
+    struct unhide_window_numbers {
+        uint32_t clauses, literals;
+    } numbers;
+};
+
+/* What Learn answers first: the clause is kept whole, dropped, or kept with fewer literals. */
+enum unhide_verdict {
+    UNHIDE_KEPT = 0,
+    UNHIDE_DROPPED = 1,
+    UNHIDE_SHORTENED = 2
+};
+
+/* All that a formula needs. These are 172,456 bytes: too many for a small stack. */
 struct unhide_tables {
     struct unhide_clause clauses[UNHIDE_CLAUSES];
     int32_t literals[UNHIDE_LITERALS];
@@ -189,15 +217,24 @@ struct unhide_tables {
     struct unhide_times times[UNHIDE_SLOTS];
     struct unhide_links links[UNHIDE_SLOTS];
     struct unhide_state state;
+    struct unhide_window window;
 };
 
 /* What a call answers where it was made, 0 where it has nothing to say:
- *   `value`   Propagate, Merge, Sweep: visits made; Failed: values set; Run: rounds made; Write: bytes written
- *   the rest  Propagate, Merge, Sweep: standing clauses and literals that are gone by this call, and 1 if the pass is still open
+ *   `value`   Propagate, Merge, Sweep: visits made; Failed: values set; Run: rounds made; Write: bytes written;
+ *             Learn: a number of enum unhide_verdict
+ *   the rest  Propagate, Merge, Sweep: standing clauses and literals that are gone by this call, and 1 if the pass is still open;
+ *             Learn: the literals that are left, in `clauses_gone` (unhide_left reads it)
  * Where it is refused, `value` is the place of the refusal, and the rest stays. */
 struct unhide_answer {
     uint64_t value, clauses_gone, literals_gone, open;
 };
+
+/* The literals left of a clause that Learn was given. */
+static inline uint64_t unhide_left(const struct unhide_answer *answer)
+{
+    return answer->clauses_gone;
+}
 
 /* The calls take the records as numbers one behind the other, so they must have no padding. */
 typedef char unhide_clause_has_no_padding[sizeof(struct unhide_clause) == 3 * sizeof(uint32_t) ? 1 : -1];
@@ -205,6 +242,7 @@ typedef char unhide_variable_has_no_padding[sizeof(struct unhide_variable) == 2 
 typedef char unhide_times_has_no_padding[sizeof(struct unhide_times) == 2 * sizeof(uint32_t) ? 1 : -1];
 typedef char unhide_links_has_no_padding[sizeof(struct unhide_links) == 2 * sizeof(int32_t) ? 1 : -1];
 typedef char unhide_state_has_no_padding[sizeof(struct unhide_state) == 40 * sizeof(uint32_t) ? 1 : -1];
+typedef char unhide_window_has_no_padding[sizeof(struct unhide_window) == (64 + 4096 + 2) * sizeof(uint32_t) ? 1 : -1];
 typedef char unhide_answer_has_no_padding[sizeof(struct unhide_answer) == 4 * sizeof(uint64_t) ? 1 : -1];
 
 /* ---- the calls on slices */
@@ -213,7 +251,8 @@ int64_t unhide_load(const uint8_t *text, size_t text_len,
                     uint32_t *clauses, size_t clauses_len, int32_t *literals, size_t literals_len,
                     int32_t *variables, size_t variables_len,
                     const uint32_t *times, size_t times_len, const int32_t *links, size_t links_len,
-                    uint32_t *state, size_t state_len, uint64_t *answer, size_t answer_len);
+                    uint32_t *state, size_t state_len, uint64_t *answer, size_t answer_len,
+                    uint32_t *sizes, size_t sizes_len, int32_t *learnt, size_t learnt_len, uint32_t *window, size_t window_len);
 
 int64_t unhide_propagate(uint32_t *clauses, size_t clauses_len, int32_t *literals, size_t literals_len,
                          int32_t *variables, size_t variables_len,
@@ -239,6 +278,19 @@ int64_t unhide_sweep(uint32_t *clauses, size_t clauses_len, int32_t *literals, s
                      const int32_t *variables, size_t variables_len,
                      const uint32_t *times, size_t times_len, const int32_t *links, size_t links_len,
                      uint32_t *state, size_t state_len, uint64_t *answer, size_t answer_len, uint16_t n);
+
+/* A learnt clause, `newcomer`, is judged by the rules that Sweep has for a clause, under fresh stamps. Where it is dropped, the window stays.
+ * Else what is left of it goes behind the others; where 64 were there, the eldest leaves first. Refused with UNHIDE_SHAPE, UNHIDE_OTHER_PASS
+ * (whichever pass is open), UNHIDE_MARKED, UNHIDE_STALE, UNHIDE_NEWCOMER, in this order. A clause of 0 or 1 literals is kept whole.
+ *
+ * Under every assignment that satisfies what stands, a clause that was shortened is true exactly where what is left of it is, and a clause
+ * that was dropped is true (proved: law `learnt-right`, crate `newcomers`). */
+int64_t unhide_learn(const uint32_t *clauses, size_t clauses_len, const int32_t *literals, size_t literals_len,
+                     const int32_t *variables, size_t variables_len,
+                     const uint32_t *times, size_t times_len, const int32_t *links, size_t links_len,
+                     const uint32_t *state, size_t state_len, uint64_t *answer, size_t answer_len,
+                     const int32_t *newcomer, size_t newcomer_len,
+                     uint32_t *sizes, size_t sizes_len, int32_t *learnt, size_t learnt_len, uint32_t *window, size_t window_len);
 
 int64_t unhide_run(uint32_t *clauses, size_t clauses_len, int32_t *literals, size_t literals_len,
                    int32_t *variables, size_t variables_len,
@@ -279,7 +331,8 @@ static inline int64_t unhide_tables_load(struct unhide_tables *tables, const uin
                        UNHIDE_LENT(uint32_t, tables->clauses), UNHIDE_LENT(int32_t, tables->literals),
                        UNHIDE_LENT(int32_t, tables->variables), UNHIDE_LENT(const uint32_t, tables->times),
                        UNHIDE_LENT(const int32_t, tables->links), UNHIDE_LENT(uint32_t, tables->state),
-                       UNHIDE_LENT(uint64_t, *answer));
+                       UNHIDE_LENT(uint64_t, *answer), UNHIDE_LENT(uint32_t, tables->window.sizes),
+                       UNHIDE_LENT(int32_t, tables->window.learnt), UNHIDE_LENT(uint32_t, tables->window.numbers));
 }
 
 static inline int64_t unhide_tables_propagate(struct unhide_tables *tables, uint16_t n, struct unhide_answer *answer)
@@ -320,6 +373,16 @@ static inline int64_t unhide_tables_sweep(struct unhide_tables *tables, uint16_t
                         UNHIDE_LENT(const int32_t, tables->variables), UNHIDE_LENT(const uint32_t, tables->times),
                         UNHIDE_LENT(const int32_t, tables->links), UNHIDE_LENT(uint32_t, tables->state),
                         UNHIDE_LENT(uint64_t, *answer), n);
+}
+
+static inline int64_t unhide_tables_learn(struct unhide_tables *tables, const int32_t *newcomer, size_t newcomer_len,
+                                          struct unhide_answer *answer)
+{
+    return unhide_learn(UNHIDE_LENT(const uint32_t, tables->clauses), UNHIDE_LENT(const int32_t, tables->literals),
+                        UNHIDE_LENT(const int32_t, tables->variables), UNHIDE_LENT(const uint32_t, tables->times),
+                        UNHIDE_LENT(const int32_t, tables->links), UNHIDE_LENT(const uint32_t, tables->state),
+                        UNHIDE_LENT(uint64_t, *answer), newcomer, newcomer_len, UNHIDE_LENT(uint32_t, tables->window.sizes),
+                        UNHIDE_LENT(int32_t, tables->window.learnt), UNHIDE_LENT(uint32_t, tables->window.numbers));
 }
 
 static inline int64_t unhide_tables_run(struct unhide_tables *tables, uint16_t count, struct unhide_answer *answer)
@@ -366,6 +429,12 @@ static inline const struct unhide_clause *unhide_clause_at(const struct unhide_t
 static inline const int32_t *unhide_literals_at(const struct unhide_tables *tables, uint32_t i)
 {
     return tables->literals + tables->clauses[i - 1].start;
+}
+
+/* The literals of learnt clause k, from 0, the eldest, to the window's clauses less one; there are as many as its size says. */
+static inline const int32_t *unhide_learnt_at(const struct unhide_tables *tables, uint32_t k)
+{
+    return tables->window.learnt[k];
 }
 
 /* Variable v, from 1 to the state's variables. */

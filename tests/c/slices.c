@@ -1,5 +1,6 @@
 /* What the calls on slices do with a state that is none and with slices of other lengths: refusal 1 with place 0, before anything else is looked at,
  * and no number that they should not touch is touched. Then programmes: those that no call but Load takes, and those that are set or refused.
+ * Last the window: slices of other lengths, with numbers behind them, and windows that Learn refuses and Load does not.
  * What differs is printed, and the exit status is then 1. */
 #include <stdio.h>
 #include <string.h>
@@ -27,20 +28,29 @@ static uint32_t state[LENT];
 static uint64_t answer[6];
 static uint8_t out[64];
 
+/* The window, with two numbers more than stated behind each slice. */
+enum { SIZES = UNHIDE_LEARNT, PLACES = UNHIDE_LEARNT * UNHIDE_LEARNT_LITERALS };
+
+static uint32_t sizes[SIZES + 2];
+static int32_t learnt[PLACES + 2];
+static uint32_t window[4];
+
+#define WINDOW sizes, SIZES, learnt, PLACES, window, 2
+
 static const uint8_t text[] = "p cnf 4 3\n-1 2 0\n-2 3 0\n1 3 4 0\n";
 static const uint32_t constant[] = {UNHIDE_CODE_SETTLE, UNHIDE_CODE_STAMP, UNHIDE_CODE_FAILED, UNHIDE_CODE_SWEEP};
 static const uint32_t other[] = {UNHIDE_CODE_SETTLE, UNHIDE_CODE_STAMP, UNHIDE_CODE_SWEEP};
 
 #define TABLES clauses, 3 * UNHIDE_CLAUSES, literals, UNHIDE_LITERALS, variables, 2 * UNHIDE_VARIABLES, times, 2 * UNHIDE_SLOTS, links, 2 * UNHIDE_SLOTS
 
-enum { LOAD, PROPAGATE, MERGE, STAMP, FAILED, SWEEP, RUN, SET_PROGRAMME, WRITE, CALLS };
+enum { LOAD, PROPAGATE, MERGE, STAMP, FAILED, SWEEP, LEARN, RUN, SET_PROGRAMME, WRITE, CALLS };
 
-static const char *const names[CALLS] = {"load", "propagate", "merge", "stamp", "failed", "sweep", "run", "set programme", "write"};
+static const char *const names[CALLS] = {"load", "propagate", "merge", "stamp", "failed", "sweep", "learn", "run", "set programme", "write"};
 
 static int64_t call(int which, size_t state_len, size_t answer_len) {
     switch (which) {
     case LOAD:
-        return unhide_load(text, sizeof text - 1, TABLES, state, state_len, answer, answer_len);
+        return unhide_load(text, sizeof text - 1, TABLES, state, state_len, answer, answer_len, WINDOW);
     case PROPAGATE:
         return unhide_propagate(TABLES, state, state_len, answer, answer_len, 1);
     case MERGE:
@@ -51,6 +61,8 @@ static int64_t call(int which, size_t state_len, size_t answer_len) {
         return unhide_failed(TABLES, state, state_len, answer, answer_len);
     case SWEEP:
         return unhide_sweep(TABLES, state, state_len, answer, answer_len, 1);
+    case LEARN:
+        return unhide_learn(TABLES, state, state_len, answer, answer_len, literals, 0, WINDOW);
     case RUN:
         return unhide_run(TABLES, state, state_len, answer, answer_len, 1);
     case SET_PROGRAMME:
@@ -123,7 +135,7 @@ static void compare_longer(void) {
         int64_t result = call(which, LENT, 6);
         int kept = state[STATED] == 7 && state[STATED + 1] == 7 && answer[4] == 7 && answer[5] == 7;
         /* the stamps are not fresh */
-        int64_t expected = which == FAILED || which == SWEEP ? UNHIDE_STALE : 0;
+        int64_t expected = which == FAILED || which == SWEEP || which == LEARN ? UNHIDE_STALE : 0;
         sprintf(name, "%s, longer slices", names[which]);
         compare(name, expected, result);
         compare(name, 1, kept);
@@ -255,11 +267,150 @@ static void compare_behind(void) {
         char name[64];
         prepare();
         state[CODES + 4] = 9;
-        int64_t expected = which == FAILED || which == SWEEP ? UNHIDE_STALE : 0;
+        int64_t expected = which == FAILED || which == SWEEP || which == LEARN ? UNHIDE_STALE : 0;
         sprintf(name, "%s, code behind the length", names[which]);
         compare(name, expected, (long)call(which, LENT, 6));
         compare(name, which == LOAD || which == SET_PROGRAMME ? 0 : 9, (long)state[CODES + 4]);
     }
+}
+
+/* ---- the window */
+
+/* A window of one clause, 4 -1, with 9 wherever nothing is judged, behind the stated places too. */
+static void prepare_window(void) {
+    int i;
+    for (i = 0; i < SIZES + 2; i++)
+        sizes[i] = 9;
+    for (i = 0; i < PLACES + 2; i++)
+        learnt[i] = 9;
+    sizes[0] = 2;
+    learnt[0] = 4;
+    learnt[1] = -1;
+    window[0] = 1;
+    window[1] = 2;
+    window[2] = window[3] = 9;
+}
+
+/* The formula stamped, and that window. */
+static void prepare_fresh(void) {
+    static const int32_t order[] = {1, -1, 2, -2, 3, -3, 4, -4};
+    prepare();
+    call(LOAD, LENT, 6);
+    unhide_stamp(TABLES, state, LENT, answer, 6, order, 8);
+    prepare_window();
+    for (int i = 0; i < 6; i++)
+        answer[i] = 7;
+}
+
+static uint32_t sizes_before[SIZES + 2];
+static int32_t learnt_before[PLACES + 2];
+static uint32_t window_before[4];
+static uint32_t state_before[LENT];
+
+static void keep_before(void) {
+    memcpy(sizes_before, sizes, sizeof sizes);
+    memcpy(learnt_before, learnt, sizeof learnt);
+    memcpy(window_before, window, sizeof window);
+    memcpy(state_before, state, sizeof state);
+}
+
+static int window_kept(void) {
+    return memcmp(sizes_before, sizes, sizeof sizes) == 0 && memcmp(learnt_before, learnt, sizeof learnt) == 0 &&
+           memcmp(window_before, window, sizeof window) == 0;
+}
+
+/* Refused with 1, and neither window nor state changes. */
+static void compare_unlearnt(const char *name, size_t sizes_len, size_t learnt_len, size_t window_len) {
+    static const int32_t newcomer[] = {2, 4};
+    keep_before();
+    compare(name, UNHIDE_SHAPE, (long)unhide_learn(TABLES, state, LENT, answer, 6, newcomer, 2, sizes, sizes_len, learnt, learnt_len, window, window_len));
+    compare(name, 0, (long)answer[0]);
+    compare(name, 1, window_kept() && memcmp(state_before, state, sizeof state) == 0);
+}
+
+static void compare_learnt(const char *name, const int32_t *newcomer, size_t count, long result, long verdict, long left) {
+    compare(name, result, (long)unhide_learn(TABLES, state, LENT, answer, 6, newcomer, count, WINDOW));
+    compare(name, verdict, (long)answer[0]);
+    compare(name, left, (long)answer[1]);
+}
+
+static int64_t load_into(size_t sizes_len, size_t window_len) {
+    return unhide_load(text, sizeof text - 1, TABLES, state, LENT, answer, 6, sizes, sizes_len, learnt, PLACES, window, window_len);
+}
+
+static void compare_short_windows(void) {
+    prepare_fresh();
+    compare_unlearnt("learn, one size too few", SIZES - 1, PLACES, 2);
+    compare_unlearnt("learn, one place too few", SIZES, PLACES - 1, 2);
+    compare_unlearnt("learn, one number too few", SIZES, PLACES, 1);
+    keep_before();
+    compare("load, one size too few", UNHIDE_SHAPE, (long)load_into(SIZES - 1, 2));
+    compare("load, one number too few", UNHIDE_SHAPE, (long)load_into(SIZES, 1));
+    compare("load, short windows kept", 1, window_kept() && state[FRESH] == 1);
+}
+
+/* A window that breaks the rule: Learn refuses it, a load empties it. */
+static void compare_damaged_window(const char *name, uint32_t count, uint32_t total, uint32_t size, int32_t literal) {
+    prepare_fresh();
+    window[0] = count;
+    window[1] = total;
+    sizes[0] = size;
+    learnt[1] = literal;
+    compare_unlearnt(name, SIZES, PLACES, 2);
+    compare(name, 0, (long)call(LOAD, LENT, 6));
+    compare(name, 0, (long)(window[0] | window[1] | sizes[0] | sizes[SIZES - 1]));
+    compare(name, 0, (long)(learnt[0] | learnt[1] | learnt[PLACES - 1]));
+    compare(name, 1, sizes[SIZES] == 9 && learnt[PLACES] == 9 && window[2] == 9);
+}
+
+static void compare_damaged_windows(void) {
+    compare_damaged_window("learn, total too large", 1, 3, 2, -1);
+    compare_damaged_window("learn, total too small", 1, 1, 2, -1);
+    compare_damaged_window("learn, 65 clauses", 65, 2, 2, -1);
+    compare_damaged_window("learn, 4294967295 clauses", 4294967295u, 2, 2, -1);
+    compare_damaged_window("learn, a clause of 65", 1, 65, 65, -1);
+    compare_damaged_window("learn, literal 0 in the window", 1, 2, 2, 0);
+    compare_damaged_window("learn, literal 5 in the window", 1, 2, 2, 5);
+    compare_damaged_window("learn, a variable twice in the window", 1, 2, 2, -4);
+    compare_damaged_window("learn, the smallest literal in the window", 1, 2, 2, INT32_MIN);
+}
+
+/* Under the stamps of the sample, 1 -> 2 -> 3 and -3 -> -2 -> -1. */
+static void compare_learns(void) {
+    static const int32_t whole[] = {2, 4}, shorter[] = {1, 4, 3}, implied[] = {-1, 4, 3}, twice[] = {1, -1};
+    prepare_fresh();
+    compare_learnt("learn, kept", whole, 2, 0, UNHIDE_KEPT, 2);
+    compare_learnt("learn, shortened", shorter, 3, 0, UNHIDE_SHORTENED, 2);
+    compare_learnt("learn, dropped", implied, 3, 0, UNHIDE_DROPPED, 0);
+    compare("learn, clauses", 3, (long)window[0]);
+    compare("learn, literals", 6, (long)window[1]);
+    compare("learn, last size", 2, (long)sizes[2]);
+    compare("learn, first literal left", 4, (long)learnt[2 * UNHIDE_LEARNT_LITERALS]);
+    compare("learn, second literal left", 3, (long)learnt[2 * UNHIDE_LEARNT_LITERALS + 1]);
+    compare("learn, 0 behind it", 0, (long)learnt[3 * UNHIDE_LEARNT_LITERALS - 1]);
+    compare("learn, the next record", 9, (long)learnt[3 * UNHIDE_LEARNT_LITERALS]);
+    answer[1] = 7;
+    compare_learnt("learn, a variable twice", twice, 2, UNHIDE_NEWCOMER, 0, 7);
+    compare("learn, numbers behind kept", 1, window[2] == 9 && window[3] == 9 && answer[4] == 7);
+}
+
+/* 64 clauses are in the window: the eldest leaves, and its literals leave the total. */
+static void compare_full_window(void) {
+    static const int32_t newcomer[] = {2, 4};
+    prepare_fresh();
+    for (int i = 1; i < SIZES; i++) {
+        sizes[i] = 1;
+        learnt[UNHIDE_LEARNT_LITERALS * i] = i % 2 == 0 ? 3 : -3;
+    }
+    window[0] = SIZES;
+    window[1] = SIZES + 1;
+    compare_learnt("learn, the 65th", newcomer, 2, 0, UNHIDE_KEPT, 2);
+    compare("learn, 64 clauses", SIZES, (long)window[0]);
+    compare("learn, total", SIZES + 1, (long)window[1]);
+    compare("learn, the eldest left", 1, sizes[0] == 1 && learnt[0] == -3);
+    compare("learn, the one before the last", 1, sizes[SIZES - 2] == 1 && learnt[PLACES - 2 * UNHIDE_LEARNT_LITERALS] == -3);
+    compare("learn, the last", 1, sizes[SIZES - 1] == 2 && learnt[PLACES - UNHIDE_LEARNT_LITERALS] == 2 && learnt[PLACES - 1] == 0);
+    compare("learn, places behind", 1, sizes[SIZES] == 9 && learnt[PLACES] == 9);
 }
 
 int main(void) {
@@ -271,6 +422,10 @@ int main(void) {
     compare_lengths();
     compare_codes();
     compare_behind();
+    compare_short_windows();
+    compare_damaged_windows();
+    compare_learns();
+    compare_full_window();
     if (!differs)
         printf("ok slices\n");
     return differs;

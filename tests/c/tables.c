@@ -53,12 +53,13 @@ static int64_t write_out(uint8_t *out, size_t length) {
 /* Tables and a state of zeros, before the first load: every call but that is refused. */
 static void compare_zeros(void) {
     uint8_t out[64];
-    compare("bytes", 155808, (long)sizeof tables);
+    compare("bytes", 172456, (long)sizeof tables);
     compare_call("propagate on zeros", UNHIDE_SHAPE, 0, unhide_tables_propagate(&tables, 1, &answer));
     compare_call("merge on zeros", UNHIDE_SHAPE, 0, unhide_tables_merge(&tables, 1, &answer));
     compare_call("stamp on zeros", UNHIDE_SHAPE, 0, unhide_tables_stamp(&tables, order, 0, &answer));
     compare_call("failed on zeros", UNHIDE_SHAPE, 0, unhide_tables_failed(&tables, &answer));
     compare_call("sweep on zeros", UNHIDE_SHAPE, 0, unhide_tables_sweep(&tables, 1, &answer));
+    compare_call("learn on zeros", UNHIDE_SHAPE, 0, unhide_tables_learn(&tables, order, 0, &answer));
     compare_call("run on zeros", UNHIDE_SHAPE, 0, unhide_tables_run(&tables, 1, &answer));
     compare_call("set programme on zeros", UNHIDE_SHAPE, 0, unhide_tables_set_programme(&tables, settle, 1, &answer));
     compare_call("write on zeros", UNHIDE_SHAPE, 0, write_out(out, 64));
@@ -104,6 +105,24 @@ static void compare_records(void) {
     compare("parent of 3", 2, (long)unhide_links_at(&tables, 3)->parent);
     compare("start of 3", 1, (long)unhide_links_at(&tables, 3)->start);
     compare("parent of -3", -3, (long)unhide_links_at(&tables, -3)->parent);
+}
+
+/* Learnt clauses under the stamps of the sample: kept whole, shortened, dropped and refused. */
+static void compare_learns(void) {
+    static const int32_t hidden[] = {4, 1, 3}, implied[] = {-1, 3, 4}, pair[] = {2, 4};
+    compare("window empty", 0, (long)tables.window.numbers.clauses);
+    compare_call("learn, kept", 0, UNHIDE_KEPT, unhide_tables_learn(&tables, pair, 2, &answer));
+    compare("literals left of 2", 2, (long)unhide_left(&answer));
+    compare_call("learn, shortened", 0, UNHIDE_SHORTENED, unhide_tables_learn(&tables, hidden, 3, &answer));
+    compare("literals left of 3", 2, (long)unhide_left(&answer));
+    compare_call("learn, dropped", 0, UNHIDE_DROPPED, unhide_tables_learn(&tables, implied, 3, &answer));
+    compare_call("learn, the empty clause", 0, UNHIDE_KEPT, unhide_tables_learn(&tables, implied, 0, &answer));
+    compare_call("learn, a list of 8", UNHIDE_NEWCOMER, 0, unhide_tables_learn(&tables, order, 8, &answer));
+    compare("clauses in the window", 3, (long)tables.window.numbers.clauses);
+    compare("literals in the window", 4, (long)tables.window.numbers.literals);
+    compare("size of learnt clause 1", 2, (long)tables.window.sizes[1]);
+    compare("last literal of learnt clause 1", 3, (long)unhide_learnt_at(&tables, 1)[1]);
+    compare("stamps stay fresh", 1, (long)tables.state.fresh);
 }
 
 /* How the intervals of the sample lie: 1 is [1,6], 2 [2,5], 3 [3,4], -3 [7,12], -2 [8,11], -1 [9,10]. */
@@ -248,6 +267,7 @@ int main(void) {
     compare_passes();
     compare_values();
     compare_records();
+    compare_learns();
     compare_intervals();
     compare_refusals();
     compare_set();

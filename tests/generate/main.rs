@@ -10,9 +10,11 @@ mod far;
 mod forest;
 mod formulas;
 mod implied;
+mod learn_lines;
 mod limits;
 mod lists;
 mod near;
+mod newcomers;
 mod programme_damage;
 mod programme_lines;
 mod programmes;
@@ -21,6 +23,7 @@ mod repeats;
 mod script;
 mod texts;
 mod valued;
+mod window_damage;
 
 #[path = "../second/comparison.rs"]
 mod comparison;
@@ -28,6 +31,8 @@ mod comparison;
 mod failed;
 #[path = "../second/graph.rs"]
 mod graph;
+#[path = "../second/learn.rs"]
+mod learn;
 #[path = "../second/load.rs"]
 mod load;
 #[path = "../second/merge.rs"]
@@ -54,6 +59,8 @@ mod tables;
 mod text;
 #[path = "../second/visits.rs"]
 mod visits;
+#[path = "../second/window.rs"]
+mod window;
 #[path = "../second/write.rs"]
 mod write;
 

@@ -6,25 +6,31 @@ use crate::damage;
 use crate::far;
 use crate::formulas::{draft, odd_text, plain_text, Draft};
 use crate::implied;
+use crate::learn_lines;
 use crate::limits;
 use crate::lists;
+use crate::newcomers;
 use crate::programme_lines;
 use crate::programmes;
 use crate::random::Random;
 use crate::refusal::tables_are_lent;
 use crate::replay::Replay;
 use crate::shape;
+use crate::tables::Pass;
 use crate::texts;
 use crate::valued;
+use crate::window_damage;
 
 /// No new line is begun past this length.
 const LONG_ENOUGH: usize = 850_000;
 
-const TABLES: [(&str, usize); 4] = [
+const TABLES: [(&str, usize); 6] = [
     ("clauses", 4_096),
     ("literals", 16_384),
     ("variables", 1_024),
     ("stamps", 2_048),
+    ("sizes", 64),
+    ("learnt", 4_096),
 ];
 
 const WRONG_LINES: [&str; 34] = [
@@ -121,8 +127,13 @@ impl Script {
             self.say(line);
             return;
         }
-        if self.random.once_in(2) {
+        if self.random.once_in(3) {
             let line = programme_lines::wrong(&mut self.random);
+            self.say(&line);
+            return;
+        }
+        if self.random.once_in(2) {
+            let line = learn_lines::wrong(&mut self.random, &self.replay.formula);
             self.say(&line);
             return;
         }
@@ -144,8 +155,9 @@ impl Script {
             let codes = programmes::any(&mut self.random);
             self.programme(codes);
         }
+        self.learn_sometimes();
         let formula = &self.replay.formula;
-        if tables_are_lent(formula).is_err() {
+        if tables_are_lent(formula).is_err() || self.replay.window.is_lent().is_err() {
             self.while_lent_short();
         } else if !shape::holds(formula) {
             self.while_damaged();
@@ -193,6 +205,119 @@ impl Script {
         self.say(&format!("lend {table} {count}"));
         if self.random.once_in(2) {
             self.compare();
+        }
+    }
+
+    /// Often where learn is accepted, seldom where it is refused: while a pass is
+    /// open, under the mark, with spent stamps or in damaged tables.
+    fn learn_sometimes(&mut self) {
+        let is_ready = self.may_learn();
+        let formula = &self.replay.formula;
+        let seldom = match formula.state.pass {
+            Pass::None if is_ready && newcomers::have_relatives(formula) => 3,
+            Pass::None if is_ready => 12,
+            Pass::None if formula.state.mark => 12,
+            Pass::Sweep => 15,
+            _ => 60,
+        };
+        if !self.random.once_in(seldom) {
+            return;
+        }
+        if is_ready && self.random.once_in(15) {
+            self.fill_window();
+        } else if is_ready && self.random.once_in(8) {
+            self.damage_window();
+        }
+        let sets_unused = self.random.once_in(20);
+        if sets_unused {
+            self.set_unused();
+        }
+        let more = self.random.pick(&[1, 1, 2, 2, 3]);
+        self.learn(more);
+        if sets_unused {
+            self.say("state");
+        }
+    }
+
+    /// Without an open pass the state has no cursor and no change flag, in Sweep no
+    /// flag: a call takes these numbers away.
+    fn set_unused(&mut self) {
+        let pass = self.replay.formula.state.pass;
+        if pass == Pass::None {
+            let cursor = self.random.below(5);
+            self.say(&format!("set state 3 {cursor}"));
+        }
+        if pass == Pass::None || pass == Pass::Sweep {
+            self.say("set state 4 1");
+        }
+    }
+
+    /// Nothing but the newcomer itself can be refused.
+    fn may_learn(&self) -> bool {
+        let formula = &self.replay.formula;
+        let state = formula.state;
+        state.fresh
+            && state.pass == Pass::None
+            && !state.mark
+            && tables_are_lent(formula).is_ok()
+            && shape::holds(formula)
+            && self.replay.window.has_shape(formula.v()).is_ok()
+    }
+
+    /// So many newcomers. They take none of the formula's calls.
+    fn learn(&mut self, count: usize) {
+        for _ in 0..count {
+            let newcomer = newcomers::any(&mut self.random, &self.replay.formula);
+            let words: Vec<String> = newcomer.iter().map(|l| format!(" {l}")).collect();
+            self.calls += 1;
+            self.say(&format!("learn{}", words.concat()));
+        }
+        if self.random.once_in(3) {
+            self.say("window");
+        }
+        if self.random.once_in(10) {
+            self.look_behind();
+        }
+    }
+
+    /// Prints what stands behind the literals of a clause in the window.
+    fn look_behind(&mut self) {
+        for line in window_damage::look_behind(&mut self.random, &self.replay.window) {
+            self.say(&line);
+        }
+    }
+
+    /// Makes the window full or nearly so, now and then by learning so many, and
+    /// learns some more, so that the eldest leave.
+    fn fill_window(&mut self) {
+        if self.random.once_in(5) {
+            let many = self.random.between(60, 70);
+            self.learn(many);
+        } else {
+            let lines = window_damage::full(&mut self.random, &self.replay.formula);
+            for line in &lines {
+                self.say(line);
+            }
+            let more = self.random.between(2, 6);
+            self.learn(more);
+        }
+    }
+
+    /// Damages the window, learns, and mostly brings back what was there if nothing
+    /// came into it. Else it may stay damaged until a load.
+    fn damage_window(&mut self) {
+        let window = self.replay.window.clone();
+        let lines = window_damage::lines(&mut self.random, &self.replay.formula, &window);
+        for line in &lines {
+            self.say(line);
+        }
+        let damaged = self.replay.window.clone();
+        let more = self.random.between(1, 2);
+        self.learn(more);
+        if self.replay.window == damaged && self.random.below(6) > 0 {
+            for line in window_damage::undo(&window, &lines) {
+                self.say(&line);
+            }
         }
     }
 
@@ -275,9 +400,10 @@ impl Script {
     }
 
     fn any_call(&mut self) {
-        match self.random.below(8) {
+        match self.random.below(9) {
             0 => self.write(),
             1 => self.load(),
+            2 => self.learn(1),
             _ => {
                 let call = any(&mut self.random, &self.replay.formula);
                 self.call(&line(&call));
@@ -319,8 +445,8 @@ impl Script {
         }
     }
 
-    /// A load puts the constant programme back or, refused, leaves the one that
-    /// is there, so the codes are often looked at behind it.
+    /// A load puts the constant programme back and empties the window or, refused,
+    /// leaves what is there, so both are often looked at behind it.
     fn load_text(&mut self, text: &[u8]) {
         self.calls += 1;
         let mut bytes = format!("load {}\n", text.len()).into_bytes();
@@ -329,6 +455,12 @@ impl Script {
         self.say_bytes(&bytes);
         if self.random.once_in(4) {
             self.say("codes");
+        }
+        if self.random.once_in(6) {
+            self.say("window");
+        }
+        if self.random.once_in(30) {
+            self.look_behind();
         }
     }
 
@@ -353,6 +485,8 @@ impl Script {
         if random.once_in(4) {
             let variables = match random.below(40) {
                 0 => random.between(13, 60),
+                // Enough for newcomers of 64 literals.
+                1..=3 => random.between(64, 130),
                 _ => random.between(3, 12),
             };
             return implied::draft(random, variables);
@@ -385,6 +519,9 @@ impl Script {
         }
         if self.random.once_in(8) {
             self.say("codes");
+        }
+        if self.random.once_in(12) {
+            self.say("window");
         }
         if self.random.once_in(2 * seldom) {
             self.say("clauses");

@@ -6,6 +6,7 @@ use crate::calls::{any, fitting, line, Call};
 use crate::compare_calls::{in_two_calls, run_by_passes};
 use crate::compare_figures::figures_agree;
 use crate::compare_intervals::{comparisons_agree, numbers_agree};
+use crate::compare_learn::{self, forest_agrees, Learning};
 use crate::compare_programmes::{refusal_agrees, rules_agree, setting_agrees};
 use crate::compare_reach::{Counts, Stamped};
 use crate::compare_repeats::{loaded_agrees, merged_agrees};
@@ -17,6 +18,7 @@ use crate::formulas::{draft, odd_text, plain_text, Draft};
 use crate::implied;
 use crate::load::{load, without_repeats};
 use crate::merge::merge;
+use crate::newcomers;
 use crate::programme::{set_programme, Programme, MOST_CODES};
 use crate::propagate::propagate;
 use crate::random::Random;
@@ -33,6 +35,7 @@ use crate::transitive;
 use crate::truth::{Assignments, Truth, MOST_TRIED};
 use crate::valued;
 use crate::visits::Answer;
+use crate::window::Window;
 use crate::write::write;
 
 /// Prints what differs, with the calls that show it; the result is the exit
@@ -49,6 +52,7 @@ pub fn check(seed: u64, count: usize) -> i32 {
     let mut accepted = 0;
     let mut other_runs = 0;
     let mut reach = Counts::default();
+    let mut learnt = compare_learn::Counts::default();
     while calls < count {
         let mut one = Check::start(&mut random, &truth);
         let outcome = one.calls(&mut random);
@@ -56,6 +60,7 @@ pub fn check(seed: u64, count: usize) -> i32 {
         accepted += one.accepted;
         other_runs += one.other_runs;
         reach.add(&one.reach);
+        learnt.add(&one.learning.counts);
         if let Err(difference) = outcome {
             println!("differs: {difference}");
             print!("{}", String::from_utf8_lossy(&one.script));
@@ -67,6 +72,7 @@ pub fn check(seed: u64, count: usize) -> i32 {
          {other_runs} runs under other programmes than the constant one"
     );
     println!("{}", reach.told());
+    println!("{}", learnt.told());
     0
 }
 
@@ -95,6 +101,7 @@ struct Check<'a> {
     /// set a programme have been accepted since.
     stamped: Option<Stamped>,
     reach: Counts,
+    learning: Learning,
 }
 
 /// What the tables and the programme hold before the load.
@@ -135,7 +142,8 @@ impl<'a> Check<'a> {
         formula.variables.fill(OLD_VARIABLE);
         formula.stamps.fill(OLD_STAMP);
         formula.state.programme = OLD_PROGRAMME;
-        let accepted = load(&mut formula, &text).is_ok();
+        let mut learning = Learning::before_load();
+        let accepted = load(&mut formula, &mut learning.window, &text).is_ok();
         Check {
             truth,
             formula,
@@ -147,6 +155,7 @@ impl<'a> Check<'a> {
             other_runs: 0,
             stamped: None,
             reach: Counts::default(),
+            learning,
         }
     }
 
@@ -158,7 +167,9 @@ impl<'a> Check<'a> {
         if self.formula.state.programme != Programme::constant() {
             return Err("a load leaves another programme than the constant one".to_string());
         }
+        self.learning.window_agrees(self.formula.v())?;
         loaded_agrees(&self.formula, &self.loaded)?;
+        self.learn_sometimes(random)?;
         for _ in 0..random.between(1, 24) {
             let call = if random.once_in(12) {
                 any(random, &self.formula)
@@ -170,9 +181,59 @@ impl<'a> Check<'a> {
             self.calls += 1;
             self.call(random, &call)?;
             self.reach_agrees(&call)?;
+            self.learn_sometimes(random)?;
             if self.formula.state.mark && random.once_in(2) {
                 break;
             }
+        }
+        Ok(())
+    }
+
+    /// Newcomers, often where none but the newcomer itself can be refused. Now and
+    /// then there are so many that the eldest leave.
+    fn learn_sometimes(&mut self, random: &mut Random) -> Result<(), String> {
+        let state = self.formula.state;
+        let is_ready = state.fresh && state.pass == Pass::None && !state.mark;
+        let seldom = if !is_ready {
+            20
+        } else if newcomers::have_relatives(&self.formula) {
+            2
+        } else {
+            8
+        };
+        if !random.once_in(seldom) {
+            return Ok(());
+        }
+        let count = if is_ready && random.once_in(20) {
+            random.between(60, 90)
+        } else {
+            random.between(1, 4)
+        };
+        let standing = self.truth.standing(&self.formula);
+        for _ in 0..count {
+            let newcomer = newcomers::any(random, &self.formula);
+            let words: Vec<String> = newcomer.iter().map(|l| format!(" {l}")).collect();
+            let line = format!("learn{}\n", words.concat());
+            self.script.extend_from_slice(line.as_bytes());
+            self.learning
+                .newcomer_agrees(&self.formula, self.truth, standing, &newcomer)?;
+        }
+        let newcomer = newcomers::any(random, &self.formula);
+        self.learning
+            .damage_agrees(random, &self.formula, &newcomer)?;
+        if is_ready {
+            self.learn_in_a_forest(random)?;
+        }
+        Ok(())
+    }
+
+    /// Newcomers under the stamps of a random forest.
+    fn learn_in_a_forest(&self, random: &mut Random) -> Result<(), String> {
+        let mut other = self.formula.clone();
+        let records = forest(random, other.v());
+        other.stamps[..records.len()].copy_from_slice(&records);
+        for _ in 0..4 {
+            forest_agrees(&other, &newcomers::valid(random, &other))?;
         }
         Ok(())
     }
@@ -308,7 +369,8 @@ impl<'a> Check<'a> {
             return Err("Write judges the length of the output wrongly".to_string());
         }
         let mut again = Formula::empty();
-        load(&mut again, &text).map_err(|r| format!("load of what Write gave: {r:?}"))?;
+        load(&mut again, &mut Window::empty(), &text)
+            .map_err(|r| format!("load of what Write gave: {r:?}"))?;
         if self.truth.standing(&again) != self.wanted {
             return Err("what Write gave has other satisfying assignments".to_string());
         }

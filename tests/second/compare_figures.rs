@@ -12,19 +12,33 @@ pub fn figures_agree(formula: &Formula) -> Result<(), String> {
         if clause.len() < 2 {
             continue;
         }
-        let is_dropped = is_hidden_tautology(formula, clause);
-        if let [a, b] = *clause {
-            if is_dropped != (is_far_above(formula, -a, b) || is_far_above(formula, -b, a)) {
-                return Err(format!("the parents differ on clause {}", record + 1));
-            }
-        } else if is_dropped != figure_6(formula, clause) {
-            return Err(format!("figure 6 differs on clause {}", record + 1));
+        if is_hidden_tautology(formula, clause) != is_dropped(formula, clause) {
+            return Err(format!(
+                "the figures or parents differ on clause {}",
+                record + 1
+            ));
         }
         if figure_5(formula, clause) != without_hidden_literals(formula, clause) {
             return Err(format!("figure 5 differs on clause {}", record + 1));
         }
     }
     Ok(())
+}
+
+/// What is left of a clause, nothing if it is dropped: the parents for a pair,
+/// figure 6 for more literals, then figure 5.
+pub fn left_by_figures(formula: &Formula, clause: &[i32]) -> Option<Vec<i32>> {
+    if clause.len() < 2 {
+        return Some(clause.to_vec());
+    }
+    (!is_dropped(formula, clause)).then(|| figure_5(formula, clause))
+}
+
+fn is_dropped(formula: &Formula, clause: &[i32]) -> bool {
+    if let [a, b] = *clause {
+        return is_far_above(formula, -a, b) || is_far_above(formula, -b, a);
+    }
+    figure_6(formula, clause)
 }
 
 /// The climb from q over the parents comes to p, in two steps or more.

@@ -1,4 +1,4 @@
-//! Load: a text becomes the contents of the tables.
+//! Load: a text becomes the contents of the tables, and the window is emptied.
 
 use crate::programme::Programme;
 use crate::refusal::{tables_are_lent, Refusal};
@@ -6,11 +6,14 @@ use crate::tables::{
     ClauseRecord, Formula, Pass, State, VariableRecord, MOST_CLAUSES, MOST_LITERALS, MOST_VARIABLES,
 };
 use crate::text;
+use crate::window::Window;
 
-pub fn load(formula: &mut Formula, text: &[u8]) -> Result<(), Refusal> {
+pub fn load(formula: &mut Formula, window: &mut Window, text: &[u8]) -> Result<(), Refusal> {
     tables_are_lent(formula)?;
+    window.is_lent()?;
     let written = text::read(text)?;
 
+    window.clear();
     formula.clauses[..MOST_CLAUSES].fill(ClauseRecord::default());
     formula.literals[..MOST_LITERALS].fill(0);
     formula.variables[..MOST_VARIABLES].fill(VariableRecord::default());

@@ -10,6 +10,7 @@ mod tables;
 
 mod refusal;
 mod shape;
+mod window;
 
 mod load;
 mod text;
@@ -18,6 +19,7 @@ mod write;
 mod comparison;
 mod failed;
 mod graph;
+mod learn;
 mod merge;
 mod programme;
 mod propagate;
@@ -34,14 +36,17 @@ mod check;
 mod compare_calls;
 mod compare_figures;
 mod compare_intervals;
+mod compare_learn;
 mod compare_programmes;
 mod compare_reach;
 mod compare_repeats;
 mod compare_values;
 mod compare_walks;
 mod named;
+mod named_learn;
 mod named_programmes;
 mod named_reach;
+mod named_window;
 mod transitive;
 mod truth;
 
@@ -55,6 +60,8 @@ mod formulas;
 mod implied;
 #[path = "../generate/lists.rs"]
 mod lists;
+#[path = "../generate/newcomers.rs"]
+mod newcomers;
 #[path = "../generate/programmes.rs"]
 mod programmes;
 #[path = "../generate/random.rs"]

@@ -3,16 +3,16 @@
 //! values of classes that have several variables, how two intervals lie, and
 //! formulas at the limits; each with what a replay of it prints. Those of the
 //! programme stand in `named_programmes.rs`, those of the reach in
-//! `named_reach.rs`.
+//! `named_reach.rs`, those of learn in `named_learn.rs` and `named_window.rs`.
 
-use crate::{named_programmes, named_reach};
+use crate::{named_learn, named_programmes, named_reach, named_window};
 
 /// The bytes of a load, the calls behind it, a line each, and what a replay of
 /// both prints.
 pub struct Case {
     pub name: &'static str,
     pub text: Vec<u8>,
-    pub calls: &'static str,
+    pub calls: String,
     pub prints: String,
 }
 
@@ -31,6 +31,7 @@ impl Case {
 pub fn cases() -> Vec<Case> {
     let mut cases = short();
     cases.extend(large());
+    cases.extend(named_window::large());
     cases.extend(wrong_lines());
     cases
 }
@@ -42,9 +43,9 @@ pub fn script() -> Vec<u8> {
     let mut script = Vec::new();
     for case in short() {
         script.extend(case.script());
-        script.extend(b"state\ncodes\nclauses\nliterals\nvariables\n");
+        script.extend(b"state\ncodes\nclauses\nliterals\nvariables\nwindow\n");
     }
-    for case in large() {
+    for case in large().into_iter().chain(named_window::large()) {
         script.extend(case.script());
     }
     script
@@ -56,9 +57,9 @@ fn short() -> Vec<Case> {
         name,
         text: text.to_vec(),
         calls: if prints.starts_with("loaded") {
-            "write 256\n"
+            "write 256\n".to_string()
         } else {
-            ""
+            String::new()
         },
         prints: prints.to_string(),
     });
@@ -68,20 +69,32 @@ fn short() -> Vec<Case> {
     let reach = named_reach::REACH
         .iter()
         .map(|case| with_calls(&case.lines));
-    texts.chain(passes).chain(programmes).chain(reach).collect()
+    let learns = named_learn::cases()
+        .into_iter()
+        .chain(named_window::cases());
+    let others = passes.chain(programmes).chain(reach);
+    texts.chain(others).chain(learns).collect()
 }
 
 /// Cases that end with a wrong line.
 fn wrong_lines() -> Vec<Case> {
     let lines = WRONG_LINES.iter().chain(named_programmes::WRONG_LINES);
-    lines.map(with_calls).collect()
+    let learns = named_learn::WRONG_LINES
+        .iter()
+        .chain(named_window::WRONG_LINES);
+    let too_long = std::iter::once(named_window::too_long());
+    lines
+        .chain(learns)
+        .map(with_calls)
+        .chain(too_long)
+        .collect()
 }
 
-pub fn with_calls(&(name, text, calls, prints): &(&'static str, &str, &'static str, &str)) -> Case {
+pub fn with_calls(&(name, text, calls, prints): &(&'static str, &str, &str, &str)) -> Case {
     Case {
         name,
         text: text.as_bytes().to_vec(),
-        calls,
+        calls: calls.to_string(),
         prints: prints.to_string(),
     }
 }
@@ -1410,10 +1423,10 @@ const WRONG_LINES: &[(&str, &str, &str, &str)] = &[
 /// looked at by its length alone, which the refusal of an output of 0 bytes tells.
 fn large() -> Vec<Case> {
     let passes = "merge 65535\npropagate 65535\nwrite 0\n";
-    let case = |name, text, calls, prints: &str| Case {
+    let case = |name, text, calls: &str, prints: &str| Case {
         name,
         text,
-        calls,
+        calls: calls.to_string(),
         prints: prints.to_string(),
     };
     vec![

@@ -2,6 +2,7 @@
 
 use crate::comparison::compare;
 use crate::failed::failed;
+use crate::learn::{learn, Learnt};
 use crate::load::load;
 use crate::merge::merge;
 use crate::programme::{set_programme, MOST_CODES};
@@ -14,6 +15,7 @@ use crate::tables::{
     Formula, Pass, EXTRA, MOST_CLAUSES, MOST_LITERALS, MOST_STAMPS, MOST_VARIABLES,
 };
 use crate::visits::Answer;
+use crate::window::{Window, MOST_LEARNT, MOST_PLACES};
 use crate::write::write;
 
 pub const MOST_INPUT: usize = 1_048_576;
@@ -24,6 +26,7 @@ const MOST_ROOM: i64 = 131_072;
 
 pub struct Replay {
     pub formula: Formula,
+    pub window: Window,
     pub output: Vec<u8>,
     /// How many lines have been read.
     line: usize,
@@ -38,6 +41,7 @@ impl Replay {
     pub fn new() -> Replay {
         Replay {
             formula: Formula::empty(),
+            window: Window::empty(),
             output: Vec::new(),
             line: 0,
             has_ended: false,
@@ -102,6 +106,7 @@ impl Replay {
                 self.print_answer(answer);
             }
             ["stamp", list @ ..] => self.stamp(list)?,
+            ["learn", newcomer @ ..] => self.learn(newcomer)?,
             ["failed"] => {
                 self.clear_unused();
                 match failed(&mut self.formula) {
@@ -136,9 +141,11 @@ impl Replay {
             ["variables"] => self.print_variables(),
             ["stamps"] => self.print_stamps(),
             ["codes"] => self.print_codes(),
+            ["window"] => self.print_window(),
             ["lend", table, count] => self.lend(table, count)?,
             ["set", "state", field, value] => self.set_state(field, value)?,
             ["set", "programme", field, value] => self.set_code(field, value)?,
+            ["set", "window", field, value] => self.set_window(field, value)?,
             ["set", table, record, field, value] => self.set(table, record, field, value)?,
             _ => return Err(WrongLine),
         }
@@ -159,7 +166,7 @@ impl Replay {
 
     fn load(&mut self, text: &[u8]) {
         self.clear_unused();
-        match load(&mut self.formula, text) {
+        match load(&mut self.formula, &mut self.window, text) {
             Ok(()) => {
                 let state = self.formula.state;
                 self.print(format!(
@@ -172,16 +179,22 @@ impl Replay {
     }
 
     fn stamp(&mut self, words: &[&str]) -> Result<(), WrongLine> {
-        if words.len() > MOST_LIST {
-            return Err(WrongLine);
-        }
-        let mut list = Vec::new();
-        for word in words {
-            list.push(number(word, i32::MIN as i64, i32::MAX as i64)? as i32);
-        }
+        let list = list_of(words)?;
         self.clear_unused();
         match stamp(&mut self.formula, &list) {
             Ok(()) => self.print("stamped".to_string()),
+            Err(refusal) => self.print_refusal(refusal),
+        }
+        Ok(())
+    }
+
+    fn learn(&mut self, words: &[&str]) -> Result<(), WrongLine> {
+        let newcomer = list_of(words)?;
+        self.clear_unused();
+        match learn(&self.formula, &mut self.window, &newcomer) {
+            Ok(Learnt::Dropped) => self.print("dropped".to_string()),
+            Ok(Learnt::Kept(left)) => self.print(format!("kept {left}")),
+            Ok(Learnt::Shortened(left)) => self.print(format!("shortened {left}")),
             Err(refusal) => self.print_refusal(refusal),
         }
         Ok(())
@@ -230,6 +243,8 @@ impl Replay {
             "literals" => (MOST_LITERALS, &mut lent.literals),
             "variables" => (MOST_VARIABLES, &mut lent.variables),
             "stamps" => (MOST_STAMPS, &mut lent.stamps),
+            "sizes" => (MOST_LEARNT, &mut self.window.lent_sizes),
+            "learnt" => (MOST_PLACES, &mut self.window.lent_learnt),
             _ => return Err(WrongLine),
         };
         *place = number(count, 0, (stated + EXTRA) as i64)? as usize;
@@ -269,6 +284,15 @@ impl Replay {
         Ok(())
     }
 
+    fn set_window(&mut self, field: &str, value: &str) -> Result<(), WrongLine> {
+        match field {
+            "0" => self.window.count = any_u32(value)?,
+            "1" => self.window.total = any_u32(value)?,
+            _ => return Err(WrongLine),
+        }
+        Ok(())
+    }
+
     fn set(
         &mut self,
         table: &str,
@@ -277,6 +301,7 @@ impl Replay {
         value: &str,
     ) -> Result<(), WrongLine> {
         let formula = &mut self.formula;
+        let window = &mut self.window;
         let within = |length: usize| number(record, 0, length as i64 - 1).map(|r| r as usize);
         match (table, field) {
             ("clauses", "0") => {
@@ -305,6 +330,8 @@ impl Replay {
                 formula.stamps[within(MOST_STAMPS + EXTRA)?].parent = any_i32(value)?
             }
             ("stamps", "3") => formula.stamps[within(MOST_STAMPS + EXTRA)?].start = any_i32(value)?,
+            ("sizes", "0") => window.sizes[within(MOST_LEARNT + EXTRA)?] = any_u32(value)?,
+            ("learnt", "0") => window.learnt[within(MOST_PLACES + EXTRA)?] = any_i32(value)?,
             _ => return Err(WrongLine),
         }
         Ok(())
@@ -399,6 +426,30 @@ impl Replay {
         }
         self.print(line);
     }
+
+    /// The records as far as the count goes, 64 at most, each with its literals
+    /// as far as its size goes, 64 at most.
+    fn print_window(&mut self) {
+        self.print(format!(
+            "window {} {}",
+            self.window.count, self.window.total
+        ));
+        for record in 0..(self.window.count as usize).min(MOST_LEARNT) {
+            let mut line = self.window.sizes[record].to_string();
+            for literal in self.window.part(record) {
+                line.push_str(&format!(" {literal}"));
+            }
+            self.print(line);
+        }
+    }
+}
+
+/// The literals of a line, any i32, if there are not too many.
+fn list_of(words: &[&str]) -> Result<Vec<i32>, WrongLine> {
+    if words.len() > MOST_LIST {
+        return Err(WrongLine);
+    }
+    words.iter().map(|word| any_i32(word)).collect()
 }
 
 /// A decimal number without leading zeros, `-` before a negative one.

@@ -30,15 +30,21 @@ fn work(formula: &mut Formula, steps: u32) -> Answer {
 }
 
 fn visit(formula: &mut Formula, record: usize) {
-    let clause = formula.part(record).to_vec();
-    if clause.len() < 2 {
-        return;
+    match left_of(formula, formula.part(record)) {
+        Some(kept) => formula.keep(record, &kept),
+        None => formula.drop_clause(record),
     }
-    if is_hidden_tautology(formula, &clause) {
-        formula.drop_clause(record);
+}
+
+/// What the rules leave of a clause; nothing if they drop it. Clauses of 0 or 1
+/// literals are left as they are.
+pub fn left_of(formula: &Formula, clause: &[i32]) -> Option<Vec<i32>> {
+    if clause.len() < 2 {
+        Some(clause.to_vec())
+    } else if is_hidden_tautology(formula, clause) {
+        None
     } else {
-        let kept = without_hidden_literals(formula, &clause);
-        formula.keep(record, &kept);
+        Some(without_hidden_literals(formula, clause))
     }
 }
 

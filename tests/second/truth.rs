@@ -89,6 +89,11 @@ impl Truth {
             .fold(Assignments::all(), |set, c| set.and(self.clause(c)))
     }
 
+    /// Those of these assignments that make the clause true.
+    pub fn where_true(&self, assignments: Assignments, clause: &[i32]) -> Assignments {
+        assignments.and(self.clause(clause))
+    }
+
     /// The assignments that satisfy what stands.
     pub fn standing(&self, formula: &Formula) -> Assignments {
         if formula.state.mark {

@@ -5,6 +5,7 @@ use crate::load::load;
 use crate::refusal::{refuse, Refusal};
 use crate::run::run;
 use crate::tables::Formula;
+use crate::window::Window;
 use crate::write::write;
 
 pub const MOST_INPUT: usize = 65_535;
@@ -23,7 +24,7 @@ fn simplified(input: &[u8]) -> Result<Vec<u8>, Refusal> {
         return refuse(3, MOST_INPUT);
     }
     let mut formula = Formula::empty();
-    load(&mut formula, input)?;
+    load(&mut formula, &mut Window::empty(), input)?;
     if !formula.state.mark {
         run(&mut formula, 1)?;
     }

@@ -132,6 +132,17 @@ sub-mem Sublistᴰ·slnil m = m
 sub-mem (Sublistᴰ·cons s) m = List·Memᴰ·tail (sub-mem s m)
 sub-mem (Sublistᴰ·cons-cons e s) m = ⊎-elim (λ k. List·Memᴰ·head (k ∙ e)) (λ t. List·Memᴰ·tail (sub-mem s t)) (List·Memᴰ·cases-cons m)
 
+pub sub-length : {A : Type 0} {D C : List A} → Sublistᴰ D C → length D ≤ length C
+sub-length Sublistᴰ·slnil = omega arith
+sub-length (Sublistᴰ·cons s) = omega (arith, sub-length s)
+sub-length (Sublistᴰ·cons-cons e s) = omega (arith, sub-length s)
+
+-- a subsequence as long as the whole is the whole
+pub sub-full : {A : Type 0} {D C : List A} → Sublistᴰ D C → length C ≤ length D → D ≡ C
+sub-full Sublistᴰ·slnil h = refl
+sub-full (Sublistᴰ·cons s) h = absurd (omega (arith, h, sub-length s))
+sub-full (Sublistᴰ·cons-cons e s) h = λ i. e i ∷ sub-full s (omega (arith, h)) i
+
 pub filter-all : {A : Type 0} (C : List A) → filter (λ l. true) C ≡ C
 unfolding filter
 filter-all [] = refl

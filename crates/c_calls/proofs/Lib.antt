@@ -1,2 +1,4 @@
 pub mod Refused
+pub mod RefusedWith
 pub mod Next
+pub mod NextWith

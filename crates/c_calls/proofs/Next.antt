@@ -1,5 +1,5 @@
 -- One call after the other: after a call, made or refused, the numbers are again a state's and the answer has its four places, and the next call finds the state and the tables that the definition of the last one gave.
--- So a list of calls for C is the list of the same calls on tables and a state. Assumes nothing.
+-- So a list of calls for C is the list of the same calls on tables and a state. The calls that take the window are in NextWith. Assumes nothing.
 use Prim.Native.Nat.{ℕ, zero, suc, _≤_}
 use native.Mathlib.Omega.{arith}
 use mathlib.Core.Bool.{true}
@@ -33,6 +33,12 @@ state-readable : (n : ℕ) (st : State) (s : List ℕ) → Placed st → readabl
 state-readable zero st s placed e = put-readable st s placed
 state-readable (suc n) st s placed e = e
 
+-- the answer that a call leaves has its places again
+pub able-again : (r : Reply) (s a s′ : List ℕ) → ready s a ≡ true → readable s′ ≡ true → ready s′ (putAnswer r a) ≡ true
+unfolding ready
+able-again r s a s′ e f =
+    sym (passes (leb 4 (length (putAnswer r a))) (readable s′) true (le-leb 4 (length (putAnswer r a)) (omega (arith, answer-length r a (ready-long s a e .1), ready-long s a e .1))) (sym f))
+
 -- what a call leaves has the places of a programme
 left-placed : (m : After) (t : Tables) (st : State) → Kept t st m → Placed st → Placed (m .state)
 left-placed m t st (inl made) placed = made .1 placed
@@ -53,12 +59,10 @@ pub record Found (m : After) (x : AfterC) : Type 0 where
   pub state : stateOf (x .state) ≡ m .state
   pub tables : x .tables ≡ m .tables
 
-told-found : (m : After) (t : Tables) (s a : List ℕ) → Kept t (stateOf s) m → ready s a ≡ true → Found m (told m s a)
-unfolding told ready
+pub told-found : (m : After) (t : Tables) (s a : List ℕ) → Kept t (stateOf s) m → ready s a ≡ true → Found m (told m s a)
+unfolding told
 told-found m t s a kept e = let placed : Placed (m .state) = left-placed m t (stateOf s) kept (read-placed s (ready-long s a e .0)) in record {
-  able =
-      sym (passes (leb 4 (length (putAnswer (m .reply) a))) _ true (le-leb 4 (length (putAnswer (m .reply) a)) (omega (arith, answer-length (m .reply) a (ready-long s a e .1), ready-long s a e .1)))
-      (sym (state-readable (m .reply .number) (m .state) s placed (ready-readable s a e))));
+  able = able-again (m .reply) s a (putStateBy (m .reply .number) (m .state) s) e (state-readable (m .reply .number) (m .state) s placed (ready-readable s a e));
   state = state-next m t s placed kept;
   tables = refl;
 }

@@ -1,11 +1,11 @@
--- A refused call for C leaves the state and the tables as they are: its result is 0, or nothing changed. Assumes nothing.
+-- A refused call for C leaves the state and the tables as they are: its result is 0, or nothing changed but the first number of the answer. The calls that take the window are in RefusedWith. Assumes nothing.
 use Prim.Native.Nat.{ℕ, zero, suc, _-_}
 use native.Mathlib.Omega.{arith}
 use mathlib.Core.Bool.{Bool, true, false}
 use mathlib.Core.Path.{_≡_, refl, ap, _∙_}
 use mathlib.Core.Logic.{_⊎_, inl, inr}
 use mathlib.Core.List.{List}
-use lib.ListN.{length, replicate, length-append, length-replicate}
+use lib.ListN.{length, drop, replicate, length-append, length-replicate}
 use lib.IntN.{ℤ, pos}
 use Rattle.state.specs.Answers.{resultBy}
 use Rattle.state.specs.Programmes.{programmeOf, constantProgramme}
@@ -30,7 +30,8 @@ use Rattle.run.proofs.Ways.{Way, propagate-way, merge-way, stamp-way, failed-wa
 use Rattle.set_programme.specs.SetProgramme.{setCall}
 use Rattle.set_programme.proofs.Setting.{set-cases}
 use Rattle.c_numbers.specs.StateNumbers.{stateOf}
-use Rattle.c_numbers.specs.CCalls.{ready, refuseUnread, AfterC, afterC, putStateBy, told, callC}
+use Rattle.c_numbers.specs.CCalls.{ready, putAnswerBy, putAnswer, refuseUnread, AfterC, afterC, putStateBy, told, callC}
+use Rattle.c_numbers.proofs.Answered.{unread-behind}
 use Rattle.c_numbers.proofs.StateBack.{Placed}
 
 -- the call was made, and the programme has its places if it had them, or the state and the tables are as they were
@@ -48,7 +49,8 @@ way-keeps : (t : Tables) (st : State) (a : After) → Way t st a → Kept t st a
 way-keeps t st a (inl made) = inl (made .0, λ placed. ap (λ (p : Programme). length (p .codes)) (made .1 .programme) ∙ placed)
 way-keeps t st a (inr kept) = inr kept
 
-load-keeps : (text : List ℕ) → Keeps (loadCall text)
+-- the load of the tables alone
+pub load-keeps : (text : List ℕ) → Keeps (loadCall text)
 unfolding loadCall constantProgramme programmeOf
 load-keeps text t st = by (longOk t)
   where
@@ -65,10 +67,9 @@ unfolding programmeOf
 set-keeps codes t st = set-cases codes t st (Kept t st) (λ e. inr (refl, refl)) (λ index q. inr (refl, refl))
     (λ e q. let few = judge-exact codes .0 q .few in inl (refl, λ placed. length-append codes (replicate (32 - length codes) 0) ∙ omega (arith, few, length-replicate {A = ℕ} (32 - length codes) 0)))
 
--- all of them
-pub calls-keep : (text codes : List ℕ) (order : List ℤ) (n : ℕ) → Keeps (loadCall text) × Keeps (propagateCall n) × Keeps (mergeCall n) × Keeps (stampCall order) × Keeps failedCall × Keeps (sweepCall n) × Keeps (runCall n) × Keeps (setCall codes)
-calls-keep text codes order n = (
-  load-keeps text,
+-- all that do not take the window
+pub calls-keep : (codes : List ℕ) (order : List ℤ) (n : ℕ) → Keeps (propagateCall n) × Keeps (mergeCall n) × Keeps (stampCall order) × Keeps failedCall × Keeps (sweepCall n) × Keeps (runCall n) × Keeps (setCall codes)
+calls-keep codes order n = (
   λ t st. way-keeps t st (propagateCall n t st) (propagate-way n t st),
   λ t st. way-keeps t st (mergeCall n t st) (merge-way n t st),
   λ t st. way-keeps t st (stampCall order t st) (stamp-way order t st),
@@ -80,24 +81,24 @@ calls-keep text codes order n = (
 
 -- ---- for C
 
--- the result is 0, or the state and the tables are as they were
-abbrev pub LeftBy : Tables → List ℕ → AfterC → Type 0
-LeftBy t s x = (x .result ≡ pos 0) ⊎ ((x .state ≡ s) × (x .tables ≡ t))
+-- the result is 0, or the numbers of the answer behind the first, the state and the tables are as they were
+abbrev pub LeftBy : Tables → List ℕ → List ℕ → AfterC → Type 0
+LeftBy t s a x = (x .result ≡ pos 0) ⊎ ((drop 1 (x .answer) ≡ drop 1 a) × (x .state ≡ s) × (x .tables ≡ t))
 
-told-leaves : (m : After) (t : Tables) (st : State) (s a : List ℕ) → Kept t st m → LeftBy t s (told m s a)
-unfolding told
+told-leaves : (m : After) (t : Tables) (st : State) (s a : List ℕ) → Kept t st m → LeftBy t s a (told m s a)
+unfolding told putAnswer
 told-leaves m t st s a (inl made) = inl (ap (λ (n : ℕ). resultBy n 0) (made .0))
 told-leaves m t st s a (inr kept) = numbered (m .reply .number)
   where
-    numbered : (n : ℕ) → (resultBy n 0 ≡ pos 0) ⊎ ((putStateBy n (m .state) s ≡ s) × (m .tables ≡ t))
+    numbered : (n : ℕ) → (resultBy n 0 ≡ pos 0) ⊎ ((drop 1 (putAnswerBy n (m .reply) a) ≡ drop 1 a) × (putStateBy n (m .state) s ≡ s) × (m .tables ≡ t))
     numbered zero = inl refl
-    numbered (suc n) = inr (refl, kept .1)
+    numbered (suc n) = inr (refl, refl, kept .1)
 
 -- THE LAW, with `calls-keep` for each call
-pub refused-leaves : (call : Tables → State → After) → Keeps call → (t : Tables) (s a : List ℕ) → LeftBy t s (callC call t s a)
+pub refused-leaves : (call : Tables → State → After) → Keeps call → (t : Tables) (s a : List ℕ) → LeftBy t s a (callC call t s a)
 unfolding callC
 refused-leaves call keeps t s a = reading (ready s a)
   where
-    reading : (b : Bool) → LeftBy t s (elim b as (λ _. AfterC) [ true ↦ told (call t (stateOf s)) s a | false ↦ afterC (resultBy 1 0) (refuseUnread a) s t ])
+    reading : (b : Bool) → LeftBy t s a (elim b as (λ _. AfterC) [ true ↦ told (call t (stateOf s)) s a | false ↦ afterC (resultBy 1 0) (refuseUnread a) s t ])
     reading true = told-leaves (call t (stateOf s)) t (stateOf s) s a (keeps t (stateOf s))
-    reading false = inr (refl, refl)
+    reading false = inr (unread-behind a, refl, refl)

@@ -1,7 +1,8 @@
 // The calls for C. Each function reads the state from its numbers (crate c_numbers), makes the call of the same name, and puts the state and the answer into theirs; the last two have no state.
 ghost use mathlib.Core.Path.{_≡_};
 ghost use Rattle.tables.specs.Lent.{lent, returned};
-ghost use Rattle.load.specs.Load.{loadCall};
+ghost use Rattle.load.specs.Load.{loadWith};
+ghost use Rattle.learn.specs.Learn.{learnCall};
 ghost use Rattle.propagate.specs.Propagate.{propagateCall};
 ghost use Rattle.merge.specs.Merge.{mergeCall};
 ghost use Rattle.stamp.specs.Stamp.{stampCall};
@@ -12,10 +13,11 @@ ghost use Rattle.set_programme.specs.SetProgramme.{setCall};
 ghost use Rattle.compare.specs.Compare.{compareCall, comparisonResult};
 ghost use Rattle.simplify.specs.Texts.{simplifyText, resultOf};
 ghost use Rattle.c_numbers.specs.CCalls.{afterC, callC, afterWriteC, writeC};
+ghost use Rattle.c_numbers.specs.WindowCalls.{afterLoadC, loadC, afterLearnC, learnC};
 
 // ---- the calls
 
-// A text is read into the tables. The state before it counts for nothing but must be readable, as forty zeros are.
+// A text is read into the tables, and the window is emptied. The state before it counts for nothing but must be readable, as forty zeros are.
 #[no_mangle]
 pub extern "C" fn unhide_load(
     text: &[u8],
@@ -26,15 +28,33 @@ pub extern "C" fn unhide_load(
     links: &[i32],
     state: &mut [u32],
     answer: &mut [u64],
+    sizes: &mut [u32],
+    learnt: &mut [i32],
+    window: &mut [u32],
 ) -> i64
-    ensures { λ r. ⌜ afterC r (now (answer .exit)) (now (state .exit)) (returned clauses literals variables times links)
-        ≡ callC (loadCall (now (text .entry))) (lent clauses literals variables times links) (now (state .entry)) (now (answer .entry)) ⌝ }
+    ensures { λ r. ⌜ afterLoadC (afterC r (now (answer .exit)) (now (state .exit)) (returned clauses literals variables times links)) (now (sizes .exit)) (now (learnt .exit)) (now (window .exit))
+        ≡ loadC (loadWith (now (text .entry))) (lent clauses literals variables times links) (now (state .entry)) (now (answer .entry)) (now (sizes .entry)) (now (learnt .entry)) (now (window .entry)) ⌝ }
 {
-    if !c_numbers::ready(state, answer) {
+    if !c_numbers::ready_with(state, answer, window) {
         return c_numbers::refuse_unread(answer);
     }
     let st = c_numbers::state_at(state);
-    let outcome = load::load(text, clauses, literals, variables, times, links, st);
+    let w = c_numbers::window_at(window);
+    let made = load::load(
+        text,
+        clauses,
+        literals,
+        variables,
+        times,
+        links,
+        st,
+        sizes,
+        learnt,
+        w,
+    );
+    let outcome = made.outcome;
+    let a = outcome.answer;
+    c_numbers::finish_window(window, a, made.window);
     c_numbers::finish(state, answer, outcome)
 }
 
@@ -150,6 +170,47 @@ pub extern "C" fn unhide_sweep(
     let st = c_numbers::state_at(state);
     let outcome = sweep::sweep(clauses, literals, variables, times, links, st, n);
     c_numbers::finish(state, answer, outcome)
+}
+
+// A learnt clause is judged, and kept in the window or dropped.
+#[no_mangle]
+pub extern "C" fn unhide_learn(
+    clauses: &[u32],
+    literals: &[i32],
+    variables: &[i32],
+    times: &[u32],
+    links: &[i32],
+    state: &[u32],
+    answer: &mut [u64],
+    newcomer: &[i32],
+    sizes: &mut [u32],
+    learnt: &mut [i32],
+    window: &mut [u32],
+) -> i64
+    ensures { λ r. ⌜ afterLearnC r (now (answer .exit)) (now (sizes .exit)) (now (learnt .exit)) (now (window .exit))
+        ≡ learnC (learnCall (now (newcomer .entry))) (lent clauses literals variables times links) (now (state .entry)) (now (answer .entry)) (now (sizes .entry)) (now (learnt .entry)) (now (window .entry)) ⌝ }
+{
+    if !c_numbers::ready_with(state, answer, window) {
+        return c_numbers::refuse_unread(answer);
+    }
+    let st = c_numbers::state_at(state);
+    let w = c_numbers::window_at(window);
+    let made = learn::learn(
+        clauses,
+        literals,
+        variables,
+        times,
+        links,
+        st,
+        newcomer,
+        sizes,
+        learnt,
+        w,
+    );
+    let outcome = made.outcome;
+    let a = outcome.answer;
+    c_numbers::finish_window(window, a, made.window);
+    c_numbers::put_answer(answer, a)
 }
 
 // Rounds of all passes.

@@ -3,7 +3,8 @@ use Prim.Native.Nat.{ℕ, zero, suc, _≤_, _<_}
 use mathlib.Core.Bool.{Bool, true, false}
 use mathlib.Core.Path.{_≡_, refl, sym, ap, _∙_}
 use mathlib.Core.List.{List, [], _∷_}
-use lib.ListN.{length, set}
+use lib.ListN.{length, drop, set}
+use lib.Dec.{leb}
 use lib.IntN.{pos}
 use borrow.Author.Tests.{le-leb, lt-leb}
 use Rattle.state.specs.Answers.{Reply, replyOf, firstValue, resultBy}
@@ -36,3 +37,12 @@ short-stays a h = ap (by-length a) (sym (lt-leb 4 (length a) h))
 pub long-told : (a : List ℕ) → 4 ≤ length a → putAnswer (replyOf (Refused Shape)) a ≡ refuseUnread a
 unfolding refuseUnread
 long-told a h = ap (by-length a) (sym (le-leb 4 (length a) h))
+
+-- the numbers behind the first stay, in a long answer and in a short one
+pub unread-behind : (a : List ℕ) → drop 1 (refuseUnread a) ≡ drop 1 a
+unfolding refuseUnread putAnswer
+unread-behind a = reading (leb 4 (length a))
+  where
+    reading : (long : Bool) → drop 1 (by-length a long) ≡ drop 1 a
+    reading true = refl
+    reading false = refl

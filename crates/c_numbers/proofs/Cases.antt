@@ -9,14 +9,16 @@ use Rattle.state.specs.States.{state}
 use Rattle.state.specs.Answers.{replyOf}
 use Rattle.state.specs.declared.State.{State}
 use Rattle.state.specs.declared.Programme.{Programme}
-use Rattle.state.specs.declared.Pass.the-variants.{Propagate, Sweep}
+use Rattle.state.specs.declared.Pass.the-variants.{Idle, Propagate, Sweep}
 use Rattle.state.specs.declared.Counts.{Counts}
-use Rattle.state.specs.declared.Answer.the-variants.{Refused, Open, Ran}
-use Rattle.state.specs.declared.Refusal.the-variants.{Unsettled}
+use Rattle.state.specs.declared.Answer.the-variants.{Refused, Loaded, Open, Ran, KeptWhole, KeptShort, NotKept}
+use Rattle.state.specs.declared.Refusal.the-variants.{Unsettled, Newcomer}
 use Rattle.tables.specs.Tables.{Tables}
 use Rattle.tables.specs.Calls.{After, answered, refuse}
+use Rattle.window.specs.Window.{Places, places, windowOf, AfterWindow, afterWindow, refuseWith}
 use Rattle.c_numbers.specs.StateNumbers.{putState, programmeAt, stateOf, readable}
 use Rattle.c_numbers.specs.CCalls.{ready, putAnswer, refuseUnread, told, afterC, callC}
+use Rattle.c_numbers.specs.WindowCalls.{readyWith, windowAt, putWindowBy, afterLoadC, toldLoad, loadC, afterLearnC, toldLearn, learnC}
 
 -- the programme of a settle alone, with numbers behind it
 abbrev behind : List ℕ → List ℕ
@@ -45,6 +47,12 @@ answers : (putAnswer (replyOf (Open counts)) (9 ∷ 9 ∷ 9 ∷ 9 ∷ 9 ∷ []) 
 unfolding putAnswer refuseUnread
 answers = (refl, refl, refl, refl, refl)
 
+-- a learnt clause kept whole with 3 literals, shortened to 2, dropped
+learnt : (putAnswer (replyOf (KeptWhole 3)) (9 ∷ 9 ∷ 9 ∷ 9 ∷ 9 ∷ []) ≡ 0 ∷ 3 ∷ 0 ∷ 0 ∷ 9 ∷ []) × (putAnswer (replyOf (KeptShort 2)) (9 ∷ 9 ∷ 9 ∷ 9 ∷ []) ≡ 2 ∷ 2 ∷ 0 ∷ 0 ∷ [])
+    × (putAnswer (replyOf NotKept) (9 ∷ 9 ∷ 9 ∷ 9 ∷ []) ≡ 1 ∷ 0 ∷ 0 ∷ 0 ∷ [])
+unfolding putAnswer
+learnt = (refl, refl, refl)
+
 -- a call that opens Propagate, one that is refused, and one on a state that cannot be read
 abbrev opens : Tables → State → After
 opens t st = answered (Open counts) (state 4 3 (Propagate 7 true) false false alone) t
@@ -57,3 +65,32 @@ calls : (t : Tables) → (callC opens t (4 ∷ 3 ∷ 0 ∷ 0 ∷ 0 ∷ 1 ∷ 0 �
     × (callC opens t (4 ∷ 3 ∷ 5 ∷ 0 ∷ 0 ∷ 1 ∷ 0 ∷ behind []) (9 ∷ 9 ∷ 9 ∷ 9 ∷ []) ≡ afterC (negsuc 0) (0 ∷ 9 ∷ 9 ∷ 9 ∷ []) (4 ∷ 3 ∷ 5 ∷ 0 ∷ 0 ∷ 1 ∷ 0 ∷ behind []) t)
 unfolding callC ready readable told putAnswer refuseUnread putState
 calls t = (refl, refl, refl)
+
+-- ---- the window
+
+-- a number behind the second is neither read nor written; a refused call (11) leaves the numbers
+windows : (windowAt (3 ∷ 7 ∷ 99 ∷ []) ≡ windowOf 3 7) × (putWindowBy 0 (windowOf 4 9) (3 ∷ 7 ∷ 99 ∷ []) ≡ 4 ∷ 9 ∷ 99 ∷ []) × (putWindowBy 11 (windowOf 4 9) (3 ∷ 7 ∷ 99 ∷ []) ≡ 3 ∷ 7 ∷ 99 ∷ [])
+unfolding windowAt
+windows = (refl, refl, refl)
+
+-- a call that keeps a shortened clause, one that refuses the newcomer, and one with a single number for the window
+abbrev keeps : Tables → State → Places → AfterWindow
+keeps t st w = afterWindow (answered (KeptShort 2) st t) (places (2 ∷ []) (pos 1 ∷ pos 2 ∷ []) (windowOf 1 2))
+
+abbrev refusesNewcomer : Tables → State → Places → AfterWindow
+refusesNewcomer t st w = refuseWith Newcomer t st w
+
+learns : (t : Tables) → (learnC keeps t (4 ∷ 3 ∷ 0 ∷ 0 ∷ 0 ∷ 1 ∷ 0 ∷ behind []) (9 ∷ 9 ∷ 9 ∷ 9 ∷ []) (0 ∷ []) (pos 0 ∷ pos 0 ∷ []) (0 ∷ 0 ∷ 99 ∷ []) ≡ afterLearnC (pos 0) (2 ∷ 2 ∷ 0 ∷ 0 ∷ []) (2 ∷ []) (pos 1 ∷ pos 2 ∷ []) (1 ∷ 2 ∷ 99 ∷ []))
+    × (learnC refusesNewcomer t (4 ∷ 3 ∷ 0 ∷ 0 ∷ 0 ∷ 1 ∷ 0 ∷ behind []) (9 ∷ 9 ∷ 9 ∷ 9 ∷ []) (5 ∷ []) (pos 6 ∷ []) (7 ∷ 8 ∷ 99 ∷ []) ≡ afterLearnC (negsuc 10) (0 ∷ 9 ∷ 9 ∷ 9 ∷ []) (5 ∷ []) (pos 6 ∷ []) (7 ∷ 8 ∷ 99 ∷ []))
+    × (learnC keeps t (4 ∷ 3 ∷ 0 ∷ 0 ∷ 0 ∷ 1 ∷ 0 ∷ behind []) (9 ∷ 9 ∷ 9 ∷ 9 ∷ []) (5 ∷ []) (pos 6 ∷ []) (7 ∷ []) ≡ afterLearnC (negsuc 0) (0 ∷ 9 ∷ 9 ∷ 9 ∷ []) (5 ∷ []) (pos 6 ∷ []) (7 ∷ []))
+unfolding learnC readyWith ready readable toldLearn putAnswer refuseUnread
+learns t = (refl, refl, refl)
+
+-- a load that empties the window, and one with a single number for the window
+abbrev empties : Tables → State → Places → AfterWindow
+empties t st w = afterWindow (answered Loaded (state 4 3 Idle false false alone) t) (places (0 ∷ []) (pos 0 ∷ []) (windowOf 0 0))
+
+loads : (t : Tables) → (loadC empties t (replicate 40 0) (9 ∷ 9 ∷ 9 ∷ 9 ∷ []) (5 ∷ []) (pos 6 ∷ []) (7 ∷ 8 ∷ 99 ∷ []) ≡ afterLoadC (afterC (pos 0) (0 ∷ 0 ∷ 0 ∷ 0 ∷ []) (4 ∷ 3 ∷ 0 ∷ 0 ∷ 0 ∷ 0 ∷ 0 ∷ behind []) t) (0 ∷ []) (pos 0 ∷ []) (0 ∷ 0 ∷ 99 ∷ []))
+    × (loadC empties t (replicate 40 0) (9 ∷ 9 ∷ 9 ∷ 9 ∷ []) (5 ∷ []) (pos 6 ∷ []) (7 ∷ []) ≡ afterLoadC (afterC (negsuc 0) (0 ∷ 9 ∷ 9 ∷ 9 ∷ []) (replicate 40 0) t) (5 ∷ []) (pos 6 ∷ []) (7 ∷ []))
+unfolding loadC readyWith ready readable toldLoad told putAnswer refuseUnread putState
+loads t = (refl, refl)

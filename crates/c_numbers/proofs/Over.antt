@@ -13,6 +13,11 @@ pub one-over : (x : ℕ) (old : List ℕ) → 1 ≤ length old → set old 0 x �
 one-over x [] h = absurd (omega arith)
 one-over x (_ ∷ old) h = refl
 
+pub two-over : (x y : ℕ) (old : List ℕ) → 2 ≤ length old → set (set old 0 x) 1 y ≡ putFront (x ∷ y ∷ []) old
+two-over x y [] h = absurd (omega arith)
+two-over x y (_ ∷ []) h = absurd (omega arith)
+two-over x y (_ ∷ _ ∷ old) h = refl
+
 pub four-over : (x y z w : ℕ) (old : List ℕ) → 4 ≤ length old → set (set (set (set old 0 x) 1 y) 2 z) 3 w ≡ putFront (x ∷ y ∷ z ∷ w ∷ []) old
 four-over x y z w [] h = absurd (omega arith)
 four-over x y z w (_ ∷ []) h = absurd (omega arith)

@@ -1,15 +1,16 @@
--- Tests one after the other are the bool that `readable` and `ready` give. Assumes nothing.
+-- Tests one after the other are the bool that `readable`, `ready` and `readyWith` give. Assumes nothing.
 use Prim.Native.Nat.{ℕ, zero, suc, _≤_}
 use native.Mathlib.Omega.{arith}
 use mathlib.Core.Bool.{Bool, true, false, _&&_}
-use mathlib.Core.Path.{_≡_, refl}
+use mathlib.Core.Path.{_≡_, refl, sym}
 use mathlib.Core.List.{List}
 use lib.ListN.{length}
 use lib.Dec.{leb}
-use borrow.Author.Tests.{leb-true}
+use borrow.Author.Tests.{leb-true, le-leb}
 use Rattle.state.specs.declared.Pass.the-variants.{Sweep}
 use Rattle.c_numbers.specs.StateNumbers.{passOf, passReadable, readable}
 use Rattle.c_numbers.specs.CCalls.{ready}
+use Rattle.c_numbers.specs.WindowCalls.{readyWith}
 
 -- a test that fails, and one that passes
 pub fails : (a b : Bool) → a ≡ false → false ≡ (a && b)
@@ -49,3 +50,16 @@ unfolding ready readable
 ready-long s a e =
     let parts = both (leb 4 (length a)) (readable s) e in
     (leb-true 40 (length s) (both (leb 40 (length s)) _ (parts .1) .0), leb-true 4 (length a) (parts .0))
+
+-- the same with the window's numbers
+pub with-ready : (s a w : List ℕ) → readyWith s a w ≡ true → ready s a ≡ true
+unfolding readyWith
+with-ready s a w e = both (leb 2 (length w)) (ready s a) e .1
+
+pub with-long : (s a w : List ℕ) → readyWith s a w ≡ true → 2 ≤ length w
+unfolding readyWith
+with-long s a w e = leb-true 2 (length w) (both (leb 2 (length w)) (ready s a) e .0)
+
+pub with-able : (s a w : List ℕ) → ready s a ≡ true → 2 ≤ length w → readyWith s a w ≡ true
+unfolding readyWith
+with-able s a w able long = sym (passes (leb 2 (length w)) (ready s a) true (le-leb 2 (length w) long) (sym able))

@@ -35,7 +35,7 @@ pass-readable (Propagate cursor false) = refl
 pass-readable (Merge cursor) = refl
 pass-readable (Sweep cursor) = refl
 
--- a programme that has its 32 places, as every one has that a call leaves (law `calls-keep`, crate c_calls)
+-- a programme that has its 32 places, as every one has that a call leaves (laws `calls-keep` and `load-with-keeps`, crate c_calls)
 abbrev pub Placed : State → Type 0
 Placed st = length (st .programme .codes) ≡ 32
 

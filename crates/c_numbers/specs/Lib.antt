@@ -1,2 +1,3 @@
 pub mod StateNumbers
 pub mod CCalls
+pub mod WindowCalls

@@ -1,4 +1,4 @@
-// The state and the answer as numbers, for C, which has no type for either: it lends forty numbers for the one and four for the other.
+// The state and the answer as numbers, for C, which has no type for either: it lends forty numbers for the one and four for the other, and two for the window.
 ghost use mathlib.Core.Path.{_≡_};
 ghost use Prim.Native.Nat.{_≤_};
 ghost use mathlib.Core.List.{[], _∷_};
@@ -8,12 +8,14 @@ ghost use Rattle.tables.specs.Tables.{Tables};
 ghost use Rattle.tables.specs.Calls.{after};
 ghost use Rattle.c_numbers.specs.StateNumbers.{putFront, digit, passNumber, cursorNumber, changedNumber, passOf, passReadable, programmeAt, stateOf, putProgramme, putState, readable};
 ghost use Rattle.c_numbers.specs.CCalls.{ready, valuesOf, putAnswer, refuseUnread, told, afterC};
+ghost use Rattle.c_numbers.specs.WindowCalls.{windowAt, putWindowBy, readyWith};
 use state::Answer;
 use state::Outcome;
 use state::Pass;
 use state::Programme;
 use state::Refusal;
 use state::State;
+use window::Window;
 
 // ---- the state's numbers
 
@@ -200,6 +202,8 @@ fn put_values(answer: &mut [u64], a: Answer)
             counts.literals as u64,
             0,
         ),
+        Answer::KeptWhole(left) => put_four(answer, 0, left as u64, 0, 0),
+        Answer::KeptShort(left) => put_four(answer, 2, left as u64, 0, 0),
         _ => put_four(answer, a.value(), 0, 0, 0),
     }
 }
@@ -239,4 +243,39 @@ pub fn finish(state: &mut [u32], answer: &mut [u64], outcome: Outcome) -> i64
     }
     put_state(state, outcome.state);
     put_answer(answer, a)
+}
+
+// ---- the window's numbers
+
+// What a call that takes the window asks of all numbers before it looks at anything else.
+pub fn ready_with(state: &[u32], answer: &[u64], window: &[u32]) -> bool
+    ensures { λ r. ⌜ r ≡ readyWith (now (state .entry)) (now (answer .entry)) (now (window .entry)) ⌝ }
+{
+    if window.len() < 2 {
+        return false;
+    }
+    ready(state, answer)
+}
+
+// The window's numbers; `ready_with` has seen that they are there.
+pub fn window_at(window: &[u32]) -> Window
+    requires { ⌜ 2 ≤ length (now window) ⌝ }
+    ensures { λ r. ⌜ r ≡ windowAt (now (window .entry)) ⌝ }
+{
+    Window {
+        clauses: window[0],
+        literals: window[1],
+    }
+}
+
+// After a call that takes the window: its numbers, where the call was made. Numbers behind the second stay.
+pub fn finish_window(window: &mut [u32], a: Answer, left: Window)
+    requires { ⌜ 2 ≤ length (now window) ⌝ }
+    ensures { λ _. ⌜ now (window .exit) ≡ putWindowBy (replyOf a .number) left (now (window .entry)) ⌝ }
+{
+    if 0 < a.number() {
+        return;
+    }
+    window[0] = left.clauses;
+    window[1] = left.literals;
 }

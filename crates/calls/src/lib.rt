@@ -6,17 +6,24 @@ use state::Answer;
 use state::Outcome;
 use state::Refusal;
 use state::State;
+use window::Window;
+use window::Windowed;
 ghost use mathlib.Core.Path.{_≡_};
+ghost use mathlib.Core.List.{List};
+ghost use Prim.Native.Nat.{ℕ};
+ghost use lib.IntN.{ℤ};
 ghost use Rattle.tables.specs.Tables.{Tables};
 ghost use Rattle.tables.specs.Calls.{after, refuse};
 ghost use Rattle.state.specs.declared.Refusal.the-variants.{Shape};
-ghost use Rattle.load.specs.Load.{loadCall};
+ghost use Rattle.window.specs.Window.{places, afterWith, refuseWith};
+ghost use Rattle.load.specs.Load.{loadWith};
 ghost use Rattle.write.specs.Write.{afterWrite, writeCall};
 ghost use Rattle.propagate.specs.Propagate.{propagateCall};
 ghost use Rattle.merge.specs.Merge.{mergeCall};
 ghost use Rattle.stamp.specs.Stamp.{stampCall};
 ghost use Rattle.failed.specs.Failed.{failedCall};
 ghost use Rattle.sweep.specs.Sweep.{sweepCall};
+ghost use Rattle.learn.specs.Learn.{learnCall};
 ghost use Rattle.run.specs.Run.{runCall};
 ghost use Rattle.set_programme.specs.SetProgramme.{setCall};
 ghost use Rattle.calls.specs.Calls.{recorded, held, afterStamp, inRecords, afterRun, runInRecords};
@@ -31,6 +38,16 @@ fn refuse_short(st: State) -> Outcome
     }
 }
 
+// The same of a call that takes the window.
+fn refuse_short_windowed(st: State, window: Window) -> Windowed
+    ensures { λ r. ⌜ ((t : Tables) (sizes : List ℕ) (learnt : List ℤ) → afterWith r t sizes learnt ≡ refuseWith Shape t st (places sizes learnt window)) ⌝ }
+{
+    Windowed {
+        outcome: refuse_short(st),
+        window,
+    }
+}
+
 fn load_columns(
     text: &[u8],
     clauses: &mut [u32],
@@ -38,16 +55,30 @@ fn load_columns(
     variables: &mut [i32],
     c: Columns,
     st: State,
-) -> Outcome
-    ensures { λ r. ⌜ after r (held (now (clauses .exit)) (now (literals .exit)) (now (variables .exit)) c)
-        ≡ loadCall (now (text .entry)) (held (now (clauses .entry)) (now (literals .entry)) (now (variables .entry)) c) st ⌝ }
+    sizes: &mut [u32],
+    learnt: &mut [i32],
+    window: Window,
+) -> Windowed
+    ensures { λ r. ⌜ afterWith r (held (now (clauses .exit)) (now (literals .exit)) (now (variables .exit)) c) (now (sizes .exit)) (now (learnt .exit))
+        ≡ loadWith (now (text .entry)) (held (now (clauses .entry)) (now (literals .entry)) (now (variables .entry)) c) st (places (now (sizes .entry)) (now (learnt .entry)) window) ⌝ }
 {
     if c.count < 2048 {
-        return refuse_short(st);
+        return refuse_short_windowed(st, window);
     }
     let times = c.times;
     let links = c.links;
-    load::load(text, clauses, literals, variables, &times, &links, st)
+    load::load(
+        text,
+        clauses,
+        literals,
+        variables,
+        &times,
+        &links,
+        st,
+        sizes,
+        learnt,
+        window,
+    )
 }
 
 // A load. Of the stamps only the number of records counts.
@@ -58,12 +89,25 @@ pub fn load(
     variables: &mut [i32],
     stamps: &[StampRecord],
     st: State,
-) -> Outcome
-    ensures { λ r. ⌜ after r (recorded (now (clauses .exit)) (now (literals .exit)) (now (variables .exit)) (now (stamps .entry)))
-        ≡ loadCall (now (text .entry)) (recorded (now (clauses .entry)) (now (literals .entry)) (now (variables .entry)) (now (stamps .entry))) st ⌝ }
+    sizes: &mut [u32],
+    learnt: &mut [i32],
+    window: Window,
+) -> Windowed
+    ensures { λ r. ⌜ afterWith r (recorded (now (clauses .exit)) (now (literals .exit)) (now (variables .exit)) (now (stamps .entry))) (now (sizes .exit)) (now (learnt .exit))
+        ≡ loadWith (now (text .entry)) (recorded (now (clauses .entry)) (now (literals .entry)) (now (variables .entry)) (now (stamps .entry))) st (places (now (sizes .entry)) (now (learnt .entry)) window) ⌝ }
 {
     let c = stamp_records::columns_of(stamps);
-    load_columns(text, clauses, literals, variables, c, st)
+    load_columns(
+        text,
+        clauses,
+        literals,
+        variables,
+        c,
+        st,
+        sizes,
+        learnt,
+        window,
+    )
 }
 
 fn write_columns(
@@ -298,6 +342,68 @@ pub fn sweep(
 {
     let c = stamp_records::columns_of(stamps);
     sweep_columns(clauses, literals, variables, c, st, n)
+}
+
+fn learn_columns(
+    clauses: &[u32],
+    literals: &[i32],
+    variables: &[i32],
+    c: Columns,
+    st: State,
+    newcomer: &[i32],
+    sizes: &mut [u32],
+    learnt: &mut [i32],
+    window: Window,
+) -> Windowed
+    ensures { λ r. ⌜ afterWith r (held (now (clauses .entry)) (now (literals .entry)) (now (variables .entry)) c) (now (sizes .exit)) (now (learnt .exit))
+        ≡ learnCall (now (newcomer .entry)) (held (now (clauses .entry)) (now (literals .entry)) (now (variables .entry)) c) st (places (now (sizes .entry)) (now (learnt .entry)) window) ⌝ }
+{
+    if c.count < 2048 {
+        return refuse_short_windowed(st, window);
+    }
+    let times = c.times;
+    let links = c.links;
+    learn::learn(
+        clauses,
+        literals,
+        variables,
+        &times,
+        &links,
+        st,
+        newcomer,
+        sizes,
+        learnt,
+        window,
+    )
+}
+
+// A learnt clause.
+pub fn learn(
+    clauses: &[u32],
+    literals: &[i32],
+    variables: &[i32],
+    stamps: &[StampRecord],
+    st: State,
+    newcomer: &[i32],
+    sizes: &mut [u32],
+    learnt: &mut [i32],
+    window: Window,
+) -> Windowed
+    ensures { λ r. ⌜ afterWith r (recorded (now (clauses .entry)) (now (literals .entry)) (now (variables .entry)) (now (stamps .entry))) (now (sizes .exit)) (now (learnt .exit))
+        ≡ learnCall (now (newcomer .entry)) (recorded (now (clauses .entry)) (now (literals .entry)) (now (variables .entry)) (now (stamps .entry))) st (places (now (sizes .entry)) (now (learnt .entry)) window) ⌝ }
+{
+    let c = stamp_records::columns_of(stamps);
+    learn_columns(
+        clauses,
+        literals,
+        variables,
+        c,
+        st,
+        newcomer,
+        sizes,
+        learnt,
+        window,
+    )
 }
 
 fn run_columns(

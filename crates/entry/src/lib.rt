@@ -78,7 +78,8 @@ pub fn entry_of(
     entry_by(own, pass, st.mark)
 }
 
-fn opening_by(pass: Pass, mark: bool) -> Opening
+// By the open pass and the mark, once refusal 1 does not apply. The call of a learnt clause asks here, since its refusal 1 looks at the window too.
+pub fn opening_by(pass: Pass, mark: bool) -> Opening
     ensures { λ r. ⌜ r ≡ openingBy pass mark ⌝ }
 {
     match pass {

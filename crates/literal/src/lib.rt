@@ -7,7 +7,8 @@ ghost use lib.IntN.{natAbs, negℤ, pos};
 ghost use lib.Signed.{nonNeg};
 ghost use Rattle.literal.specs.Literals.{Small, inRange, signBy, slotOf, litAt, twin};
 
-// Whether l is a literal of the variables 1 to v; the smallest i32 is none.
+// Whether l is a literal of the variables 1 to v; the smallest i32 is none. The variable is taken first and compared once: a comparison for each
+// sign would be a jump that no processor foresees where signs come at random, and the checks of tables and window ask this of every literal.
 pub fn in_range(l: i32, v: u32) -> bool
     ensures { λ r. ⌜ r ≡ inRange l v ⌝ }
 {
@@ -17,10 +18,7 @@ pub fn in_range(l: i32, v: u32) -> bool
     if l == -2147483648 {
         return false;
     }
-    if l < 0 {
-        return (-l) as u32 <= v;
-    }
-    l as u32 <= v
+    var_of(l) <= v as usize
 }
 
 // The complement. It is asked of literals of a text that was judged to fit, and of a part under the shape rule: neither has the smallest i32.

@@ -15,6 +15,8 @@ use Rattle.state.specs.declared.Answer.the-variants.{Loaded}
 use Rattle.tables.specs.Tables.{Tables, tables}
 use Rattle.tables.specs.Long.{longOk}
 use Rattle.tables.specs.Calls.{After, answered, refuse}
+use Rattle.window.specs.Window.{Places, emptied, AfterWindow, afterWindow, refuseWith}
+use Rattle.window.specs.Rule.{longWindowOk}
 use Rattle.dimacs.specs.Text.{judgeText, bodyOf}
 use Rattle.dimacs.specs.declared.Verdict.{Verdict}
 use Rattle.dimacs.specs.declared.Verdict.the-variants.{Refused, Fits}
@@ -60,6 +62,17 @@ abbrev pub loadBy : Verdict → List (List ℤ) → Tables → State → After
 loadBy (Refused r) cs t st = refuse r st t
 loadBy (Fits v n _) cs t st = accept v n cs t
 
--- the call: a table that is shorter than stated gets 1; else the text is judged, and its clauses are laid
+-- the call on the tables: a table that is shorter than stated gets 1; else the text is judged, and its clauses are laid
 unfoldable pub loadCall : List ℕ → Tables → State → After
 loadCall text t st = elim (longOk t) [ true ↦ loadBy (judgeText text) (bodyOf text (judgeText text)) t st | false ↦ refuse Shape st t ]
+
+-- ---- the call, with the window. Document 02, CR 1: "a load empties the window"; "a window handed in with another .. gets 1, save from a load", which tests its lengths alone
+
+-- by the reply's number, which is 0 where the text was loaded
+abbrev pub emptiedBy : ℕ → Places → Places
+emptiedBy zero w = emptied w
+emptiedBy (suc _) w = w
+
+unfoldable pub loadWith : List ℕ → Tables → State → Places → AfterWindow
+loadWith text t st w =
+    elim (longWindowOk w) [ true ↦ afterWindow (loadCall text t st) (emptiedBy (loadCall text t st .reply .number) w) | false ↦ refuseWith Shape t st w ]

@@ -15,13 +15,16 @@ ghost use Rattle.dimacs.specs.Numbers.{firstClause, clausesIn};
 ghost use Rattle.state.specs.declared.State.{State};
 ghost use Rattle.tables.specs.Lent.{lent, returned, unlent};
 ghost use Rattle.tables.specs.Calls.{after};
-ghost use Rattle.load.specs.Load.{variableRecords, filled, accept, loadBy, loadCall};
+ghost use Rattle.window.specs.Window.{places, afterWith};
+ghost use Rattle.load.specs.Load.{variableRecords, filled, accept, loadBy, loadCall, loadWith};
 ghost use Rattle.load.specs.Laid.{written, keptSize, flag, putClauseRecord, nextClause, cleared, Collectable, ClauseEnd, Layable, LaidBy};
 use dimacs::Verdict;
 use state::Answer;
 use state::Outcome;
 use state::Refusal;
 use state::State;
+use window::Window;
+use window::Windowed;
 
 // A clause that was laid: how many literals it has as written, how many of them are kept, and whether it has v and -v.
 struct Written {
@@ -238,7 +241,7 @@ fn load_text(
 
 // Loads a text into the tables, or refuses it and changes nothing. The stamp records (`times`, `links`) stay in both cases:
 // here only their lengths are tested.
-pub fn load(
+pub fn load_tables(
     text: &[u8],
     clauses: &mut [u32],
     literals: &mut [i32],
@@ -257,4 +260,42 @@ pub fn load(
         };
     }
     load_text(text, clauses, literals, variables, st)
+}
+
+// The exported call: the text into the tables, and a window that is long enough emptied, whatever it holds; or neither.
+pub fn load(
+    text: &[u8],
+    clauses: &mut [u32],
+    literals: &mut [i32],
+    variables: &mut [i32],
+    times: &[u32],
+    links: &[i32],
+    st: State,
+    sizes: &mut [u32],
+    learnt: &mut [i32],
+    window: Window,
+) -> Windowed
+    ensures { λ r. ⌜ afterWith r (returned clauses literals variables times links) (now (sizes .exit)) (now (learnt .exit))
+        ≡ loadWith (now (text .entry)) (lent clauses literals variables times links) st (places (now (sizes .entry)) (now (learnt .entry)) window) ⌝ }
+{
+    if !window::long_ok(sizes, learnt) {
+        return Windowed {
+            outcome: Outcome {
+                answer: Answer::Refused(Refusal::Shape),
+                state: st,
+            },
+            window,
+        };
+    }
+    let outcome = load_tables(text, clauses, literals, variables, times, links, st);
+    let answer = outcome.answer;
+    if answer.number() > 0 {
+        return Windowed { outcome, window };
+    }
+    clear_words(sizes, 0, 64);
+    clear_literals(learnt, 0, 4096);
+    Windowed {
+        outcome,
+        window: Window::empty(),
+    }
 }

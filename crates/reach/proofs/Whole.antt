@@ -3,9 +3,10 @@ use Prim.Native.Nat.{ℕ, zero, suc, _≤_, _<_}
 use native.Mathlib.Omega.{arith}
 use mathlib.Core.Path.{_≡_, refl, sym, ap, _∙_}
 use mathlib.Core.Logic.{_⊎_, inl, inr, ⊎-elim}
-use mathlib.Core.List.{List, [], _∷_, map, Sublistᴰ, Sublistᴰ·slnil, Sublistᴰ·cons, Sublistᴰ·cons-cons}
+use mathlib.Core.List.{List, [], _∷_, map, Sublistᴰ}
 use lib.ListN.{length, getD, length-map}
 use Rattle.base.specs.Decide.{same-or, le-or}
+use Rattle.base.proofs.Lists.{sub-length, sub-full}
 use Rattle.literal.specs.Literals.{slotOf}
 use Rattle.walk.specs.Walk.{Stamps}
 use Rattle.state.specs.declared.State.{State}
@@ -24,17 +25,6 @@ use Rattle.reach.specs.Reach.{Shortened, PairsWhole, AllWhole}
 use Rattle.reach.proofs.Swept.{first-length}
 
 -- ---- lists
-
-sub-length : {A : Type 0} {D C : List A} → Sublistᴰ D C → length D ≤ length C
-sub-length Sublistᴰ·slnil = omega arith
-sub-length (Sublistᴰ·cons s) = omega (arith, sub-length s)
-sub-length (Sublistᴰ·cons-cons e s) = omega (arith, sub-length s)
-
--- a subsequence as long as the whole is the whole
-sub-full : {A : Type 0} {D C : List A} → Sublistᴰ D C → length C ≤ length D → D ≡ C
-sub-full Sublistᴰ·slnil h = refl
-sub-full (Sublistᴰ·cons s) h = absurd (omega (arith, h, sub-length s))
-sub-full (Sublistᴰ·cons-cons e s) h = λ i. e i ∷ sub-full s (omega (arith, h)) i
 
 -- a place that a formula does not have
 getD-beyond : (f : List Clause) (i : ℕ) → length f ≤ i → getD f i dropped ≡ dropped

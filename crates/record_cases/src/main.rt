@@ -1,6 +1,7 @@
-// Stamp and Sweep over stamp records, run on the code: P2 stamped and swept with one record more than stated, and with one less.
-// All records are filled with 7s before, so that those that stayed are seen. The records are passed by value, with the number of them that is lent:
-// only `stamp_lent` and `sweep_lent` make a loan of records, and each of them makes one call.
+// Stamp, a learnt clause and Sweep over stamp records, run on the code: P2 stamped and swept with one record more than stated, and with one less,
+// and between the two calls a newcomer judged by the stamps. All records are filled with 7s before, so that those that stayed are seen.
+// The records are passed by value, with the number of them that is lent: only `stamp_lent`, `learn_lent` and `sweep_lent` make a loan of records,
+// and each of them makes one call.
 ghost use Prim.Native.Nat.{_≤_};
 
 mod words;
@@ -10,6 +11,8 @@ use stamp_records::StampRecord;
 use state::Answer;
 use state::Outcome;
 use state::State;
+use window::Window;
+use window::Windowed;
 use words::end_line;
 use words::print;
 use words::print_answer;
@@ -44,6 +47,33 @@ fn stamp_lent(
         order,
     );
     Recorded { records, outcome }
+}
+
+fn learn_lent(
+    clauses: &[u32],
+    literals: &[i32],
+    variables: &[i32],
+    records: [StampRecord; 2049],
+    lent: usize,
+    st: State,
+    newcomer: &[i32],
+    sizes: &mut [u32],
+    learnt: &mut [i32],
+    window: Window,
+) -> Windowed
+    requires { ⌜ lent ≤ 2049 ⌝ }
+{
+    calls::learn(
+        clauses,
+        literals,
+        variables,
+        &records[..lent],
+        st,
+        newcomer,
+        sizes,
+        learnt,
+        window,
+    )
 }
 
 fn sweep_lent(
@@ -153,7 +183,37 @@ fn stamp_reported(
     stamped
 }
 
-// Stamp and the whole of Sweep.
+// The newcomer 1 3 to an empty window.
+fn learn_reported(
+    lent: usize,
+    clauses: &[u32],
+    literals: &[i32],
+    variables: &[i32],
+    records: [StampRecord; 2049],
+    st: State,
+)
+    requires { ⌜ lent ≤ 2049 ⌝ }
+{
+    let mut sizes: [u32; 64] = [0; 64];
+    let mut learnt: [i32; 4096] = [0; 4096];
+    let newcomer: [i32; 2] = [1, 3];
+    let made = learn_lent(
+        clauses,
+        literals,
+        variables,
+        records,
+        lent,
+        st,
+        &newcomer,
+        &mut sizes,
+        &mut learnt,
+        Window::empty(),
+    );
+    let outcome = made.outcome;
+    report(outcome);
+}
+
+// Stamp, the newcomer and the whole of Sweep.
 fn simplify(
     order: &[i32],
     lent: usize,
@@ -167,6 +227,7 @@ fn simplify(
     let stamped = stamp_reported(order, lent, clauses, literals, variables, st);
     let records = stamped.records;
     let outcome = stamped.outcome;
+    learn_reported(lent, clauses, literals, variables, records, outcome.state);
     report(sweep_lent(
         clauses,
         literals,
@@ -193,7 +254,7 @@ fn case(name: &[u8], lent: usize)
     print(name);
     end_line();
     let empty = State::empty();
-    let loaded = report(load::load(
+    let loaded = report(load::load_tables(
         text,
         &mut clauses,
         &mut literals,

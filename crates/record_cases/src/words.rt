@@ -60,5 +60,14 @@ pub fn print_answer(answer: Answer) {
             print_number(length as u64);
         }
         Answer::Set => print(b"set"),
+        Answer::KeptWhole(left) => {
+            print(b"kept");
+            print_number(left as u64);
+        }
+        Answer::KeptShort(left) => {
+            print(b"shortened");
+            print_number(left as u64);
+        }
+        Answer::NotKept => print(b"dropped"),
     }
 }

@@ -116,7 +116,7 @@ back-fronts k t u L = record {
   links = λ i h. List·getD-append (u .links) (drop (k .links) (t .links)) (pos 0) i (omega (arith, h, L .links));
 }
 
-back-same : (k : Lent) (t : Tables) → giveBack k t (lend k t) ≡ t
+pub back-same : (k : Lent) (t : Tables) → giveBack k t (lend k t) ≡ t
 back-same k t = λ i. tables (take-append-drop (k .clauses) (t .clauses) i) (take-append-drop (k .literals) (t .literals) i) (take-append-drop (k .variables) (t .variables) i) (take-append-drop (k .times) (t .times) i) (take-append-drop (k .links) (t .links) i)
 
 -- ---- lists of calls

@@ -86,8 +86,8 @@ fn own_ok(variables: &[i32], w: usize, settled: bool) -> bool
     true
 }
 
-// The literals of one clause. `last` has for each variable the number of the clause in which it stood last, all below this clause's number.
-fn literals_ok(
+// The literals of one clause, in the tables or in the window. `last` has for each variable the number of the clause in which it stood last, all below this clause's number.
+pub fn literals_ok(
     literals: &[i32],
     variables: &[i32],
     start: usize,

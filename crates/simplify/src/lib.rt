@@ -65,7 +65,7 @@ fn simplify(
     ensures { λ r. ⌜ fits (replyOf r) (length (now (out .entry))) ⌝ }
 {
     let st = State::empty();
-    let loaded = load::load(text, clauses, literals, variables, times, links, st);
+    let loaded = load::load_tables(text, clauses, literals, variables, times, links, st);
     let answer = loaded.answer;
     if answer.number() != 0 {
         return answer;

@@ -8,30 +8,31 @@ use lib.IntN.{pos, negℤ}
 use Rattle.state.specs.Answers.{refusalNumber, refusalPlace, Reply, reply, replyOf, resultBy}
 use Rattle.state.specs.declared.Refusal.{Refusal}
 use Rattle.state.specs.declared.Answer.{Answer}
-use Rattle.state.specs.declared.Refusal.the-variants.{Shape, Grammar, Limit, OtherPass, Marked, Unsettled, Cyclic, Order, Stale, Short, Codes}
+use Rattle.state.specs.declared.Refusal.the-variants.{Shape, Grammar, Limit, OtherPass, Marked, Unsettled, Cyclic, Order, Stale, Short, Newcomer, Codes}
 use Rattle.state.specs.declared.Counts.{Counts}
-use Rattle.state.specs.declared.Answer.the-variants.{Refused, Loaded, Open, Done, Stamped, Failed, Ran, Written, Set}
+use Rattle.state.specs.declared.Answer.the-variants.{Refused, Loaded, Open, Done, Stamped, Failed, Ran, Written, Set, KeptWhole, KeptShort, NotKept}
 
 pub refusal-numbers : (p : ℕ) → refusalNumber Shape ∷ refusalNumber (Grammar p) ∷ refusalNumber (Limit p) ∷ refusalNumber OtherPass ∷ refusalNumber Marked ∷ refusalNumber (Unsettled p)
-    ∷ refusalNumber Cyclic ∷ refusalNumber (Order p) ∷ refusalNumber Stale ∷ refusalNumber (Short p) ∷ refusalNumber (Codes p) ∷ []
-    ≡ 1 ∷ 2 ∷ 3 ∷ 4 ∷ 5 ∷ 6 ∷ 7 ∷ 8 ∷ 9 ∷ 10 ∷ 12 ∷ []
+    ∷ refusalNumber Cyclic ∷ refusalNumber (Order p) ∷ refusalNumber Stale ∷ refusalNumber (Short p) ∷ refusalNumber Newcomer ∷ refusalNumber (Codes p) ∷ []
+    ≡ 1 ∷ 2 ∷ 3 ∷ 4 ∷ 5 ∷ 6 ∷ 7 ∷ 8 ∷ 9 ∷ 10 ∷ 11 ∷ 12 ∷ []
 refusal-numbers p = refl
 
--- 1, 4, 5, 7 and 9 name no place
+-- 1, 4, 5, 7, 9 and 11 name no place
 pub refusal-places : (p : ℕ) → refusalPlace Shape ∷ refusalPlace (Grammar p) ∷ refusalPlace (Limit p) ∷ refusalPlace OtherPass ∷ refusalPlace Marked ∷ refusalPlace (Unsettled p)
-    ∷ refusalPlace Cyclic ∷ refusalPlace (Order p) ∷ refusalPlace Stale ∷ refusalPlace (Short p) ∷ refusalPlace (Codes p) ∷ []
-    ≡ 0 ∷ p ∷ p ∷ 0 ∷ 0 ∷ p ∷ 0 ∷ p ∷ 0 ∷ p ∷ p ∷ []
+    ∷ refusalPlace Cyclic ∷ refusalPlace (Order p) ∷ refusalPlace Stale ∷ refusalPlace (Short p) ∷ refusalPlace Newcomer ∷ refusalPlace (Codes p) ∷ []
+    ≡ 0 ∷ p ∷ p ∷ 0 ∷ 0 ∷ p ∷ 0 ∷ p ∷ 0 ∷ p ∷ 0 ∷ p ∷ []
 refusal-places p = refl
 
 pub replies : (c : Counts) (p : ℕ) → (replyOf (Refused (Order p)) ≡ reply 0 8 (p ∷ [])) × (replyOf Loaded ≡ reply 1 0 []) × (replyOf (Open c) ≡ reply 2 0 (c .visits ∷ c .clauses ∷ c .literals ∷ []))
     × (replyOf (Done c) ≡ reply 3 0 (c .visits ∷ c .clauses ∷ c .literals ∷ [])) × (replyOf Stamped ≡ reply 4 0 []) × (replyOf (Failed p) ≡ reply 5 0 (p ∷ [])) × (replyOf (Ran p) ≡ reply 6 0 (p ∷ [])) × (replyOf (Written p) ≡ reply 7 0 (p ∷ [])) × (replyOf Set ≡ reply 8 0 [])
-replies c p = (refl, refl, refl, refl, refl, refl, refl, refl, refl)
+    × (replyOf (KeptWhole p) ≡ reply 9 0 (0 ∷ p ∷ [])) × (replyOf (KeptShort p) ≡ reply 10 0 (2 ∷ p ∷ [])) × (replyOf NotKept ≡ reply 11 0 (1 ∷ 0 ∷ []))
+replies c p = (refl, refl, refl, refl, refl, refl, refl, refl, refl, refl, refl, refl)
 
 -- ---- no two answers have the same reply
 
 -- the refusal of a number and a place
 abbrev refusalBy : ℕ → ℕ → Refusal
-refusalBy number place = getD (Shape ∷ Shape ∷ Grammar place ∷ Limit place ∷ OtherPass ∷ Marked ∷ Unsettled place ∷ Cyclic ∷ Order place ∷ Stale ∷ Short place ∷ Shape ∷ Codes place ∷ []) number Shape
+refusalBy number place = getD (Shape ∷ Shape ∷ Grammar place ∷ Limit place ∷ OtherPass ∷ Marked ∷ Unsettled place ∷ Cyclic ∷ Order place ∷ Stale ∷ Short place ∷ Newcomer ∷ Codes place ∷ []) number Shape
 
 refusal-back : (r : Refusal) → refusalBy (refusalNumber r) (refusalPlace r) ≡ r
 refusal-back Shape = refl
@@ -44,6 +45,7 @@ refusal-back Cyclic = refl
 refusal-back (Order index) = refl
 refusal-back Stale = refl
 refusal-back (Short needed) = refl
+refusal-back Newcomer = refl
 refusal-back (Codes index) = refl
 
 abbrev countsBy : List ℕ → Counts
@@ -52,7 +54,7 @@ countsBy values = record { visits = getD values 0 0; clauses = getD values 1 0; 
 -- the answer of a reply
 abbrev answerBy : Reply → Answer
 answerBy r =
-    getD (Refused (refusalBy (r .number) (getD (r .values) 0 0)) ∷ Loaded ∷ Open (countsBy (r .values)) ∷ Done (countsBy (r .values)) ∷ Stamped ∷ Failed (getD (r .values) 0 0) ∷ Ran (getD (r .values) 0 0) ∷ Written (getD (r .values) 0 0) ∷ Set ∷ [])
+    getD (Refused (refusalBy (r .number) (getD (r .values) 0 0)) ∷ Loaded ∷ Open (countsBy (r .values)) ∷ Done (countsBy (r .values)) ∷ Stamped ∷ Failed (getD (r .values) 0 0) ∷ Ran (getD (r .values) 0 0) ∷ Written (getD (r .values) 0 0) ∷ Set ∷ KeptWhole (getD (r .values) 1 0) ∷ KeptShort (getD (r .values) 1 0) ∷ NotKept ∷ [])
     (r .kind) Loaded
 
 answer-back : (a : Answer) → answerBy (replyOf a) ≡ a
@@ -65,6 +67,9 @@ answer-back (Failed set) = refl
 answer-back (Ran rounds) = refl
 answer-back (Written length) = refl
 answer-back Set = refl
+answer-back (KeptWhole left) = refl
+answer-back (KeptShort left) = refl
+answer-back NotKept = refl
 
 -- THE LAW: an answer is known by its reply
 pub reply-tells : (a b : Answer) → replyOf a ≡ replyOf b → a ≡ b
@@ -83,6 +88,7 @@ number-bounds Cyclic = (omega arith, omega arith)
 number-bounds (Order index) = (omega arith, omega arith)
 number-bounds Stale = (omega arith, omega arith)
 number-bounds (Short needed) = (omega arith, omega arith)
+number-bounds Newcomer = (omega arith, omega arith)
 number-bounds (Codes index) = (omega arith, omega arith)
 
 pub result-negative : (n v : ℕ) → 0 < n → resultBy n v ≡ negℤ (pos n)

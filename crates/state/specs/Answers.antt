@@ -4,11 +4,11 @@ use Prim.Native.Nat.{ℕ, zero, suc}
 use mathlib.Core.List.{List, [], _∷_}
 use lib.IntN.{ℤ, pos, negsuc}
 use Rattle.state.specs.declared.Refusal.{Refusal}
-use Rattle.state.specs.declared.Refusal.the-variants.{Shape, Grammar, Limit, OtherPass, Marked, Unsettled, Cyclic, Order, Stale, Short, Codes}
+use Rattle.state.specs.declared.Refusal.the-variants.{Shape, Grammar, Limit, OtherPass, Marked, Unsettled, Cyclic, Order, Stale, Short, Newcomer, Codes}
 use Rattle.state.specs.declared.Answer.{Answer}
-use Rattle.state.specs.declared.Answer.the-variants.{Refused, Loaded, Open, Done, Stamped, Failed, Ran, Written, Set}
+use Rattle.state.specs.declared.Answer.the-variants.{Refused, Loaded, Open, Done, Stamped, Failed, Ran, Written, Set, KeptWhole, KeptShort, NotKept}
 
--- the number that the documents give a refusal: 1 to 10 document 01, 12 document 02's CR 5
+-- the number that the documents give a refusal: 1 to 10 document 01, 11 and 12 document 02's CR 1 and CR 5
 abbrev pub refusalNumber : Refusal → ℕ
 refusalNumber Shape = 1
 refusalNumber (Grammar at) = 2
@@ -20,6 +20,7 @@ refusalNumber Cyclic = 7
 refusalNumber (Order index) = 8
 refusalNumber Stale = 9
 refusalNumber (Short needed) = 10
+refusalNumber Newcomer = 11
 refusalNumber (Codes index) = 12
 
 -- its place: an offset, a clause number, an index, the length needed, or 0
@@ -34,6 +35,7 @@ refusalPlace Cyclic = 0
 refusalPlace (Order index) = index
 refusalPlace Stale = 0
 refusalPlace (Short needed) = needed
+refusalPlace Newcomer = 0
 refusalPlace (Codes index) = index
 
 -- an answer in numbers: its kind, the refusal's number, or 0, and the values that come with it. No two answers have the same (law `reply-tells`)
@@ -45,7 +47,7 @@ pub record Reply : Type 0 where
 abbrev pub reply : ℕ → ℕ → List ℕ → Reply
 reply kind number values = record { kind = kind; number = number; values = values }
 
--- a refusal gives its place; Open and Done give visits made, clauses gone, literals gone; the others give the one number that they answer
+-- a refusal gives its place; Open and Done give visits made, clauses gone, literals gone; learn gives what becomes of the newcomer (0 kept whole, 1 dropped, 2 shortened) and the literals left; the others give the one number that they answer
 abbrev pub replyOf : Answer → Reply
 replyOf (Refused r) = reply 0 (refusalNumber r) (refusalPlace r ∷ [])
 replyOf Loaded = reply 1 0 []
@@ -56,6 +58,9 @@ replyOf (Failed set) = reply 5 0 (set ∷ [])
 replyOf (Ran rounds) = reply 6 0 (rounds ∷ [])
 replyOf (Written length) = reply 7 0 (length ∷ [])
 replyOf Set = reply 8 0 []
+replyOf (KeptWhole left) = reply 9 0 (0 ∷ left ∷ [])
+replyOf (KeptShort left) = reply 10 0 (2 ∷ left ∷ [])
+replyOf NotKept = reply 11 0 (1 ∷ 0 ∷ [])
 
 -- the first of the values: a refusal's place, the length written, ..; 0 where there is none
 abbrev pub firstValue : List ℕ → ℕ

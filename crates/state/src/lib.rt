@@ -136,6 +136,8 @@ pub enum Refusal {
     Stale,
     // the output is shorter than the length needed
     Short(usize),
+    // the learnt clause has more than 64 literals, or one that is 0, out of range or of a variable already in it
+    Newcomer,
     // the index of the first code that breaks the rules of programmes, 0 for a wrong length
     Codes(usize),
 }
@@ -155,6 +157,7 @@ impl Refusal {
             Refusal::Order(_) => 8,
             Refusal::Stale => 9,
             Refusal::Short(_) => 10,
+            Refusal::Newcomer => 11,
             Refusal::Codes(_) => 12,
         }
     }
@@ -174,6 +177,7 @@ impl Refusal {
             Refusal::Order(index) => index as u64,
             Refusal::Stale => 0,
             Refusal::Short(needed) => needed as u64,
+            Refusal::Newcomer => 0,
             Refusal::Codes(index) => index as u64,
         }
     }
@@ -204,6 +208,10 @@ pub enum Answer {
     Written(usize),
     // a programme is set
     Set,
+    // learn: the newcomer is kept whole or shortened, with the literals left, or dropped
+    KeptWhole(u32),
+    KeptShort(u32),
+    NotKept,
 }
 
 impl Answer {
@@ -217,7 +225,7 @@ impl Answer {
         0
     }
 
-    // The first value: a refusal's place, the visits made, the length written; 0 where there is none.
+    // The first value: a refusal's place, the visits made, the length written, what becomes of a learnt clause; 0 where there is none.
     pub fn value(self) -> u64
         ensures { λ r. ⌜ r ≡ firstValue (replyOf self .values) ⌝ }
     {
@@ -231,6 +239,9 @@ impl Answer {
             Answer::Ran(rounds) => rounds as u64,
             Answer::Written(length) => length as u64,
             Answer::Set => 0,
+            Answer::KeptWhole(_) => 0,
+            Answer::KeptShort(_) => 2,
+            Answer::NotKept => 1,
         }
     }
 }

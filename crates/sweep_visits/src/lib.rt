@@ -13,8 +13,8 @@ ghost use Rattle.hidden_tautologies.specs.Judged.{Judged};
 ghost use Rattle.sweep_visits.specs.Clause.{sweepClause};
 ghost use Rattle.sweep_visits.specs.Visits.{Sweepable, SweepableFrom};
 
-// A visit to the part of a standing clause. `slots` and `twins` are as long as the part, and only worked in.
-fn visit_part(
+// A visit to the part of a standing clause, or to a learnt clause. `slots` and `twins` are as long as the part, and only worked in.
+pub fn visit_part(
     part: &mut [i32],
     times: &[u32],
     links: &[i32],

@@ -22,6 +22,7 @@ struct tables {
 static struct tables by_load, by_plain;
 static uint32_t times[STAMP_PLACES];
 static int32_t links[STAMP_PLACES];
+static struct unhide_window window;
 static uint8_t copy[LENGTH];
 static int failed;
 
@@ -32,7 +33,8 @@ static int64_t run_load(const uint8_t *text, size_t length)
     uint32_t state[40] = {0};
     uint64_t answer[4] = {0};
     int64_t result = unhide_load(text, length, t->clauses, CLAUSE_PLACES + 1, t->literals, MAX_LITERALS + 1, t->variables,
-                                 VARIABLE_PLACES + 1, times, STAMP_PLACES, links, STAMP_PLACES, state, 40, answer, 4);
+                                 VARIABLE_PLACES + 1, times, STAMP_PLACES, links, STAMP_PLACES, state, 40, answer, 4, window.sizes,
+                                 UNHIDE_LEARNT, window.learnt[0], UNHIDE_LEARNT * UNHIDE_LEARNT_LITERALS, &window.numbers.clauses, 2);
     t->place = result < 0 ? answer[0] : 0;
     return result < 0 ? result : (int64_t)state[0];
 }

@@ -1,13 +1,15 @@
 -- `c_calls::unhide_load` meets its contract: the numbers cannot be read, or the call is made on them. Assumes nothing.
-use mathlib.Core.Path.{sym, _∙_}
+use mathlib.Core.Bool.{true}
+use mathlib.Core.Path.{_≡_, sym, _∙_}
 use mir.Syntax.{w64}
 use mir.Facts.{toZ-ofZ}
 use borrow.Author.Tests.{not-true, not-false}
 use borrow.Author.Needs.{sfits-of, needs}
 use Rattle.tables.specs.Tables.{Tables, tables}
-use Rattle.load.specs.Load.{loadCall}
-use Rattle.c_numbers.proofs.Reading.{ready-long}
-use Rattle.c_numbers.proofs.Calling.{unread-call, made-call}
+use Rattle.load.specs.Load.{loadWith}
+use Rattle.c_numbers.specs.WindowCalls.{readyWith}
+use Rattle.c_numbers.proofs.Reading.{ready-long, with-ready, with-long}
+use Rattle.c_numbers.proofs.CallingWith.{unread-load, made-load}
 use Rattle.c_calls.proofs.unhide_load.Statement.{statement}
 use Rattle.c_calls.proofs.unhide_load.Tie as tie
 
@@ -15,8 +17,15 @@ use Rattle.c_calls.proofs.unhide_load.Tie as tie
 abbrev lentTables : tie.Start → Tables
 lentTables s = let a = s .args in tables (a .clauses .now) (a .literals .now) (a .variables .now) (a .times .now) (a .links .now)
 
-ready-requires : tie.Need-ready-requires
-ready-requires c κs = search needs
+-- past the test, the numbers can be read
+abbrev start : tie.Else1 → tie.Start
+start c = c .before .before .before .before .before .before .before .before .before .before .before .before
+
+able : (c : tie.Else1) → let a = start c .args in readyWith (a .state .now) (a .answer .now) (a .window .now) ≡ true
+able c = sym (c .before .ready-with .ensures) ∙ not-false _ (c .if1 .left)
+
+ready-with-requires : tie.Need-ready-with-requires
+ready-with-requires c κs = search needs
 
 refuse-unread-requires : tie.Need-refuse-unread-requires
 refuse-unread-requires c κs = search needs
@@ -27,26 +36,34 @@ same-length c = search needs
 same-length-2 : tie.Need-same-length-2
 same-length-2 c = search needs
 
+same-length-3 : tie.Need-same-length-3
+same-length-3 c = search needs
+
 returns : tie.Need-returns
 returns c =
-    let s = c .before .before .before .before .before .before .before .before .before .before .before .before .before in
+    let s = c .before .before .before .before .before .before .before .before .before .before .before .before .before .before .before .before in
     let refused = c .before .before .refuse-unread in
-    unread-call (loadCall (s .args .text .now)) (lentTables s) (s .args .state .now) (s .args .answer .now) _ _
-    (sym (c .before .before .before .before .before .ready .ensures) ∙ not-true _ (c .before .before .before .before .if1 .taken)) (toZ-ofZ {w = w64} {z = refused .result} (sfits-of (refused .ok)) ∙ refused .ensures .0) (refused .ensures .1)
+    unread-load (loadWith (s .args .text .now)) (lentTables s) (s .args .state .now) (s .args .answer .now) (s .args .sizes .now) (s .args .learnt .now) (s .args .window .now) _ _
+    (sym (c .before .before .before .before .before .ready-with .ensures) ∙ not-true _ (c .before .before .before .before .if1 .taken)) (toZ-ofZ {w = w64} {z = refused .result} (sfits-of (refused .ok)) ∙ refused .ensures .0) (refused .ensures .1)
 
 state-at-requires : tie.Need-state-at-requires
 state-at-requires c κs =
-    let s = c .before .before .before .before .before .before .before .before .before .before in ready-long (s .args .state .now) (s .args .answer .now) (sym (c .before .before .ready .ensures) ∙ not-false _ (c .before .if1 .left)) .0
+    let s = start (c .before) in ready-long (s .args .state .now) (s .args .answer .now) (with-ready (s .args .state .now) (s .args .answer .now) (s .args .window .now) (able (c .before))) .0
+
+window-at-requires : tie.Need-window-at-requires
+window-at-requires c κs =
+    let s = start (c .before .before .before) in with-long (s .args .state .now) (s .args .answer .now) (s .args .window .now) (able (c .before .before .before))
 
 load-requires : tie.Need-load-requires
 load-requires c κs = search needs
 
+finish-window-requires : tie.Need-finish-window-requires
+finish-window-requires c κs =
+    let s = start (c .before .before .before .before .before .before .before .before .before .before .before .before .before .before .before .before .before .before .before) in with-long (s .args .state .now) (s .args .answer .now) (s .args .window .now) (able (c .before .before .before .before .before .before .before .before .before .before .before .before .before .before .before .before .before .before .before))
+
 finish-requires : tie.Need-finish-requires
 finish-requires c κs =
-    let s = c .before .before .before .before .before .before .before .before .before .before .before .before .before .before .before .before .before .before .before .before .before in ready-long (s .args .state .now) (s .args .answer .now) (sym (c .before .before .before .before .before .before .before .before .before .before .before .before .before .ready .ensures) ∙ not-false _ (c .before .before .before .before .before .before .before .before .before .before .before .before .if1 .left))
-
-same-length-3 : tie.Need-same-length-3
-same-length-3 c = search needs
+    let s = start (c .before .before .before .before .before .before .before .before .before .before .before .before .before .before .before .before .before .before .before .before .before .before .before .before) in ready-long (s .args .state .now) (s .args .answer .now) (with-ready (s .args .state .now) (s .args .answer .now) (s .args .window .now) (able (c .before .before .before .before .before .before .before .before .before .before .before .before .before .before .before .before .before .before .before .before .before .before .before .before)))
 
 same-length-4 : tie.Need-same-length-4
 same-length-4 c = search needs
@@ -60,30 +77,47 @@ same-length-6 c = search needs
 same-length-7 : tie.Need-same-length-7
 same-length-7 c = search needs
 
+same-length-8 : tie.Need-same-length-8
+same-length-8 c = search needs
+
+same-length-9 : tie.Need-same-length-9
+same-length-9 c = search needs
+
+same-length-10 : tie.Need-same-length-10
+same-length-10 c = search needs
+
+same-length-11 : tie.Need-same-length-11
+same-length-11 c = search needs
+
 returns-2 : tie.Need-returns-2
 returns-2 c =
-    let s = c .before .before .before .before .before .before .before .before .before .before .before .before .before .before .before .before .before .before .before .before .before .before .before .before .before .before in
-    let made = c .before .before .before .before .before .before .before .before .before .before .before .load in
+    let s = start (c .before .before .before .before .before .before .before .before .before .before .before .before .before .before .before .before .before .before .before .before .before .before .before .before .before .before .before .before .before) in
+    let made = c .before .before .before .before .before .before .before .before .before .before .before .before .before .before .before .before .before .before .before .load in
     let finished = c .before .before .before .before .finish in
-    made-call (loadCall (s .args .text .now)) (lentTables s) (s .args .state .now) (s .args .answer .now) _ (made .result) _ (finished .result) _ _ _
-    (sym (c .before .before .before .before .before .before .before .before .before .before .before .before .before .before .before .before .before .before .ready .ensures) ∙ not-false _ (c .before .before .before .before .before .before .before .before .before .before .before .before .before .before .before .before .before .if1 .left))
-    (c .before .before .before .before .before .before .before .before .before .before .before .before .before .before .before .state-at .ensures) (made .ensures) (toZ-ofZ {w = w64} {z = finished .result} (sfits-of (finished .ok))) (finished .ensures)
+    made-load (loadWith (s .args .text .now)) (lentTables s) (s .args .state .now) (s .args .answer .now) (s .args .sizes .now) (s .args .learnt .now) (s .args .window .now) _ _ (made .result) _ _ _ _ (able (c .before .before .before .before .before .before .before .before .before .before .before .before .before .before .before .before .before .before .before .before .before .before .before .before .before .before .before .before .before))
+    (c .before .before .before .before .before .before .before .before .before .before .before .before .before .before .before .before .before .before .before .before .before .before .before .before .before .before .before .state-at .ensures) (c .before .before .before .before .before .before .before .before .before .before .before .before .before .before .before .before .before .before .before .before .before .before .before .before .before .window-at .ensures) (made .ensures) (c .before .before .before .before .before .before .before .before .before .finish-window .ensures) _ (finished .result) _ _ (toZ-ofZ {w = w64} {z = finished .result} (sfits-of (finished .ok))) (finished .ensures)
 
 pub unhide-load-spec : {M : Type 1} → statement M
 unhide-load-spec =
     tie.close
     (tie.spec
-    ready-requires
+    ready-with-requires
     refuse-unread-requires
     same-length
     same-length-2
+    same-length-3
     returns
     state-at-requires
+    window-at-requires
     load-requires
+    finish-window-requires
     finish-requires
-    same-length-3
     same-length-4
     same-length-5
     same-length-6
     same-length-7
+    same-length-8
+    same-length-9
+    same-length-10
+    same-length-11
     returns-2)

@@ -4,20 +4,20 @@ use mathlib.Core.Path.{_≡_, sym, _∙_}
 use mathlib.Core.List.{List}
 use lib.IntN.{ℤ}
 use Rattle.tables.specs.Tables.{tables}
-use Rattle.tables.specs.Calls.{after}
-use Rattle.load.specs.Load.{loadCall}
+use Rattle.window.specs.Window.{places, afterWith}
+use Rattle.load.specs.Load.{loadWith}
 use Rattle.calls.specs.Calls.{held}
 use Rattle.calls.proofs.Short.{few-held, full, whole}
-use Rattle.calls.proofs.Refused.{load-short}
+use Rattle.calls.proofs.Refused.{load-with-short}
 use borrow.Author.Needs.{needs}
 use Rattle.calls.proofs.load_columns.Statement.{statement}
 use Rattle.calls.proofs.load_columns.Tie as tie
 
-refuse-short-requires : tie.Need-refuse-short-requires
-refuse-short-requires c κs = search needs
+refuse-short-windowed-requires : tie.Need-refuse-short-windowed-requires
+refuse-short-windowed-requires c κs = search needs
 
 returns : tie.Need-returns
-returns c = let a = c .before .before .before .before .before .args in c .refuse-short .ensures _ ∙ sym (load-short (held (a .clauses .now) (a .literals .now) (a .variables .now) (a .c)) (a .st) (few-held (a .c) (c .before .if1 .taken)) (a .text .now))
+returns c = let a = c .before .before .before .before .before .before .args in c .refuse-short-windowed .ensures _ _ _ ∙ sym (load-with-short (held (a .clauses .now) (a .literals .now) (a .variables .now) (a .c)) (a .st) (few-held (a .c) (c .before .if1 .taken)) (a .text .now) (places (a .sizes .now) (a .learnt .now) (a .window)))
 
 slice-aggregate-load : tie.Need-slice-aggregate-load
 slice-aggregate-load c = search needs
@@ -29,22 +29,32 @@ load-requires : tie.Need-load-requires
 load-requires c κs = search needs
 
 same-length : tie.Need-same-length
-same-length c = c .before .before .before .before .load .kept .1 .0
+same-length c = search needs
 
 same-length-2 : tie.Need-same-length-2
-same-length-2 c = c .before .before .before .before .load .kept .1 .1 .0
+same-length-2 c = search needs
 
 same-length-3 : tie.Need-same-length-3
-same-length-3 c = c .before .before .before .before .load .kept .1 .1 .1 .0
+same-length-3 c = search needs
+
+same-length-4 : tie.Need-same-length-4
+same-length-4 c = search needs
+
+same-length-5 : tie.Need-same-length-5
+same-length-5 c = search needs
 
 returns-2 : tie.Need-returns-2
-returns-2 c = let s = c .before .before .before .before .before .before .before .before .before .before .before .before .before .before .before .before in let a = s .args in whole (a .c) (c .before .before .before .before .before .before .before .before .before .before .before .before .if1 .left) (full (a .c) _ (s .good .1 .1 .1 .1 .0) .0) (full (a .c) _ (s .good .1 .1 .1 .1 .0) .1) (λ (ts : List ℕ) (ls : List ℤ). after (c .before .before .before .before .load .result) (tables (c .before .before .before .before .load .last .1 .0) (c .before .before .before .before .load .last .1 .1 .0) (c .before .before .before .before .load .last .1 .1 .1 .0) ts ls) ≡ loadCall (a .text .now) (tables (a .clauses .now) (a .literals .now) (a .variables .now) ts ls) (a .st)) (c .before .before .before .before .load .ensures)
+returns-2 c =
+    let s = c .before .before .before .before .before .before .before .before .before .before .before .before .before .before .before .before .before .before .before .before .before .before in
+    let a = s .args in
+    let m = c .before .before .before .before .before .before .before .load in
+    whole (a .c) (c .before .before .before .before .before .before .before .before .before .before .before .before .before .before .before .before .before .if1 .left) (full (a .c) _ (s .good .1 .1 .1 .1 .0) .0) (full (a .c) _ (s .good .1 .1 .1 .1 .0) .1) (λ (ts : List ℕ) (ls : List ℤ). afterWith (m .result) (tables (m .last .1 .0) (m .last .1 .1 .0) (m .last .1 .1 .1 .0) ts ls) (m .last .1 .1 .1 .1 .1 .1 .1 .0) (m .last .1 .1 .1 .1 .1 .1 .1 .1 .0) ≡ loadWith (a .text .now) (tables (a .clauses .now) (a .literals .now) (a .variables .now) ts ls) (a .st) (places (a .sizes .now) (a .learnt .now) (a .window))) (m .ensures)
 
 pub load-columns-spec : {M : Type 1} → statement M
 load-columns-spec =
     tie.close
     (tie.spec
-    refuse-short-requires
+    refuse-short-windowed-requires
     returns
     slice-aggregate-load
     slice-aggregate-load-2
@@ -52,4 +62,6 @@ load-columns-spec =
     same-length
     same-length-2
     same-length-3
+    same-length-4
+    same-length-5
     returns-2)

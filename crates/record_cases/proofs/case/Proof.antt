@@ -12,23 +12,23 @@ end-line-requires c κs = search needs
 empty-requires : tie.Need-empty-requires
 empty-requires c κs = search needs
 
-slice-aggregate-load : tie.Need-slice-aggregate-load
-slice-aggregate-load c = search needs
+slice-aggregate-load-tables : tie.Need-slice-aggregate-load-tables
+slice-aggregate-load-tables c = search needs
 
-slice-aggregate-load-2 : tie.Need-slice-aggregate-load-2
-slice-aggregate-load-2 c = search needs
+slice-aggregate-load-tables-2 : tie.Need-slice-aggregate-load-tables-2
+slice-aggregate-load-tables-2 c = search needs
 
-slice-aggregate-load-3 : tie.Need-slice-aggregate-load-3
-slice-aggregate-load-3 c = search needs
+slice-aggregate-load-tables-3 : tie.Need-slice-aggregate-load-tables-3
+slice-aggregate-load-tables-3 c = search needs
 
-slice-aggregate-load-4 : tie.Need-slice-aggregate-load-4
-slice-aggregate-load-4 c = search needs
+slice-aggregate-load-tables-4 : tie.Need-slice-aggregate-load-tables-4
+slice-aggregate-load-tables-4 c = search needs
 
-slice-aggregate-load-5 : tie.Need-slice-aggregate-load-5
-slice-aggregate-load-5 c = search needs
+slice-aggregate-load-tables-5 : tie.Need-slice-aggregate-load-tables-5
+slice-aggregate-load-tables-5 c = search needs
 
-load-requires : tie.Need-load-requires
-load-requires c κs = search needs
+load-tables-requires : tie.Need-load-tables-requires
+load-tables-requires c κs = search needs
 
 report-requires : tie.Need-report-requires
 report-requires c κs = search needs
@@ -85,12 +85,12 @@ case-spec =
     print-requires
     end-line-requires
     empty-requires
-    slice-aggregate-load
-    slice-aggregate-load-2
-    slice-aggregate-load-3
-    slice-aggregate-load-4
-    slice-aggregate-load-5
-    load-requires
+    slice-aggregate-load-tables
+    slice-aggregate-load-tables-2
+    slice-aggregate-load-tables-3
+    slice-aggregate-load-tables-4
+    slice-aggregate-load-tables-5
+    load-tables-requires
     report-requires
     slice-aggregate-simplify
     slice-aggregate-simplify-2

@@ -15,8 +15,8 @@ use Rattle.simplify.proofs.simplify.Tie as tie
 empty-requires : tie.Need-empty-requires
 empty-requires c κs = search needs
 
-load-requires : tie.Need-load-requires
-load-requires c κs = search needs
+load-tables-requires : tie.Need-load-tables-requires
+load-tables-requires c κs = search needs
 
 number-requires : tie.Need-number-requires
 number-requires c κs = search needs
@@ -39,7 +39,7 @@ same-length-5 c = search needs
 returns : tie.Need-returns
 returns c =
     let s = c .before .before .before .before .before .before .before .before .before .before .before .before .before .before .before .before .before in
-    let made = c .before .before .before .before .before .before .load in
+    let made = c .before .before .before .before .before .before .load-tables in
     let before = tables (now (s .args .clauses)) (now (s .args .literals)) (now (s .args .variables)) (now (s .args .times)) (now (s .args .links)) in
     let left = tables (made .last .1 .0) (made .last .1 .1 .0) (made .last .1 .1 .1 .0) (now (s .args .times)) (now (s .args .links)) in
     let loads : after (made .result) left ≡ loadCall (now (s .args .text)) before emptyState = made .ensures ∙ ap (λ (st : State). loadCall (now (s .args .text)) before st) (c .before .before .before .before .before .before .before .before .before .before .before .before .empty .ensures) in
@@ -70,7 +70,7 @@ same-length-11 c = search needs
 returns-2 : tie.Need-returns-2
 returns-2 c =
     let s = c .before .before .before .before .before .before .before .before .before .before .before .before .before .before .before .before .before .before .before .before .before .before .before .before .before .before .before .before .before .before .before .before .before in
-    let made = c .before .before .before .before .before .before .before .before .before .before .before .before .before .before .before .before .before .before .before .before .before .before .load in
+    let made = c .before .before .before .before .before .before .before .before .before .before .before .before .before .before .before .before .before .before .before .before .before .before .load-tables in
     let before = tables (now (s .args .clauses)) (now (s .args .literals)) (now (s .args .variables)) (now (s .args .times)) (now (s .args .links)) in
     let left = tables (made .last .1 .0) (made .last .1 .1 .0) (made .last .1 .1 .1 .0) (now (s .args .times)) (now (s .args .links)) in
     let loads : after (made .result) left ≡ loadCall (now (s .args .text)) before emptyState = made .ensures ∙ ap (λ (st : State). loadCall (now (s .args .text)) before st) (c .before .before .before .before .before .before .before .before .before .before .before .before .before .before .before .before .before .before .before .before .before .before .before .before .before .before .before .before .empty .ensures) in
@@ -82,7 +82,7 @@ simplify-spec =
     tie.close
     (tie.spec
     empty-requires
-    load-requires
+    load-tables-requires
     number-requires
     same-length
     same-length-2

@@ -1,0 +1,5 @@
+pub mod Judging
+pub mod Answering
+pub mod Entering
+pub mod Cases
+pub mod Ruled

@@ -1,0 +1,5 @@
+pub mod Kept
+pub mod Right
+pub mod Lists
+pub mod AsSweep
+pub mod Examples

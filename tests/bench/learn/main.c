@@ -1,0 +1,143 @@
+/* `learn KIND FILE` measures, on the tables of the formula in FILE, settled and stamped, one call of unhide_learn beside one call of unhide_sweep that
+ * opens the pass and makes no visit: both check the shape rule. Newcomers of 3 and of 64 literals, 256 of each that are kept under these stamps, are
+ * learnt in turn, with a full window of clauses of the same size, so that with every call the eldest leaves. It prints the medians of both, in
+ * nanoseconds of processor time, and their ratio; the exit status is 1 if it is above 1.2 for 3 literals or above 2 for 64. */
+#define _POSIX_C_SOURCE 200809L
+#include <stdio.h>
+#include <stdlib.h>
+#include <string.h>
+#include <time.h>
+
+#include "../../../include/unhide.h"
+
+enum { LENGTH = 1 << 20, NEWCOMERS = 256, SAMPLES = 41, CALLS = 64, MOST = UNHIDE_LEARNT_LITERALS };
+
+static uint8_t text[LENGTH];
+static struct unhide_tables tables;
+static struct unhide_answer answer;
+static int32_t newcomers[NEWCOMERS][MOST];
+static uint64_t seed = 1;
+
+static uint32_t draw(uint32_t below) {
+    seed = seed * 6364136223846793005u + 1442695040888963407u;
+    return (uint32_t)(seed >> 33) % below;
+}
+
+static int whole(int64_t (*pass)(struct unhide_tables *, uint16_t, struct unhide_answer *)) {
+    do {
+        if (pass(&tables, 65535, &answer) != 0)
+            return 0;
+    } while (answer.open);
+    return 1;
+}
+
+static int64_t stamp(void) {
+    static int32_t order[UNHIDE_SLOTS];
+    for (uint32_t v = 1; v <= tables.state.variables; v++) {
+        order[2 * v - 2] = (int32_t)v;
+        order[2 * v - 1] = -(int32_t)v;
+    }
+    return unhide_tables_stamp(&tables, order, 2 * tables.state.variables, &answer);
+}
+
+/* Whether the formula is settled and stamped. */
+static int prepare(size_t length) {
+    int64_t result;
+    if (unhide_tables_load(&tables, text, length, &answer) != 0)
+        return 0;
+    do {
+        if (!whole(unhide_tables_propagate) || !whole(unhide_tables_merge))
+            return 0;
+        result = stamp();
+    } while (result == UNHIDE_UNSETTLED || result == UNHIDE_CYCLE);
+    return result == 0;
+}
+
+/* A random clause of different variables. */
+static void draw_clause(int32_t *clause, uint32_t size) {
+    for (uint32_t i = 0; i < size; i++) {
+        uint32_t v, j;
+        do {
+            v = draw(tables.state.variables) + 1;
+            for (j = 0; j < i && clause[j] != (int32_t)v && clause[j] != -(int32_t)v; j++)
+                ;
+        } while (j < i);
+        clause[i] = draw(2) ? (int32_t)v : -(int32_t)v;
+    }
+}
+
+/* Newcomers that are kept whole, which also fill the window; whether there are enough. */
+static int find_newcomers(uint32_t size) {
+    int found = 0;
+    for (int tries = 0; found < NEWCOMERS && tries < 100 * NEWCOMERS; tries++) {
+        draw_clause(newcomers[found], size);
+        if (unhide_tables_learn(&tables, newcomers[found], size, &answer) != 0)
+            return 0;
+        found += answer.value == UNHIDE_KEPT;
+    }
+    return found == NEWCOMERS;
+}
+
+static double now(void) {
+    struct timespec t;
+    clock_gettime(CLOCK_PROCESS_CPUTIME_ID, &t);
+    return 1e9 * (double)t.tv_sec + (double)t.tv_nsec;
+}
+
+static int refused;
+
+/* Nanoseconds of one learn, of CALLS in a row. */
+static double time_learn(uint32_t size) {
+    double start = now();
+    for (int i = 0; i < CALLS; i++)
+        refused |= unhide_tables_learn(&tables, newcomers[draw(NEWCOMERS)], size, &answer) != 0;
+    return (now() - start) / CALLS;
+}
+
+/* Nanoseconds of one Sweep that opens and makes no visit. The state is put back after each. */
+static double time_sweep(void) {
+    static struct unhide_state before;
+    before = tables.state;
+    double start = now();
+    for (int i = 0; i < CALLS; i++) {
+        refused |= unhide_tables_sweep(&tables, 0, &answer) != 0;
+        tables.state = before;
+    }
+    return (now() - start) / CALLS;
+}
+
+static int by_size(const void *a, const void *b) {
+    double x = *(const double *)a, y = *(const double *)b;
+    return (x > y) - (x < y);
+}
+
+static int measure(const char *kind, uint32_t size, double most) {
+    double learn[SAMPLES], sweep[SAMPLES];
+    if (!find_newcomers(size)) {
+        printf("%-14s %8u literals: too few are kept, nothing is measured\n", kind, size);
+        return 0;
+    }
+    for (int i = 0; i < SAMPLES; i++) {
+        learn[i] = time_learn(size);
+        sweep[i] = time_sweep();
+    }
+    qsort(learn, SAMPLES, sizeof learn[0], by_size);
+    qsort(sweep, SAMPLES, sizeof sweep[0], by_size);
+    double ratio = learn[SAMPLES / 2] / sweep[SAMPLES / 2];
+    printf("%-14s %8u %10.0f %10.0f %8.2f\n", kind, size, learn[SAMPLES / 2], sweep[SAMPLES / 2], ratio);
+    return refused || ratio > most;
+}
+
+int main(int argc, char **argv) {
+    FILE *file = argc == 3 ? fopen(argv[2], "rb") : NULL;
+    if (file == NULL)
+        return 2;
+    size_t length = fread(text, 1, LENGTH, file);
+    fclose(file);
+    if (!prepare(length))
+        return 2;
+    int slow = measure(argv[1], 3, 1.2);
+    if (tables.state.variables >= MOST)
+        slow |= measure(argv[1], MOST, 2);
+    return slow;
+}
