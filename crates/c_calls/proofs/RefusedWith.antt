@@ -113,18 +113,18 @@ module _ (t : Tables) (s a sizes : List ℕ) (learnt : List ℤ) (w : List ℕ) 
     on-read = call t (stateOf s) (places sizes learnt (windowAt w))
 
     -- THE LAW for a load, with `load-with-keeps`
-    pub load-leaves : LoadLeft (loadC call t s a sizes learnt w)
+    pub refused-load : LoadLeft (loadC call t s a sizes learnt w)
     unfolding loadC
-    load-leaves = reading (readyWith s a w)
+    refused-load = reading (readyWith s a w)
       where
         reading : (b : Bool) → LoadLeft (elim b as (λ _. AfterLoadC) [ true ↦ toldLoad on-read s a w | false ↦ afterLoadC (afterC (resultBy 1 0) (refuseUnread a) s t) sizes learnt w ])
         reading true = told-load-leaves on-read (windowAt w) (keeps t (stateOf s) (places sizes learnt (windowAt w)))
         reading false = inr (unread-behind a, refl, refl, refl, refl, refl)
 
     -- THE LAW for a learnt clause, with `learn-keeps`
-    pub learn-leaves : LearnLeft (learnC call t s a sizes learnt w)
+    pub refused-learn : LearnLeft (learnC call t s a sizes learnt w)
     unfolding learnC
-    learn-leaves = reading (readyWith s a w)
+    refused-learn = reading (readyWith s a w)
       where
         reading : (b : Bool) → LearnLeft (elim b as (λ _. AfterLearnC) [ true ↦ toldLearn on-read a w | false ↦ afterLearnC (resultBy 1 0) (refuseUnread a) sizes learnt w ])
         reading true = told-learn-leaves on-read (windowAt w) (keeps t (stateOf s) (places sizes learnt (windowAt w)))

@@ -1,5 +1,5 @@
 -- The calls that take the window, as C makes them. The window's tables are lent as they are; its number of clauses and its literal total are two numbers at the front of a slice, and numbers behind them stay.
--- Refusal 1 with place 0, before anything else is looked at, also where this slice has fewer than 2 numbers. A refused call leaves the window as it is (laws `load-leaves` and `learn-leaves`, crate c_calls), and what is read back is what was put (law `window-back`). Assumes nothing: these are definitions.
+-- Refusal 1 with place 0, before anything else is looked at, also where this slice has fewer than 2 numbers. A refused call leaves the window as it is (laws `refused-load` and `refused-learn`, crate c_calls), and what is read back is what was put (law `window-back`). Assumes nothing: these are definitions.
 use Prim.Native.Nat.{ℕ, zero, suc}
 use mathlib.Core.Bool.{Bool, true, false, _&&_}
 use mathlib.Core.List.{List, [], _∷_}

@@ -30,7 +30,7 @@ keptAs before now = elim (eqb now before) [ true ↦ KeptWhole now | false ↦ K
 abbrev pub keptWith : ℕ → List ℤ → Tables → State → Places → AfterWindow
 keptWith before D t st w = afterWindow (answered (keptAs before (length D)) st t) (keep D w)
 
--- by what Sweep's rule makes of the newcomer's literals. The last two cases are no fates of that rule (law `sweep-fates`)
+-- by what Sweep's rule makes of the newcomer's literals. The last two cases are no fates of that rule (law `sweep-cases`)
 abbrev pub learnBy : Fate → List ℤ → Tables → State → Places → AfterWindow
 learnBy kept C t st w = keptWith (length C) C t st w
 learnBy (left D) C t st w = keptWith (length C) D t st w

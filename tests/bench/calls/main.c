@@ -3,44 +3,13 @@
 #include <stdio.h>
 #include <string.h>
 
-#include "../../../include/unhide.h"
+#include "../stamped.h"
 
-enum { LENGTH = 1 << 20 };
-
-static uint8_t text[LENGTH], out[LENGTH];
-static struct unhide_tables tables;
-static struct unhide_answer answer;
-
-/* A whole pass, in as many calls as it takes; whether none was refused. */
-static int whole(int64_t (*pass)(struct unhide_tables *, uint16_t, struct unhide_answer *)) {
-    do {
-        if (pass(&tables, 65535, &answer) != 0)
-            return 0;
-    } while (answer.open);
-    return 1;
-}
-
-/* Stamps in the order of a run's first round. */
-static int64_t stamp(void) {
-    static int32_t order[UNHIDE_SLOTS];
-    for (uint32_t v = 1; v <= tables.state.variables; v++) {
-        order[2 * v - 2] = (int32_t)v;
-        order[2 * v - 1] = -(int32_t)v;
-    }
-    return unhide_tables_stamp(&tables, order, 2 * tables.state.variables, &answer);
-}
+static uint8_t out[LENGTH];
 
 /* The length written, or -1 where a call is refused. */
 static int64_t simplify_tables(size_t length) {
-    if (unhide_tables_load(&tables, text, length, &answer) != 0)
-        return -1;
-    int64_t result;
-    do {
-        if (!whole(unhide_tables_propagate) || !whole(unhide_tables_merge))
-            return -1;
-        result = stamp();
-    } while (result == UNHIDE_UNSETTLED || result == UNHIDE_CYCLE);
-    if (result != 0 || unhide_tables_failed(&tables, &answer) != 0)
+    if (!load_stamped(length) || unhide_tables_failed(&tables, &answer) != 0)
         return -1;
     if (unhide_tables_sweep(&tables, 65535, &answer) != 0)
         return -1;

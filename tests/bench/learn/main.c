@@ -8,49 +8,16 @@
 #include <string.h>
 #include <time.h>
 
-#include "../../../include/unhide.h"
+#include "../stamped.h"
 
-enum { LENGTH = 1 << 20, NEWCOMERS = 256, SAMPLES = 41, CALLS = 64, MOST = UNHIDE_LEARNT_LITERALS };
+enum { NEWCOMERS = 256, SAMPLES = 41, CALLS = 64, MOST = UNHIDE_LEARNT_LITERALS };
 
-static uint8_t text[LENGTH];
-static struct unhide_tables tables;
-static struct unhide_answer answer;
 static int32_t newcomers[NEWCOMERS][MOST];
 static uint64_t seed = 1;
 
 static uint32_t draw(uint32_t below) {
     seed = seed * 6364136223846793005u + 1442695040888963407u;
     return (uint32_t)(seed >> 33) % below;
-}
-
-static int whole(int64_t (*pass)(struct unhide_tables *, uint16_t, struct unhide_answer *)) {
-    do {
-        if (pass(&tables, 65535, &answer) != 0)
-            return 0;
-    } while (answer.open);
-    return 1;
-}
-
-static int64_t stamp(void) {
-    static int32_t order[UNHIDE_SLOTS];
-    for (uint32_t v = 1; v <= tables.state.variables; v++) {
-        order[2 * v - 2] = (int32_t)v;
-        order[2 * v - 1] = -(int32_t)v;
-    }
-    return unhide_tables_stamp(&tables, order, 2 * tables.state.variables, &answer);
-}
-
-/* Whether the formula is settled and stamped. */
-static int prepare(size_t length) {
-    int64_t result;
-    if (unhide_tables_load(&tables, text, length, &answer) != 0)
-        return 0;
-    do {
-        if (!whole(unhide_tables_propagate) || !whole(unhide_tables_merge))
-            return 0;
-        result = stamp();
-    } while (result == UNHIDE_UNSETTLED || result == UNHIDE_CYCLE);
-    return result == 0;
 }
 
 /* A random clause of different variables. */
@@ -134,7 +101,7 @@ int main(int argc, char **argv) {
         return 2;
     size_t length = fread(text, 1, LENGTH, file);
     fclose(file);
-    if (!prepare(length))
+    if (!load_stamped(length))
         return 2;
     int slow = measure(argv[1], 3, 1.2);
     if (tables.state.variables >= MOST)
