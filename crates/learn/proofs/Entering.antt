@@ -1,14 +1,11 @@
 -- The call of a learnt clause, by what the tests of its refusals have shown. Assumes nothing.
-use Prim.Native.Nat.{ℕ, _+_}
+use Prim.Native.Nat.{ℕ}
 use native.Mathlib.Omega.{arith}
-use mathlib.Core.Path.{_≡_, sym, ap, subst, _∙_}
+use mathlib.Core.Path.{_≡_, sym, ap, _∙_}
 use mathlib.Core.Bool.{Bool, true, false}
 use mathlib.Core.List.{List}
-use lib.ListN.{length, getD}
-use lib.IntN.{ℤ, pos}
+use lib.IntN.{ℤ}
 use Rattle.base.specs.Decide.{Decides}
-use Rattle.literal.specs.Literals.{Literal}
-use Rattle.clause_slots.specs.Stamped.{Stamped}
 use Rattle.hidden_tautologies.specs.Judged.{Judged}
 use Rattle.stamp_columns.specs.Columns.{columns}
 use Rattle.state.specs.declared.State.{State}
@@ -23,9 +20,10 @@ use Rattle.entry.specs.declared.Opening.{Opening}
 use Rattle.entry.specs.declared.Opening.the-variants.{Denied, Granted}
 use Rattle.sweep_visits.specs.Clause.{sweepClause}
 use Rattle.window.specs.Window.{Places, AfterWindow, refuseWith}
-use Rattle.window.specs.Rule.{Newcomer, WindowRule, learnableOk, learnable-agrees, windowOk, window-agrees}
+use Rattle.window.specs.Rule.{Newcomer, WindowRule, learnable-agrees, windowOk, window-agrees}
 use Rattle.learn.specs.Learn.{learnBy, learnIf, learnUnlessStale, learnOpening, learnRuled, learnCall}
 use Rattle.learn.specs.Ready.{Ready}
+use Rattle.learn.proofs.Cases.{newcomer-fits}
 
 -- what the shape rule leaves to the call
 pub ready : (t : Tables) (st : State) → shapeOk t st ≡ true → Ready (t .variables) (t .times) (t .links) st
@@ -41,7 +39,7 @@ ready t st e = record {
 
 -- a newcomer that can be judged
 pub can-judge : {variables : List ℤ} {times : List ℕ} {links : List ℤ} {st : State} (C : List ℤ) → Ready variables times links st → st .fresh ≡ true → Newcomer (st .v) C → Judged times links C
-can-judge {st = st} C R fresh N = record { vars = st .v; stamped = R .stamped fresh; long = R .long; each = λ k h. subst (λ (i : ℕ). Literal (st .v) (getD C i (pos 0))) (let q : 0 + k ≡ k = omega arith in q) (N .ranged k h) }
+can-judge {st = st} C R fresh N = record { vars = st .v; stamped = R .stamped fresh; long = R .long; each = newcomer-fits N .ranged }
 
 module _ (C : List ℤ) (t : Tables) (st : State) (w : Places) where
   -- ---- 9 and 11

@@ -1,11 +1,8 @@
 -- A worked run of newcomers, through load, Stamp and learn, by computation. The formula is P2, (−1 2)(−2 3)(1 3 4), stamped under 1, −1, 2, −2, ..: 1 holds 2 and 3, −3 holds −2 and −1.
 -- A pair of the formula is kept whole; 1 goes where 3 stays; the pair that the chain from 1 to 3 implies is dropped; so is a longer clause with that pair; the empty clause and a clause with a variable twice.
 -- Assumes nothing.
-use Prim.Native.String.{String}
-use Prim.Native.Nat.{ℕ, zero, suc}
 use native.Mathlib.Decide.{ℕ-discrete, decLe, decLt}
 use mathlib.Core.Path.{_≡_, refl}
-use mathlib.Core.Bool.{Bool, true, false}
 use mathlib.Core.List.{List, [], _∷_}
 use lib.ListN.{replicate}
 use lib.IntN.{ℤ, pos, negsuc}

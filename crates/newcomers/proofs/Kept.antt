@@ -2,10 +2,10 @@
 --     newcomer-dropped  while stamps are fresh, a clause that the rule drops has a true literal under every assignment that satisfies what stands
 --     newcomer-left     and one that the rule shortens is true under the same of these assignments as before
 -- The clause is one of literals of the variables, no variable twice. Assumes nothing.
-use Prim.Native.Nat.{ℕ, _*_, _≤_, _<_}
+use Prim.Native.Nat.{ℕ, _*_, _<_}
 use native.Mathlib.Omega.{arith}
 use mathlib.Core.Path.{_≡_, sym, ap, subst}
-use mathlib.Core.Bool.{Bool, true, false, false≢true}
+use mathlib.Core.Bool.{true, false, false≢true}
 use mathlib.Core.Logic.{_↔_}
 use mathlib.Core.List.{List, map, Sublistᴰ}
 use lib.ListN.{length, getD}
@@ -20,7 +20,7 @@ use Rattle.stamp_columns.specs.Columns.{columns}
 use Rattle.hidden.proofs.Intervals.{Within}
 use Rattle.state.specs.declared.State.{State}
 use Rattle.tables.specs.Tables.{Tables}
-use Rattle.tables.specs.Fates.{Fate, kept, left, dropped}
+use Rattle.tables.specs.Fates.{Fate, left, dropped}
 use Rattle.tables.specs.Stands.{Stands}
 use Rattle.shape.specs.Shape.{settledTo}
 use Rattle.visits.specs.Formed.{FitClause}

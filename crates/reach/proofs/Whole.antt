@@ -3,10 +3,10 @@ use Prim.Native.Nat.{ℕ, zero, suc, _≤_, _<_}
 use native.Mathlib.Omega.{arith}
 use mathlib.Core.Path.{_≡_, refl, sym, ap, _∙_}
 use mathlib.Core.Logic.{_⊎_, inl, inr, ⊎-elim}
-use mathlib.Core.List.{List, [], _∷_, map, Sublistᴰ}
+use mathlib.Core.List.{List, [], _∷_, map}
 use lib.ListN.{length, getD, length-map}
 use Rattle.base.specs.Decide.{same-or, le-or}
-use Rattle.base.proofs.Lists.{sub-length, sub-full}
+use Rattle.base.proofs.Lists.{sub-full}
 use Rattle.literal.specs.Literals.{slotOf}
 use Rattle.walk.specs.Walk.{Stamps}
 use Rattle.state.specs.declared.State.{State}

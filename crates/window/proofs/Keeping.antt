@@ -1,7 +1,7 @@
 -- THE LAW: a clause that 11 does not forbid, kept in a window that keeps the rule, leaves one that does (`keep-ruled`). Assumes nothing.
 use Prim.Native.Nat.{ℕ, zero, suc, _+_, _*_, _-_, _≤_, _<_}
 use native.Mathlib.Omega.{arith}
-use mathlib.Core.Path.{_≡_, refl, sym, ap, subst, subst₂, _∙_}
+use mathlib.Core.Path.{_≡_, refl, sym, ap, subst, _∙_}
 use mathlib.Core.Bool.{Bool, true, false}
 use mathlib.Core.Logic.{⊎-elim}
 use mathlib.Core.List.{List}
@@ -12,7 +12,7 @@ use lib.IntN.{ℤ, pos, natAbs}
 use Rattle.base.specs.Decide.{same-or}
 use Rattle.literal.specs.Literals.{Literal}
 use Rattle.window.specs.Window.{Places, sizeOf, totalOf, eldestLeft, put, keep}
-use Rattle.window.specs.Rule.{Learnable, Newcomer, LongWindow, WindowRule, Full, Room}
+use Rattle.window.specs.Rule.{Learnable, Newcomer, WindowRule, Full, Room}
 use Rattle.window.proofs.Checking.{total-step}
 use Rattle.window.proofs.Places.{put-long, put-size, put-size-last, put-place, put-place-last, left-long, left-size, left-place}
 

@@ -1,13 +1,12 @@
 -- The places of a window when a clause goes behind the others, and when the eldest leaves. Assumes nothing.
 use Prim.Native.Nat.{ℕ, suc, _+_, _*_, _-_, _≤_, _<_}
 use native.Mathlib.Omega.{arith}
-use native.Mathlib.Numerals.{add-one}
-use mathlib.Core.Path.{_≡_, refl, sym, ap, _∙_}
+use mathlib.Core.Path.{_≡_, sym, ap, _∙_}
 use mathlib.Core.List.{List, _++_}
-use lib.ListN.{length, getD, take, drop, set, replicate, length-append, length-set, length-replicate, List·getD-append}
+use lib.ListN.{length, getD, take, drop, replicate, length-append, length-set, length-replicate, List·getD-append}
 use lib.Seq.{sets, sets-eq, length-sets, getD-take, getD-append-add, getD-set-same, getD-set-other, length-take-le}
 use lib.IntN.{ℤ, pos}
-use Rattle.window.specs.Window.{Places, sizeOf, recordOf, movedDown, eldestLeft, put}
+use Rattle.window.specs.Window.{Places, sizeOf, recordOf, eldestLeft, put}
 use Rattle.window.specs.Rule.{LongWindow}
 use Rattle.window.proofs.Moving.{moved-length, moved-low}
 

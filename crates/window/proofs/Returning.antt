@@ -6,11 +6,9 @@ use mathlib.Core.Bool.{Bool, true, false}
 use mathlib.Core.List.{List, _++_, append-assoc}
 use lib.ListN.{length, take, drop, set, length-drop}
 use lib.Seq.{sets, sets-eq, take-all, length-take-le}
-use lib.Dec.{eqb}
 use borrow.Author.Tests.{eq-eqb, ne-eqb}
 use borrow.Rule.Slice.PartMut.{putMid, post-is}
 use lib.IntN.{ℤ}
-use Rattle.window.specs.declared.Window.{Window}
 use Rattle.window.specs.Window.{Places, places, windowOf, sizeOf, recordOf, movedDown, eldestLeft, put, keep}
 use Rattle.window.specs.Rule.{Room}
 

@@ -1,6 +1,5 @@
 -- `learn::kept_as` meets its contract. Assumes nothing.
 use Rattle.learn.proofs.Answering.{kept-whole, kept-short}
-use borrow.Author.Needs.{needs}
 use Rattle.learn.proofs.kept_as.Statement.{statement}
 use Rattle.learn.proofs.kept_as.Tie as tie
 

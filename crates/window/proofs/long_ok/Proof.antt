@@ -1,7 +1,6 @@
 -- `window::long_ok` meets its contract. Assumes nothing.
 use native.Mathlib.Omega.{arith}
 use Rattle.base.specs.Decide.{says-yes, says-no}
-use borrow.Author.Needs.{needs}
 use Rattle.window.proofs.long_ok.Statement.{statement}
 use Rattle.window.proofs.long_ok.Tie as tie
 use Rattle.window.proofs.long_ok.Reads as reads
