@@ -8,6 +8,7 @@
  *     programme C C ..            the codes that `run` follows, at most 64, each 0 to 255
  *     learn L L ..                a learnt clause, at most 4,096 literals
  *     write K                     into an output of K bytes, at most 131,072
+ *     explain I K                 what a Sweep would do to clause I, and why, into an output of K bytes, at most 131,072
  *     state, codes, clauses, literals, variables, stamps, window
  *     compare P Q                 how the intervals of two literals lie, by the stamps as they stand
  *     lend TABLE K                from now on the calls are lent the first K records of a table
@@ -408,8 +409,10 @@ static int take_programme(const struct line *line) {
     return 1;
 }
 
+/* The outputs of the calls that write text. */
+static uint8_t room[MOST_ROOM];
+
 static int take_write(const struct line *line) {
-    static uint8_t room[MOST_ROOM];
     int64_t length;
     if (!read_number(line->words[1], 0, MOST_ROOM, &length))
         return 0;
@@ -422,6 +425,25 @@ static int take_write(const struct line *line) {
     print_answer(result, "written", 1);
     if (result == 0)
         fwrite(room, 1, (size_t)answer[0], stdout);
+    return 1;
+}
+
+static int take_explain(const struct line *line) {
+    int64_t number, length;
+    if (!read_number(line->words[1], 0, UINT32_MAX, &number) || !read_number(line->words[2], 0, MOST_ROOM, &length))
+        return 0;
+    size_t size = (size_t)length;
+    struct loan loan = lend_all();
+    uint8_t *out = lend(room, size);
+    int64_t result = unhide_explain(LENT(loan), (uint32_t)number, out, size);
+    take_back(room, out, size);
+    take_all_back(loan);
+    if (result != 0) {
+        print_refusal(result);
+        return 1;
+    }
+    printf("explained %" PRIu64 " %" PRIu64 " %" PRIu64 "\n", answer[0], answer[1], answer[2]);
+    fwrite(room, 1, (size_t)answer[2], stdout);
     return 1;
 }
 
@@ -631,6 +653,7 @@ static const struct form forms[] = {
     {"run", 2, take_run},
     {"programme", 0, take_programme},
     {"write", 2, take_write},
+    {"explain", 3, take_explain},
     {"state", 1, take_state},
     {"codes", 1, take_codes},
     {"clauses", 1, take_clauses},

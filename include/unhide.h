@@ -25,8 +25,8 @@ extern "C" {
  *    -3   the formula is larger than the limits above, names a variable that its header does not have,
  *         or has more or fewer clauses than its header says
  *   -10   the output is shorter than the text to write
- * The other refusals of the library, -1, -4 to -9, -11 and -12, are about tables, passes, stamps, learnt clauses and programmes that a
- * caller lends; here none of these is lent, and the rounds are those of the constant programme.
+ * The other refusals of the library, -1, -4 to -9 and -11 to -13, are about tables, passes, stamps, learnt clauses, programmes and clause
+ * numbers that a caller gives; here none of these is given, and the rounds are those of the constant programme.
  * The same law says that nothing else is returned.
  *
  * A formula that has an empty clause is written without a round, as `p cnf V 1` and the clause `0`; a formula that turns out
@@ -55,11 +55,14 @@ int64_t unhide_text(const uint8_t *text, size_t text_len, uint16_t rounds, uint8
  *   unhide_run             at most `count` rounds of the state's programme
  *   unhide_set_programme   replaces the state's programme; changes nothing else
  *   unhide_write           writes what stands as DIMACS text; changes neither tables nor state
+ *   unhide_explain         says what a Sweep would do to a clause, under fresh stamps, and writes the chains of literals that show why;
+ *                          changes neither tables nor state
  *   unhide_compare         says how the intervals of two literals lie, by the stamps as they stand; needs no state and changes nothing
  *
  * A call of Propagate, Merge or Sweep opens its pass, or resumes it where it is open, and makes at most n visits to clauses; Propagate goes
  * through the clauses again until one time through changes nothing. Where the answer says open, visits are left, and another call
- * goes on where this one stopped. While a pass is open the other passes, Learn and Run are refused; Load, Write and Set programme are not.
+ * goes on where this one stopped. While a pass is open the other passes, Learn, Explain and Run are refused; Load, Write and Set programme
+ * are not.
  * Opening Propagate or Merge, the end of Sweep, the mark and a load spend the stamps: they are fresh no more.
  *
  * Most callers use unhide_tables_load and so on, further below, with one `struct unhide_tables`. The calls that these make take a pointer
@@ -95,9 +98,9 @@ enum unhide_refusal {
      * then nothing was loaded, or the caller has written into them; Learn: the window breaks its rules (struct unhide_window).
      * Compare looks at no rules: it refuses fewer times than stated and literals that are not of the variables */
     UNHIDE_SHAPE = -1,
-    /* the passes, Learn and Run: a pass is open, other than the one that this call resumes */
+    /* the passes, Learn, Explain and Run: a pass is open, other than the one that this call resumes */
     UNHIDE_OTHER_PASS = -4,
-    /* the passes, Learn and Run: the mark is set, no assignment satisfies the formula */
+    /* the passes, Learn, Explain and Run: the mark is set, no assignment satisfies the formula */
     UNHIDE_MARKED = -5,
     /* Stamp: the list is not all 2V literals, each once. Place: the index of the first wrong entry, 0 for a wrong length */
     UNHIDE_ORDER = -8,
@@ -105,13 +108,15 @@ enum unhide_refusal {
     UNHIDE_UNSETTLED = -6,
     /* Stamp: two different literals imply each other */
     UNHIDE_CYCLE = -7,
-    /* Failed, Sweep, Learn: the stamps are not fresh */
+    /* Failed, Sweep, Learn, Explain: the stamps are not fresh */
     UNHIDE_STALE = -9,
     /* Load: the text breaks the grammar. Place: the offset in the text */
     UNHIDE_GRAMMAR = -2,
     /* Load: the text is beyond a limit, or has more or fewer clauses than its header says. Place: the offset in the text */
     UNHIDE_LIMIT = -3,
-    /* Write: the output is too short. Place: the length that is needed, at most 135,184 */
+    /* Explain: no clause has this number, or the clause was dropped */
+    UNHIDE_NO_CLAUSE = -13,
+    /* Write, Explain: the output is too short. Place: the length that is needed, for Write at most 135,184 */
     UNHIDE_OUTPUT = -10,
     /* Learn: the clause has more than 64 literals, or one that is 0, not of the variables or of a variable already in it */
     UNHIDE_NEWCOMER = -11,
@@ -209,6 +214,14 @@ enum unhide_verdict {
     UNHIDE_SHORTENED = 2
 };
 
+/* What Explain answers first: what a Sweep's visit to the clause would do. It would leave the clause as it is, drop it, or take literals out
+ * of it. */
+enum unhide_explanation {
+    UNHIDE_WOULD_STAY = 0,
+    UNHIDE_WOULD_DROP = 1,
+    UNHIDE_WOULD_SHORTEN = 2
+};
+
 /* All that a formula needs. These are 172,456 bytes: too many for a small stack. */
 struct unhide_tables {
     struct unhide_clause clauses[UNHIDE_CLAUSES];
@@ -222,9 +235,11 @@ struct unhide_tables {
 
 /* What a call answers where it was made, 0 where it has nothing to say:
  *   `value`   Propagate, Merge, Sweep: visits made; Failed: values set; Run: rounds made; Write: bytes written;
- *             Learn: a number of enum unhide_verdict
+ *             Learn: a number of enum unhide_verdict; Explain: a number of enum unhide_explanation
  *   the rest  Propagate, Merge, Sweep: standing clauses and literals that are gone by this call, and 1 if the pass is still open;
- *             Learn: the literals that are left, in `clauses_gone` (unhide_left reads it)
+ *             Learn: the literals that are left, in `clauses_gone` (unhide_left reads it);
+ *             Explain: the literals that would be taken out, in `clauses_gone`, and the bytes written, in `literals_gone`
+ *             (unhide_taken_out and unhide_chain_bytes read them)
  * Where it is refused, `value` is the place of the refusal, and the rest stays. */
 struct unhide_answer {
     uint64_t value, clauses_gone, literals_gone, open;
@@ -234,6 +249,18 @@ struct unhide_answer {
 static inline uint64_t unhide_left(const struct unhide_answer *answer)
 {
     return answer->clauses_gone;
+}
+
+/* The literals that a Sweep would take out of a clause that Explain was asked about: 0 where it would drop the clause or leave it. */
+static inline uint64_t unhide_taken_out(const struct unhide_answer *answer)
+{
+    return answer->clauses_gone;
+}
+
+/* The bytes of the chains that Explain has written. */
+static inline uint64_t unhide_chain_bytes(const struct unhide_answer *answer)
+{
+    return answer->literals_gone;
 }
 
 /* The calls take the records as numbers one behind the other, so they must have no padding. */
@@ -309,6 +336,24 @@ int64_t unhide_write(const uint32_t *clauses, size_t clauses_len, const int32_t 
                      const int32_t *variables, size_t variables_len,
                      const uint32_t *times, size_t times_len, const int32_t *links, size_t links_len,
                      const uint32_t *state, size_t state_len, uint64_t *answer, size_t answer_len, uint8_t *out, size_t out_len);
+
+/* What a Sweep's visit to clause `number`, from 1 to the state's clauses, would do under these stamps, and why. `out` gets a chain of
+ * literals for a clause that would be dropped, or one for each literal that would be taken out, in the order of the clause; nothing where the
+ * clause would stay. A chain is a line of DIMACS text: its literals, then 0. Each of them is the parent of the next: by the stamps that Stamp
+ * leaves, each implies the next by a two-literal clause that stood then. A literal holds another where its interval holds the other's.
+ *
+ *   dropped       from -a to b, for two literals a and b of the clause such that -a holds b, the earliest a and for it the earliest b;
+ *                 where the clause has no others, -a must not be the parent of b either
+ *   l taken out   from l to the earliest other literal of the clause that it holds; where it holds none, from -m to -l, for the earliest m
+ *                 such that -m holds -l, among the literals of the clause that hold no other of it
+ *
+ * Refused with UNHIDE_SHAPE, UNHIDE_OTHER_PASS (whichever pass is open), UNHIDE_MARKED, UNHIDE_STALE, UNHIDE_NO_CLAUSE, UNHIDE_OUTPUT, in this
+ * order. A call with an output of no bytes tells the length that is needed, which can be over two million bytes. */
+int64_t unhide_explain(const uint32_t *clauses, size_t clauses_len, const int32_t *literals, size_t literals_len,
+                       const int32_t *variables, size_t variables_len,
+                       const uint32_t *times, size_t times_len, const int32_t *links, size_t links_len,
+                       const uint32_t *state, size_t state_len, uint64_t *answer, size_t answer_len,
+                       uint32_t number, uint8_t *out, size_t out_len);
 
 /* How the interval of literal p lies to that of literal q: a number of enum unhide_relation. Refused with UNHIDE_SHAPE where fewer than
  * 4,096 times are lent, or where p or q is not v or -v with v from 1 to `variables`, at the most 1,024. It looks at the times alone, whether
@@ -408,6 +453,15 @@ static inline int64_t unhide_tables_write(const struct unhide_tables *tables, ui
                         UNHIDE_LENT(const int32_t, tables->variables), UNHIDE_LENT(const uint32_t, tables->times),
                         UNHIDE_LENT(const int32_t, tables->links), UNHIDE_LENT(const uint32_t, tables->state),
                         UNHIDE_LENT(uint64_t, *answer), out, out_len);
+}
+
+static inline int64_t unhide_tables_explain(const struct unhide_tables *tables, uint32_t number, uint8_t *out, size_t out_len,
+                                            struct unhide_answer *answer)
+{
+    return unhide_explain(UNHIDE_LENT(const uint32_t, tables->clauses), UNHIDE_LENT(const int32_t, tables->literals),
+                          UNHIDE_LENT(const int32_t, tables->variables), UNHIDE_LENT(const uint32_t, tables->times),
+                          UNHIDE_LENT(const int32_t, tables->links), UNHIDE_LENT(const uint32_t, tables->state),
+                          UNHIDE_LENT(uint64_t, *answer), number, out, out_len);
 }
 
 static inline int64_t unhide_tables_compare(const struct unhide_tables *tables, int32_t p, int32_t q)

@@ -1,6 +1,7 @@
 /* What the calls on slices do with a state that is none and with slices of other lengths: refusal 1 with place 0, before anything else is looked at,
  * and no number that they should not touch is touched. Then programmes: those that no call but Load takes, and those that are set or refused.
- * Last the window: slices of other lengths, with numbers behind them, and windows that Learn refuses and Load does not.
+ * Then the window: slices of other lengths, with numbers behind them, and windows that Learn refuses and Load does not.
+ * Last explanations: each verdict by each rule with its chains, outputs of other lengths with bytes behind them, and every refusal.
  * What differs is printed, and the exit status is then 1. */
 #include <stdio.h>
 #include <string.h>
@@ -43,9 +44,9 @@ static const uint32_t other[] = {UNHIDE_CODE_SETTLE, UNHIDE_CODE_STAMP, UNHIDE_C
 
 #define TABLES clauses, 3 * UNHIDE_CLAUSES, literals, UNHIDE_LITERALS, variables, 2 * UNHIDE_VARIABLES, times, 2 * UNHIDE_SLOTS, links, 2 * UNHIDE_SLOTS
 
-enum { LOAD, PROPAGATE, MERGE, STAMP, FAILED, SWEEP, LEARN, RUN, SET_PROGRAMME, WRITE, CALLS };
+enum { LOAD, PROPAGATE, MERGE, STAMP, FAILED, SWEEP, LEARN, RUN, SET_PROGRAMME, WRITE, EXPLAIN, CALLS };
 
-static const char *const names[CALLS] = {"load", "propagate", "merge", "stamp", "failed", "sweep", "learn", "run", "set programme", "write"};
+static const char *const names[CALLS] = {"load", "propagate", "merge", "stamp", "failed", "sweep", "learn", "run", "set programme", "write", "explain"};
 
 static int64_t call(int which, size_t state_len, size_t answer_len) {
     switch (which) {
@@ -67,8 +68,10 @@ static int64_t call(int which, size_t state_len, size_t answer_len) {
         return unhide_run(TABLES, state, state_len, answer, answer_len, 1);
     case SET_PROGRAMME:
         return unhide_set_programme(TABLES, state, state_len, answer, answer_len, other, 3);
-    default:
+    case WRITE:
         return unhide_write(TABLES, state, state_len, answer, answer_len, out, sizeof out);
+    default:
+        return unhide_explain(TABLES, state, state_len, answer, answer_len, 1, out, sizeof out);
     }
 }
 
@@ -127,6 +130,10 @@ static void compare_states(void) {
     compare_refused("mark 2", MARK, 0, 2, LENT, 6);
 }
 
+static int needs_stamps(int which) {
+    return which == FAILED || which == SWEEP || which == LEARN || which == EXPLAIN;
+}
+
 /* With longer slices a call is made, and what is behind stays. */
 static void compare_longer(void) {
     for (int which = 0; which < CALLS; which++) {
@@ -135,7 +142,7 @@ static void compare_longer(void) {
         int64_t result = call(which, LENT, 6);
         int kept = state[STATED] == 7 && state[STATED + 1] == 7 && answer[4] == 7 && answer[5] == 7;
         /* the stamps are not fresh */
-        int64_t expected = which == FAILED || which == SWEEP || which == LEARN ? UNHIDE_STALE : 0;
+        int64_t expected = needs_stamps(which) ? UNHIDE_STALE : 0;
         sprintf(name, "%s, longer slices", names[which]);
         compare(name, expected, result);
         compare(name, 1, kept);
@@ -267,7 +274,7 @@ static void compare_behind(void) {
         char name[64];
         prepare();
         state[CODES + 4] = 9;
-        int64_t expected = which == FAILED || which == SWEEP || which == LEARN ? UNHIDE_STALE : 0;
+        int64_t expected = needs_stamps(which) ? UNHIDE_STALE : 0;
         sprintf(name, "%s, code behind the length", names[which]);
         compare(name, expected, (long)call(which, LENT, 6));
         compare(name, which == LOAD || which == SET_PROGRAMME ? 0 : 9, (long)state[CODES + 4]);
@@ -413,6 +420,112 @@ static void compare_full_window(void) {
     compare("learn, places behind", 1, sizes[SIZES] == 9 && learnt[PLACES] == 9);
 }
 
+/* ---- explanations */
+
+/* Loads a text and stamps it in this order, of two literals for each of its variables. */
+static void stamp_text(const char *loaded, const int32_t *order) {
+    prepare();
+    unhide_load((const uint8_t *)loaded, strlen(loaded), TABLES, state, LENT, answer, 6, WINDOW);
+    unhide_stamp(TABLES, state, LENT, answer, 6, order, 2 * (size_t)state[0]);
+    for (int i = 0; i < 6; i++)
+        answer[i] = 7;
+}
+
+/* Whether the output begins with the text and has dots behind it. */
+static int has_text(const char *expected) {
+    size_t length = strlen(expected);
+    for (size_t i = length; i < sizeof out; i++)
+        if (out[i] != '.')
+            return 0;
+    return memcmp(out, expected, length) == 0;
+}
+
+/* An explanation that is refused changes nothing but the place. */
+static void compare_unexplained(const char *name, long result, long place, uint32_t number, size_t out_len) {
+    memset(out, '.', sizeof out);
+    for (int i = 0; i < 6; i++)
+        answer[i] = 7;
+    memcpy(state_before, state, sizeof state);
+    compare(name, result, (long)unhide_explain(TABLES, state, LENT, answer, 6, number, out, out_len));
+    compare(name, place, (long)answer[0]);
+    compare(name, 7, (long)(answer[1] | answer[2] | answer[3]));
+    compare(name, 1, has_text("") && memcmp(state_before, state, sizeof state) == 0);
+}
+
+/* What is said of a clause: into an output of just the length and into one of all bytes, and refused where one byte or all are missing. */
+static void compare_explained(const char *name, uint32_t number, uint64_t verdict, uint64_t taken_out, const char *chains) {
+    const size_t length = strlen(chains), lengths[] = {length, sizeof out};
+    for (int i = 0; i < 2; i++) {
+        memset(out, '.', sizeof out);
+        compare(name, 0, (long)unhide_explain(TABLES, state, LENT, answer, 6, number, out, lengths[i]));
+        compare(name, 1, answer[0] == verdict && answer[1] == taken_out && answer[2] == length && answer[3] == 0 && answer[4] == 7);
+        compare(name, 1, has_text(chains));
+    }
+    if (length == 0)
+        return;
+    compare_unexplained(name, UNHIDE_OUTPUT, (long)length, number, length - 1);
+    compare_unexplained(name, UNHIDE_OUTPUT, (long)length, number, 0);
+}
+
+/* 1 -> 2 -> 3 and 1 -> 3: 1 holds 2 and 3, -3 holds -2 and -1. */
+static const char chained[] = "p cnf 5 6\n-1 2 0\n-2 3 0\n-1 3 0\n3 1 2 4 0\n-3 -1 5 0\n4 3 -1 0\n";
+static const int32_t rising[] = {1, -1, 2, -2, 3, -3, 4, -4, 5, -5};
+
+static void compare_explains(void) {
+    stamp_text(chained, rising);
+    compare_explained("explain, stays", 1, UNHIDE_WOULD_STAY, 0, "");
+    compare_explained("explain, a pair dropped", 3, UNHIDE_WOULD_DROP, 0, "1 2 3 0\n");
+    compare_explained("explain, two taken out", 4, UNHIDE_WOULD_SHORTEN, 2, "1 2 3 0\n2 3 0\n");
+    compare_explained("explain, one taken out", 5, UNHIDE_WOULD_SHORTEN, 1, "-3 -2 -1 0\n");
+    compare_explained("explain, a clause of three dropped", 6, UNHIDE_WOULD_DROP, 0, "-3 -2 -1 0\n");
+}
+
+/* 3 is entered from 5, so that 1 holds it no more; -3 still holds -1. */
+static void compare_turned_explains(void) {
+    static const char turned[] = "p cnf 5 5\n-5 3 0\n-1 2 0\n-2 3 0\n-1 3 0\n1 3 4 0\n";
+    static const int32_t five_first[] = {5, -5, 1, -1, 2, -2, 3, -3, 4, -4};
+    stamp_text(turned, five_first);
+    compare_explained("explain, a pair dropped by its second edge", 4, UNHIDE_WOULD_DROP, 0, "-3 -2 -1 0\n");
+    compare_explained("explain, one taken out by complements", 5, UNHIDE_WOULD_SHORTEN, 1, "-3 -2 -1 0\n");
+}
+
+/* Tables of which one has a number less than stated. */
+static void compare_short_explains(void) {
+    const size_t stated[] = {3 * UNHIDE_CLAUSES, UNHIDE_LITERALS, 2 * UNHIDE_VARIABLES, 2 * UNHIDE_SLOTS, 2 * UNHIDE_SLOTS};
+    stamp_text(chained, rising);
+    memset(out, '.', sizeof out);
+    for (int table = 0; table < 5; table++) {
+        size_t lent[5];
+        memcpy(lent, stated, sizeof stated);
+        lent[table]--;
+        answer[0] = 7;
+        compare("explain, a short table", UNHIDE_SHAPE,
+                (long)unhide_explain(clauses, lent[0], literals, lent[1], variables, lent[2], times, lent[3], links, lent[4], state, LENT,
+                                     answer, 6, 3, out, sizeof out));
+        compare("explain, a short table", 1, answer[0] == 0 && answer[1] == 7 && has_text(""));
+    }
+}
+
+/* The refusals, each with those below it: 1, 4, 5, 9, 13 and 10. */
+static void compare_refused_explains(void) {
+    stamp_text(chained, rising);
+    compare_unexplained("explain, clause 0", UNHIDE_NO_CLAUSE, 0, 0, sizeof out);
+    compare_unexplained("explain, clause 7 of 6", UNHIDE_NO_CLAUSE, 0, 7, 0);
+    compare_unexplained("explain, clause 4294967295", UNHIDE_NO_CLAUSE, 0, 4294967295u, 0);
+    unhide_sweep(TABLES, state, LENT, answer, 6, 3);
+    compare_unexplained("explain, Sweep open", UNHIDE_OTHER_PASS, 0, 0, 0);
+    unhide_sweep(TABLES, state, LENT, answer, 6, 65535);
+    compare_unexplained("explain, stamps spent", UNHIDE_STALE, 0, 0, 0);
+    state[MARK] = 1;
+    compare_unexplained("explain, the mark and stamps spent", UNHIDE_MARKED, 0, 0, 0);
+    state[MARK] = 0;
+    unhide_stamp(TABLES, state, LENT, answer, 6, rising, 10);
+    compare_unexplained("explain, a dropped clause", UNHIDE_NO_CLAUSE, 0, 3, 0);
+    compare_unexplained("explain, another dropped clause", UNHIDE_NO_CLAUSE, 0, 6, sizeof out);
+    state[CODES] = 0;
+    compare_unexplained("explain, a wrong programme", UNHIDE_SHAPE, 0, 3, 0);
+}
+
 int main(void) {
     compare_compare();
     compare_states();
@@ -426,6 +539,10 @@ int main(void) {
     compare_damaged_windows();
     compare_learns();
     compare_full_window();
+    compare_explains();
+    compare_turned_explains();
+    compare_short_explains();
+    compare_refused_explains();
     if (!differs)
         printf("ok slices\n");
     return differs;

@@ -50,6 +50,10 @@ static int64_t write_out(uint8_t *out, size_t length) {
     return unhide_tables_write(&tables, out, length, &answer);
 }
 
+static int64_t explain(uint32_t number, uint8_t *out, size_t length) {
+    return unhide_tables_explain(&tables, number, out, length, &answer);
+}
+
 /* Tables and a state of zeros, before the first load: every call but that is refused. */
 static void compare_zeros(void) {
     uint8_t out[64];
@@ -63,6 +67,7 @@ static void compare_zeros(void) {
     compare_call("run on zeros", UNHIDE_SHAPE, 0, unhide_tables_run(&tables, 1, &answer));
     compare_call("set programme on zeros", UNHIDE_SHAPE, 0, unhide_tables_set_programme(&tables, settle, 1, &answer));
     compare_call("write on zeros", UNHIDE_SHAPE, 0, write_out(out, 64));
+    compare_call("explain on zeros", UNHIDE_SHAPE, 0, explain(1, out, 64));
 }
 
 static void compare_passes(void) {
@@ -125,6 +130,41 @@ static void compare_learns(void) {
     compare("stamps stay fresh", 1, (long)tables.state.fresh);
 }
 
+/* Compares the verdict on a clause, how many literals would go, and the chains. */
+static void compare_explained(const char *name, uint32_t number, long verdict, long taken_out, const char *chains) {
+    uint8_t out[64];
+    size_t length = strlen(chains);
+    char named[64];
+    memset(out, 7, sizeof out);
+    compare_call(name, 0, verdict, explain(number, out, 64));
+    sprintf(named, "%s, taken out", name);
+    compare(named, taken_out, (long)unhide_taken_out(&answer));
+    sprintf(named, "%s, chains", name);
+    compare(named, (long)length, (long)unhide_chain_bytes(&answer));
+    compare(named, 0, memcmp(out, chains, length));
+    compare(named, 7, (long)out[length]);
+}
+
+/* What a Sweep would do to the clauses of the sample, and to one that the first two imply. Nothing is changed by asking. */
+static void compare_explains(void) {
+    uint8_t out[64];
+    load("p cnf 4 3\n-1 2 0\n-2 3 0\n1 3 4 0\n");
+    unhide_tables_stamp(&tables, order, 8, &answer);
+    compare_explained("explain, stays", 1, UNHIDE_WOULD_STAY, 0, "");
+    compare_explained("explain, shortened", 3, UNHIDE_WOULD_SHORTEN, 1, "1 2 3 0\n");
+    compare_call("explain, one byte too few", UNHIDE_OUTPUT, 8, explain(3, out, 7));
+    compare_call("explain, clause 0", UNHIDE_NO_CLAUSE, 0, explain(0, out, 64));
+    compare_call("explain, clause 4 of 3", UNHIDE_NO_CLAUSE, 0, explain(4, out, 64));
+    compare("length of clause 3, explained", 3, (long)unhide_clause_at(&tables, 3)->length);
+    compare("stamps stay fresh, explained", 1, (long)tables.state.fresh);
+    load("p cnf 4 3\n-1 2 0\n-2 3 0\n-1 3 4 0\n");
+    compare_call("explain, stale", UNHIDE_STALE, 0, explain(3, out, 64));
+    unhide_tables_stamp(&tables, order, 8, &answer);
+    compare_explained("explain, dropped", 3, UNHIDE_WOULD_DROP, 0, "1 2 3 0\n");
+    unhide_tables_sweep(&tables, 1, &answer);
+    compare_call("explain, other pass", UNHIDE_OTHER_PASS, 0, explain(3, out, 64));
+}
+
 /* How the intervals of the sample lie: 1 is [1,6], 2 [2,5], 3 [3,4], -3 [7,12], -2 [8,11], -1 [9,10]. */
 static void compare_intervals(void) {
     compare("2 to itself", UNHIDE_SAME, (long)unhide_tables_compare(&tables, 2, 2));
@@ -173,6 +213,7 @@ static void compare_refusals(void) {
     load("p cnf 1 1\n0\n");
     compare("mark", 1, (long)tables.state.mark);
     compare_call("marked", UNHIDE_MARKED, 0, unhide_tables_run(&tables, 1, &answer));
+    compare_call("explain, marked", UNHIDE_MARKED, 0, explain(1, out, 64));
     tables.state.variables = 1025;
     compare_call("shape", UNHIDE_SHAPE, 0, unhide_tables_propagate(&tables, 1, &answer));
 }
@@ -270,6 +311,7 @@ int main(void) {
     compare_learns();
     compare_intervals();
     compare_refusals();
+    compare_explains();
     compare_set();
     compare_wrong();
     compare_runs();

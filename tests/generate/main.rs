@@ -3,9 +3,13 @@
 //! calls are accepted.
 
 mod calls;
+mod chained;
 mod class_values;
 mod comparisons;
 mod damage;
+mod drafts;
+mod explain_lines;
+mod explains;
 mod far;
 mod forest;
 mod formulas;
@@ -27,6 +31,8 @@ mod window_damage;
 
 #[path = "../second/comparison.rs"]
 mod comparison;
+#[path = "../second/explain.rs"]
+mod explain;
 #[path = "../second/failed.rs"]
 mod failed;
 #[path = "../second/graph.rs"]

@@ -3,9 +3,10 @@
 use crate::calls::{any, fitting, line, Call};
 use crate::comparisons;
 use crate::damage;
-use crate::far;
-use crate::formulas::{draft, odd_text, plain_text, Draft};
-use crate::implied;
+use crate::drafts;
+use crate::explain_lines;
+use crate::explains;
+use crate::formulas::{odd_text, plain_text};
 use crate::learn_lines;
 use crate::limits;
 use crate::lists;
@@ -18,7 +19,6 @@ use crate::replay::Replay;
 use crate::shape;
 use crate::tables::Pass;
 use crate::texts;
-use crate::valued;
 use crate::window_damage;
 
 /// No new line is begun past this length.
@@ -132,6 +132,11 @@ impl Script {
             self.say(&line);
             return;
         }
+        if self.random.once_in(3) {
+            let line = explain_lines::wrong(&mut self.random);
+            self.say(&line);
+            return;
+        }
         if self.random.once_in(2) {
             let line = learn_lines::wrong(&mut self.random, &self.replay.formula);
             self.say(&line);
@@ -156,6 +161,7 @@ impl Script {
             self.programme(codes);
         }
         self.learn_sometimes();
+        self.explain_sometimes();
         let formula = &self.replay.formula;
         if tables_are_lent(formula).is_err() || self.replay.window.is_lent().is_err() {
             self.while_lent_short();
@@ -236,6 +242,52 @@ impl Script {
         self.learn(more);
         if sets_unused {
             self.say("state");
+        }
+    }
+
+    /// Often where a Sweep would drop or shorten a clause, seldom where explain is
+    /// refused.
+    fn explain_sometimes(&mut self) {
+        let formula = &self.replay.formula;
+        let is_ready = explains::is_ready(formula);
+        let seldom = match formula.state.pass {
+            Pass::None if is_ready && !explains::touched(formula).is_empty() => 2,
+            Pass::None if is_ready => 12,
+            Pass::None if formula.state.mark => 15,
+            Pass::Sweep => 15,
+            _ => 60,
+        };
+        if !self.random.once_in(seldom) {
+            return;
+        }
+        let sets_unused = self.random.once_in(20);
+        if sets_unused {
+            self.set_unused();
+        }
+        if is_ready && self.random.once_in(6) {
+            self.explain_into_several();
+        } else {
+            let count = self.random.pick(&[1, 1, 2, 3]);
+            self.explain(count);
+        }
+        if sets_unused {
+            self.say("state");
+        }
+    }
+
+    /// So many clauses. They take none of the formula's calls.
+    fn explain(&mut self, count: usize) {
+        for _ in 0..count {
+            let line = explains::line(&mut self.random, &self.replay.formula);
+            self.calls += 1;
+            self.say(&line);
+        }
+    }
+
+    fn explain_into_several(&mut self) {
+        for line in explains::several_rooms(&mut self.random, &self.replay.formula) {
+            self.calls += 1;
+            self.say(&line);
         }
     }
 
@@ -400,10 +452,11 @@ impl Script {
     }
 
     fn any_call(&mut self) {
-        match self.random.below(9) {
+        match self.random.below(10) {
             0 => self.write(),
             1 => self.load(),
             2 => self.learn(1),
+            3 => self.explain(1),
             _ => {
                 let call = any(&mut self.random, &self.replay.formula);
                 self.call(&line(&call));
@@ -427,7 +480,7 @@ impl Script {
     /// Loads a formula, once in three times after texts that are wrong.
     fn load(&mut self) {
         while self.random.once_in(3) {
-            let draft = self.draft();
+            let draft = drafts::any(&mut self.random);
             let text = texts::wrong(&mut self.random, &draft);
             self.load_text(&text);
         }
@@ -468,44 +521,12 @@ impl Script {
         if self.random.once_in(400) {
             return limits::text(&mut self.random);
         }
-        let draft = self.draft();
+        let draft = drafts::any(&mut self.random);
         if self.random.once_in(3) {
             odd_text(&mut self.random, &draft)
         } else {
             plain_text(&draft)
         }
-    }
-
-    /// A formula, mostly a small one.
-    fn draft(&mut self) -> Draft {
-        let random = &mut self.random;
-        if random.once_in(4) {
-            return far::draft(random);
-        }
-        if random.once_in(4) {
-            let variables = match random.below(40) {
-                0 => random.between(13, 60),
-                // Enough for newcomers of 64 literals.
-                1..=3 => random.between(64, 130),
-                _ => random.between(3, 12),
-            };
-            return implied::draft(random, variables);
-        }
-        if random.once_in(3) {
-            let variables = match random.below(40) {
-                0 => random.between(13, 60),
-                1..=10 => random.between(2, 12),
-                _ => random.between(3, 8),
-            };
-            return valued::draft(random, variables);
-        }
-        let variables = match random.below(200) {
-            0 => random.between(100, 400),
-            1..=9 => random.between(13, 60),
-            10..=60 => random.between(0, 12),
-            _ => random.between(2, 8),
-        };
-        draft(random, variables)
     }
 
     /// Often everything is printed, of large formulas seldom.

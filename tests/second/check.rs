@@ -3,7 +3,9 @@
 //! assignments.
 
 use crate::calls::{any, fitting, line, Call};
+use crate::chained;
 use crate::compare_calls::{in_two_calls, run_by_passes};
+use crate::compare_explain::{self, clauses_agree};
 use crate::compare_figures::figures_agree;
 use crate::compare_intervals::{comparisons_agree, numbers_agree};
 use crate::compare_learn::{self, forest_agrees, Learning};
@@ -53,6 +55,8 @@ pub fn check(seed: u64, count: usize) -> i32 {
     let mut other_runs = 0;
     let mut reach = Counts::default();
     let mut learnt = compare_learn::Counts::default();
+    let mut explained = compare_explain::Counts::default();
+    let mut in_forests = compare_explain::Counts::default();
     while calls < count {
         let mut one = Check::start(&mut random, &truth);
         let outcome = one.calls(&mut random);
@@ -61,6 +65,8 @@ pub fn check(seed: u64, count: usize) -> i32 {
         other_runs += one.other_runs;
         reach.add(&one.reach);
         learnt.add(&one.learning.counts);
+        explained.add(&one.explained);
+        in_forests.add(&one.in_forests);
         if let Err(difference) = outcome {
             println!("differs: {difference}");
             print!("{}", String::from_utf8_lossy(&one.script));
@@ -73,6 +79,8 @@ pub fn check(seed: u64, count: usize) -> i32 {
     );
     println!("{}", reach.told());
     println!("{}", learnt.told());
+    println!("{}", explained.told());
+    println!("in forests {}", in_forests.told());
     0
 }
 
@@ -102,6 +110,9 @@ struct Check<'a> {
     stamped: Option<Stamped>,
     reach: Counts,
     learning: Learning,
+    explained: compare_explain::Counts,
+    /// Under the stamps of random forests.
+    in_forests: compare_explain::Counts,
 }
 
 /// What the tables and the programme hold before the load.
@@ -156,6 +167,8 @@ impl<'a> Check<'a> {
             stamped: None,
             reach: Counts::default(),
             learning,
+            explained: compare_explain::Counts::default(),
+            in_forests: compare_explain::Counts::default(),
         }
     }
 
@@ -170,6 +183,7 @@ impl<'a> Check<'a> {
         self.learning.window_agrees(self.formula.v())?;
         loaded_agrees(&self.formula, &self.loaded)?;
         self.learn_sometimes(random)?;
+        self.explain_sometimes(random)?;
         for _ in 0..random.between(1, 24) {
             let call = if random.once_in(12) {
                 any(random, &self.formula)
@@ -182,6 +196,7 @@ impl<'a> Check<'a> {
             self.call(random, &call)?;
             self.reach_agrees(&call)?;
             self.learn_sometimes(random)?;
+            self.explain_sometimes(random)?;
             if self.formula.state.mark && random.once_in(2) {
                 break;
             }
@@ -234,6 +249,31 @@ impl<'a> Check<'a> {
         other.stamps[..records.len()].copy_from_slice(&records);
         for _ in 0..4 {
             forest_agrees(&other, &newcomers::valid(random, &other))?;
+        }
+        Ok(())
+    }
+
+    /// Every clause, and numbers that are none, often under fresh stamps. Then only
+    /// Failed and calls that set a programme have been accepted since the Stamp, so
+    /// that the clauses are those that it walked.
+    fn explain_sometimes(&mut self, random: &mut Random) -> Result<(), String> {
+        let state = self.formula.state;
+        let is_ready = state.fresh && state.pass == Pass::None && !state.mark;
+        let seldom = if is_ready { 2 } else { 12 };
+        if !random.once_in(seldom) {
+            return Ok(());
+        }
+        if is_ready && self.stamped.is_none() {
+            return Err("stamps are fresh, and none were left".to_string());
+        }
+        let stamped = self.stamped.as_ref();
+        clauses_agree(&self.formula, self.truth, stamped, &mut self.explained)?;
+        if is_ready {
+            let mut other = self.formula.clone();
+            let records = forest(random, other.v());
+            other.stamps[..records.len()].copy_from_slice(&records);
+            let told = clauses_agree(&other, self.truth, None, &mut self.in_forests);
+            told.map_err(|e| format!("in a forest: {e}"))?;
         }
         Ok(())
     }
@@ -500,6 +540,9 @@ fn any_draft(random: &mut Random) -> Draft {
     if random.once_in(4) {
         let variables = random.between(3, MOST_TRIED);
         transitive::draft(random, variables)
+    } else if random.once_in(3) {
+        let variables = random.between(3, MOST_TRIED);
+        chained::draft(random, variables)
     } else if random.once_in(3) {
         let variables = random.between(3, MOST_TRIED);
         implied::draft(random, variables)

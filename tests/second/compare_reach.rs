@@ -68,6 +68,12 @@ impl Stamped {
         }
     }
 
+    /// A clause of the complement of p, and q, stood.
+    pub fn has_edge(&self, p: i32, q: i32) -> bool {
+        let mut pairs = self.pairs.iter();
+        pairs.any(|(_, pair)| *pair == [-p, q] || *pair == [q, -p])
+    }
+
     /// Where no pair is shortened, all that was reached still is; where no
     /// clause is, nothing else is reached either. Each pair that is shortened
     /// leaves a literal that it may leave.

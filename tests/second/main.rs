@@ -17,6 +17,7 @@ mod text;
 mod write;
 
 mod comparison;
+mod explain;
 mod failed;
 mod graph;
 mod learn;
@@ -34,6 +35,7 @@ mod unhide;
 mod cases;
 mod check;
 mod compare_calls;
+mod compare_explain;
 mod compare_figures;
 mod compare_intervals;
 mod compare_learn;
@@ -43,6 +45,8 @@ mod compare_repeats;
 mod compare_values;
 mod compare_walks;
 mod named;
+mod named_explain;
+mod named_explain_refusals;
 mod named_learn;
 mod named_programmes;
 mod named_reach;
@@ -52,6 +56,8 @@ mod truth;
 
 #[path = "../generate/calls.rs"]
 mod calls;
+#[path = "../generate/chained.rs"]
+mod chained;
 #[path = "../generate/forest.rs"]
 mod forest;
 #[path = "../generate/formulas.rs"]

@@ -3,9 +3,12 @@
 //! values of classes that have several variables, how two intervals lie, and
 //! formulas at the limits; each with what a replay of it prints. Those of the
 //! programme stand in `named_programmes.rs`, those of the reach in
-//! `named_reach.rs`, those of learn in `named_learn.rs` and `named_window.rs`.
+//! `named_reach.rs`, those of learn in `named_learn.rs` and `named_window.rs`,
+//! those of explain in `named_explain.rs` and `named_explain_refusals.rs`.
 
-use crate::{named_learn, named_programmes, named_reach, named_window};
+use crate::{
+    named_explain, named_explain_refusals, named_learn, named_programmes, named_reach, named_window,
+};
 
 /// The bytes of a load, the calls behind it, a line each, and what a replay of
 /// both prints.
@@ -30,8 +33,7 @@ impl Case {
 /// All cases.
 pub fn cases() -> Vec<Case> {
     let mut cases = short();
-    cases.extend(large());
-    cases.extend(named_window::large());
+    cases.extend(all_large());
     cases.extend(wrong_lines());
     cases
 }
@@ -45,10 +47,16 @@ pub fn script() -> Vec<u8> {
         script.extend(case.script());
         script.extend(b"state\ncodes\nclauses\nliterals\nvariables\nwindow\n");
     }
-    for case in large().into_iter().chain(named_window::large()) {
+    for case in all_large() {
         script.extend(case.script());
     }
     script
+}
+
+fn all_large() -> Vec<Case> {
+    let windows = named_window::large();
+    let explains = named_explain::large();
+    large().into_iter().chain(windows).chain(explains).collect()
 }
 
 /// Cases on small formulas.
@@ -72,8 +80,11 @@ fn short() -> Vec<Case> {
     let learns = named_learn::cases()
         .into_iter()
         .chain(named_window::cases());
+    let explains = named_explain::cases()
+        .into_iter()
+        .chain(named_explain_refusals::cases());
     let others = passes.chain(programmes).chain(reach);
-    texts.chain(others).chain(learns).collect()
+    texts.chain(others).chain(learns).chain(explains).collect()
 }
 
 /// Cases that end with a wrong line.
@@ -85,6 +96,7 @@ fn wrong_lines() -> Vec<Case> {
     let too_long = std::iter::once(named_window::too_long());
     lines
         .chain(learns)
+        .chain(named_explain_refusals::WRONG_LINES)
         .map(with_calls)
         .chain(too_long)
         .collect()
@@ -1558,7 +1570,7 @@ fn rising() -> String {
 
 /// The 1,023 pairs by which each of 1,024 variables implies the next, and more
 /// clauses behind them.
-fn chain(clauses: usize, more: &str) -> Vec<u8> {
+pub fn chain(clauses: usize, more: &str) -> Vec<u8> {
     let pairs: String = (1..1_024).map(|v| format!("-{v} {} 0\n", v + 1)).collect();
     format!("p cnf 1024 {clauses}\n{pairs}{more}").into_bytes()
 }

@@ -1,6 +1,7 @@
 //! Replays a list of calls on one set of tables and prints every answer.
 
 use crate::comparison::compare;
+use crate::explain::explain;
 use crate::failed::failed;
 use crate::learn::{learn, Learnt};
 use crate::load::load;
@@ -133,6 +134,7 @@ impl Replay {
                     Err(refusal) => self.print_refusal(refusal),
                 }
             }
+            ["explain", clause, room] => self.explain(clause, room)?,
             ["programme", codes @ ..] => self.programme(codes)?,
             ["compare", first, second] => self.compare(first, second)?,
             ["state"] => self.print_state(),
@@ -195,6 +197,23 @@ impl Replay {
             Ok(Learnt::Dropped) => self.print("dropped".to_string()),
             Ok(Learnt::Kept(left)) => self.print(format!("kept {left}")),
             Ok(Learnt::Shortened(left)) => self.print(format!("shortened {left}")),
+            Err(refusal) => self.print_refusal(refusal),
+        }
+        Ok(())
+    }
+
+    fn explain(&mut self, clause: &str, room: &str) -> Result<(), WrongLine> {
+        let clause = any_u32(clause)?;
+        let mut output = vec![0; number(room, 0, MOST_ROOM)? as usize];
+        self.clear_unused();
+        match explain(&self.formula, clause, &mut output) {
+            Ok(answer) => {
+                self.print(format!(
+                    "explained {} {} {}",
+                    answer.verdict, answer.taken_out, answer.length
+                ));
+                self.output.extend_from_slice(&output[..answer.length]);
+            }
             Err(refusal) => self.print_refusal(refusal),
         }
         Ok(())

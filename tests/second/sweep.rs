@@ -60,13 +60,14 @@ pub fn is_hidden_tautology(formula: &Formula, clause: &[i32]) -> bool {
     })
 }
 
-/// For one of the two edges p -> q of the pair, p holds q and p is not q's
-/// parent.
+/// For one of the two edges p -> q of the pair, the pair is dropped.
 fn is_implied_pair(formula: &Formula, a: i32, b: i32) -> bool {
-    let is_implied = |p: i32, q: i32| {
-        formula.interval(p).holds(formula.interval(q)) && formula.stamps[slot(q)].parent != p
-    };
-    is_implied(-a, b) || is_implied(-b, a)
+    is_implied(formula, -a, b) || is_implied(formula, -b, a)
+}
+
+/// The edge p -> q is a reason to drop its pair: p holds q and is not q's parent.
+pub fn is_implied(formula: &Formula, p: i32, q: i32) -> bool {
+    formula.interval(p).holds(formula.interval(q)) && formula.stamps[slot(q)].parent != p
 }
 
 /// Figure 5, by what it removes: first each literal that holds another

@@ -2,3 +2,4 @@ pub mod Refused
 pub mod RefusedWith
 pub mod Next
 pub mod NextWith
+pub mod Texts

@@ -10,9 +10,11 @@ ghost use Rattle.failed.specs.Failed.{failedCall};
 ghost use Rattle.sweep.specs.Sweep.{sweepCall};
 ghost use Rattle.run.specs.Run.{runCall};
 ghost use Rattle.set_programme.specs.SetProgramme.{setCall};
+ghost use Rattle.write.specs.Write.{writeCall};
+ghost use Rattle.explain.specs.Explain.{explainCall};
 ghost use Rattle.compare.specs.Compare.{compareCall, comparisonResult};
 ghost use Rattle.simplify.specs.Texts.{simplifyText, resultOf};
-ghost use Rattle.c_numbers.specs.CCalls.{afterC, callC, afterWriteC, writeC};
+ghost use Rattle.c_numbers.specs.CCalls.{afterC, callC, afterWriteC, textC};
 ghost use Rattle.c_numbers.specs.WindowCalls.{afterLoadC, loadC, afterLearnC, learnC};
 
 // ---- the calls
@@ -280,13 +282,37 @@ pub extern "C" fn unhide_write(
     out: &mut [u8],
 ) -> i64
     ensures { λ r. ⌜ afterWriteC r (now (answer .exit)) (now (out .exit))
-        ≡ writeC (lent clauses literals variables times links) (now (state .entry)) (now (answer .entry)) (now (out .entry)) ⌝ }
+        ≡ textC writeCall (lent clauses literals variables times links) (now (state .entry)) (now (answer .entry)) (now (out .entry)) ⌝ }
 {
     if !c_numbers::ready(state, answer) {
         return c_numbers::refuse_unread(answer);
     }
     let st = c_numbers::state_at(state);
     let a = write::write(clauses, literals, variables, times, links, st, out);
+    c_numbers::put_answer(answer, a)
+}
+
+// What a Sweep would do to the clause of this number, with the chains that show it written as text.
+#[no_mangle]
+pub extern "C" fn unhide_explain(
+    clauses: &[u32],
+    literals: &[i32],
+    variables: &[i32],
+    times: &[u32],
+    links: &[i32],
+    state: &[u32],
+    answer: &mut [u64],
+    number: u32,
+    out: &mut [u8],
+) -> i64
+    ensures { λ r. ⌜ afterWriteC r (now (answer .exit)) (now (out .exit))
+        ≡ textC (explainCall number) (lent clauses literals variables times links) (now (state .entry)) (now (answer .entry)) (now (out .entry)) ⌝ }
+{
+    if !c_numbers::ready(state, answer) {
+        return c_numbers::refuse_unread(answer);
+    }
+    let st = c_numbers::state_at(state);
+    let a = explain::explain(clauses, literals, variables, times, links, st, number, out);
     c_numbers::put_answer(answer, a)
 }
 

@@ -10,9 +10,9 @@ use Rattle.state.specs.declared.Answer.{Answer}
 use Rattle.state.specs.declared.Outcome.{Outcome}
 use Rattle.tables.specs.Tables.{Tables}
 use Rattle.tables.specs.Calls.{After, after}
-use Rattle.write.specs.Write.{AfterWrite, afterWrite, writeCall}
+use Rattle.write.specs.Write.{AfterWrite, afterWrite}
 use Rattle.c_numbers.specs.StateNumbers.{putState, stateOf}
-use Rattle.c_numbers.specs.CCalls.{ready, putAnswer, putStateBy, refuseUnread, told, AfterC, afterC, callC, toldWrite, AfterWriteC, afterWriteC, writeC}
+use Rattle.c_numbers.specs.CCalls.{ready, putAnswer, putStateBy, refuseUnread, told, AfterC, afterC, callC, toldWrite, AfterWriteC, afterWriteC, textC}
 
 -- ---- what `finish` leaves
 
@@ -51,18 +51,22 @@ module _ (call : Tables → State → After) (t : Tables) (s a : List ℕ) where
   made-call st o r r′ left s′ t′ able read made result finished =
       ap (λ (z : ℤ). afterC z left s′ t′) result ∙ finished t′ ∙ ap (λ (m : After). told m s a) (made ∙ ap (call t) read) ∙ sym (called able)
 
--- ---- Write
+-- ---- a call that writes text
 
-module _ (t : Tables) (s a out : List ℕ) where
-  abbrev write-by-ready : Bool → AfterWriteC
-  write-by-ready able = elim able [ true ↦ toldWrite (writeCall t (stateOf s) out) a | false ↦ afterWriteC (resultBy 1 0) (refuseUnread a) out ]
+module _ (call : Tables → State → List ℕ → AfterWrite) (t : Tables) (s a out : List ℕ) where
+  abbrev text-by-ready : Bool → AfterWriteC
+  text-by-ready able = elim able [ true ↦ toldWrite (call t (stateOf s) out) a | false ↦ afterWriteC (resultBy 1 0) (refuseUnread a) out ]
 
-  pub unread-write : (r : ℤ) (left : List ℕ) → ready s a ≡ false → r ≡ resultBy 1 0 → left ≡ refuseUnread a → afterWriteC r left out ≡ writeC t s a out
-  unfolding writeC
-  unread-write r left unready result answer = (λ i. afterWriteC (result i) (answer i) out) ∙ ap write-by-ready (sym unready)
+  pub called-text : ready s a ≡ true → textC call t s a out ≡ toldWrite (call t (stateOf s) out) a
+  unfolding textC
+  called-text able = ap text-by-ready able
 
-  pub made-write : (st : State) (given : Answer) (r : ℤ) (left out′ : List ℕ)
-      → ready s a ≡ true → st ≡ stateOf s → afterWrite given out′ ≡ writeCall t st out → r ≡ resultBy (replyOf given .number) 0 → left ≡ putAnswer (replyOf given) a → afterWriteC r left out′ ≡ writeC t s a out
-  unfolding writeC toldWrite
-  made-write st given r left out′ able read made result answer =
-      (λ i. afterWriteC (result i) (answer i) out′) ∙ ap (λ (m : AfterWrite). toldWrite m a) (made ∙ ap (λ (x : State). writeCall t x out) read) ∙ ap write-by-ready (sym able)
+  pub unread-text : (r : ℤ) (left : List ℕ) → ready s a ≡ false → r ≡ resultBy 1 0 → left ≡ refuseUnread a → afterWriteC r left out ≡ textC call t s a out
+  unfolding textC
+  unread-text r left unready result answer = (λ i. afterWriteC (result i) (answer i) out) ∙ ap text-by-ready (sym unready)
+
+  pub made-text : (st : State) (given : Answer) (r : ℤ) (left out′ : List ℕ)
+      → ready s a ≡ true → st ≡ stateOf s → afterWrite given out′ ≡ call t st out → r ≡ resultBy (replyOf given .number) 0 → left ≡ putAnswer (replyOf given) a → afterWriteC r left out′ ≡ textC call t s a out
+  unfolding toldWrite
+  made-text st given r left out′ able read made result answer =
+      (λ i. afterWriteC (result i) (answer i) out′) ∙ ap (λ (m : AfterWrite). toldWrite m a) (made ∙ ap (λ (x : State). call t x out) read) ∙ sym (called-text able)

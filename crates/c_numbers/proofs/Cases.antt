@@ -11,13 +11,15 @@ use Rattle.state.specs.declared.State.{State}
 use Rattle.state.specs.declared.Programme.{Programme}
 use Rattle.state.specs.declared.Pass.the-variants.{Idle, Propagate, Sweep}
 use Rattle.state.specs.declared.Counts.{Counts}
-use Rattle.state.specs.declared.Answer.the-variants.{Refused, Loaded, Open, Ran, KeptWhole, KeptShort, NotKept}
-use Rattle.state.specs.declared.Refusal.the-variants.{Unsettled, Newcomer}
+use Rattle.state.specs.declared.Answer.the-variants.{Refused, Loaded, Open, Ran, KeptWhole, KeptShort, NotKept, Explained}
+use Rattle.state.specs.declared.Refusal.the-variants.{Unsettled, Newcomer, NoClause}
+use Rattle.state.specs.declared.Verdict.the-variants.{Nothing, Drop, Shorten}
 use Rattle.tables.specs.Tables.{Tables}
 use Rattle.tables.specs.Calls.{After, answered, refuse}
+use Rattle.write.specs.Write.{AfterWrite, textInto}
 use Rattle.window.specs.Window.{Places, places, windowOf, AfterWindow, afterWindow, refuseWith}
 use Rattle.c_numbers.specs.StateNumbers.{putState, programmeAt, stateOf, readable}
-use Rattle.c_numbers.specs.CCalls.{ready, putAnswer, refuseUnread, told, afterC, callC}
+use Rattle.c_numbers.specs.CCalls.{ready, putAnswer, refuseUnread, told, afterC, callC, toldWrite, afterWriteC, textC}
 use Rattle.c_numbers.specs.WindowCalls.{readyWith, windowAt, putWindowBy, afterLoadC, toldLoad, loadC, afterLearnC, toldLearn, learnC}
 
 -- the programme of a settle alone, with numbers behind it
@@ -53,6 +55,12 @@ learnt : (putAnswer (replyOf (KeptWhole 3)) (9 ∷ 9 ∷ 9 ∷ 9 ∷ 9 ∷ []) �
 unfolding putAnswer
 learnt = (refl, refl, refl)
 
+-- what explain says of a clause: nothing goes; it is dropped, and its chain has 8 bytes; two literals are taken out of it, and their chains have 14. A number that is no clause's is refused (13)
+explained : (putAnswer (replyOf (Explained Nothing 0 0)) (9 ∷ 9 ∷ 9 ∷ 9 ∷ 9 ∷ []) ≡ 0 ∷ 0 ∷ 0 ∷ 0 ∷ 9 ∷ []) × (putAnswer (replyOf (Explained Drop 0 8)) (9 ∷ 9 ∷ 9 ∷ 9 ∷ []) ≡ 1 ∷ 0 ∷ 8 ∷ 0 ∷ [])
+    × (putAnswer (replyOf (Explained Shorten 2 14)) (9 ∷ 9 ∷ 9 ∷ 9 ∷ []) ≡ 2 ∷ 2 ∷ 14 ∷ 0 ∷ []) × (putAnswer (replyOf (Refused NoClause)) (9 ∷ 9 ∷ 9 ∷ 9 ∷ []) ≡ 0 ∷ 9 ∷ 9 ∷ 9 ∷ [])
+unfolding putAnswer
+explained = (refl, refl, refl, refl)
+
 -- a call that opens Propagate, one that is refused, and one on a state that cannot be read
 abbrev opens : Tables → State → After
 opens t st = answered (Open counts) (state 4 3 (Propagate 7 true) false false alone) t
@@ -65,6 +73,16 @@ calls : (t : Tables) → (callC opens t (4 ∷ 3 ∷ 0 ∷ 0 ∷ 0 ∷ 1 ∷ 0 �
     × (callC opens t (4 ∷ 3 ∷ 5 ∷ 0 ∷ 0 ∷ 1 ∷ 0 ∷ behind []) (9 ∷ 9 ∷ 9 ∷ 9 ∷ []) ≡ afterC (negsuc 0) (0 ∷ 9 ∷ 9 ∷ 9 ∷ []) (4 ∷ 3 ∷ 5 ∷ 0 ∷ 0 ∷ 1 ∷ 0 ∷ behind []) t)
 unfolding callC ready readable told putAnswer refuseUnread putState
 calls t = (refl, refl, refl)
+
+-- a call that writes two bytes, one that is refused and leaves the output, and one on a state that cannot be read
+abbrev writes : Tables → State → List ℕ → AfterWrite
+writes t st out = textInto (Explained Shorten 1) (49 ∷ 10 ∷ []) out
+
+texts : (t : Tables) → (textC writes t (replicate 40 0) (9 ∷ 9 ∷ 9 ∷ 9 ∷ []) (7 ∷ 7 ∷ 7 ∷ []) ≡ afterWriteC (pos 0) (2 ∷ 1 ∷ 2 ∷ 0 ∷ []) (49 ∷ 10 ∷ 7 ∷ []))
+    × (textC writes t (replicate 40 0) (9 ∷ 9 ∷ 9 ∷ 9 ∷ []) (7 ∷ []) ≡ afterWriteC (negsuc 9) (2 ∷ 9 ∷ 9 ∷ 9 ∷ []) (7 ∷ []))
+    × (textC writes t (replicate 39 0) (9 ∷ 9 ∷ 9 ∷ 9 ∷ []) (7 ∷ 7 ∷ 7 ∷ []) ≡ afterWriteC (negsuc 0) (0 ∷ 9 ∷ 9 ∷ 9 ∷ []) (7 ∷ 7 ∷ 7 ∷ []))
+unfolding textC ready readable toldWrite putAnswer refuseUnread
+texts t = (refl, refl, refl)
 
 -- ---- the window
 

@@ -14,7 +14,7 @@ use Rattle.state.specs.declared.Answer.the-variants.{Refused}
 use Rattle.state.specs.declared.Refusal.the-variants.{Shape}
 use Rattle.tables.specs.Tables.{Tables}
 use Rattle.tables.specs.Calls.{After}
-use Rattle.write.specs.Write.{AfterWrite, writeCall}
+use Rattle.write.specs.Write.{AfterWrite}
 use Rattle.c_numbers.specs.StateNumbers.{putFront, digit, putState, stateOf, readable}
 
 -- both slices are long enough, and the state's numbers are a state's
@@ -62,7 +62,7 @@ told made s a = afterC (resultBy (made .reply .number) 0) (putAnswer (made .repl
 unfoldable pub callC : (Tables → State → After) → Tables → List ℕ → List ℕ → AfterC
 callC call t s a = elim (ready s a) [ true ↦ told (call t (stateOf s)) s a | false ↦ afterC (resultBy 1 0) (refuseUnread a) s t ]
 
--- ---- Write: the state and the tables are lent to it for reading only
+-- ---- the calls that write text: the state and the tables are lent to them for reading only
 
 pub record AfterWriteC : Type 0 where
   pub result : ℤ
@@ -75,5 +75,6 @@ afterWriteC result answer out = record { result = result; answer = answer; out =
 unfoldable pub toldWrite : AfterWrite → List ℕ → AfterWriteC
 toldWrite made a = afterWriteC (resultBy (made .reply .number) 0) (putAnswer (made .reply) a) (made .out)
 
-unfoldable pub writeC : Tables → List ℕ → List ℕ → List ℕ → AfterWriteC
-writeC t s a out = elim (ready s a) [ true ↦ toldWrite (writeCall t (stateOf s) out) a | false ↦ afterWriteC (resultBy 1 0) (refuseUnread a) out ]
+-- such a call, by its definition on tables, a state and an output, on the numbers that C lends. A refused one leaves the output as it is (law `refused-text`, crate c_calls)
+unfoldable pub textC : (Tables → State → List ℕ → AfterWrite) → Tables → List ℕ → List ℕ → List ℕ → AfterWriteC
+textC call t s a out = elim (ready s a) [ true ↦ toldWrite (call t (stateOf s) out) a | false ↦ afterWriteC (resultBy 1 0) (refuseUnread a) out ]

@@ -182,7 +182,7 @@ fn put_four(answer: &mut [u64], first: u64, second: u64, third: u64, fourth: u64
     answer[3] = fourth;
 }
 
-// What a call that was made answers: Open alone sets the fourth.
+// What a call that was made answers: three values of the resumable passes and of explain (the verdict, how many literals it takes out, the length), two of a learnt clause that is kept, one or none of the others. Open alone sets the fourth.
 fn put_values(answer: &mut [u64], a: Answer)
     requires { ⌜ 4 ≤ length (now answer) ⌝ }
     ensures { λ _. ⌜ now (answer .exit) ≡ putFront (valuesOf (replyOf a)) (now (answer .entry)) ⌝ }
@@ -204,6 +204,9 @@ fn put_values(answer: &mut [u64], a: Answer)
         ),
         Answer::KeptWhole(left) => put_four(answer, 0, left as u64, 0, 0),
         Answer::KeptShort(left) => put_four(answer, 2, left as u64, 0, 0),
+        Answer::Explained(verdict, out, length) => {
+            put_four(answer, verdict.number(), out as u64, length as u64, 0)
+        }
         _ => put_four(answer, a.value(), 0, 0, 0),
     }
 }

@@ -25,6 +25,7 @@ use Rattle.stamp.specs.Stamp.{stampBy, stampCall}
 use Rattle.failed.specs.Failed.{failedBy, failedCall}
 use Rattle.sweep.specs.Sweep.{sweepBy, sweepCall}
 use Rattle.learn.specs.Learn.{learnRuled, learnCall}
+use Rattle.explain.specs.Explain.{explainOpening, explainCall}
 use Rattle.run.specs.Run.{runBy, runCall}
 use Rattle.set_programme.specs.SetProgramme.{setCall}
 use Rattle.set_programme.proofs.Setting.{set-misshapen}
@@ -73,6 +74,10 @@ module _ (t : Tables) (st : State) (short : length (t .times) < 4096) where
   unfolding learnCall
   learn-short C w = ap (λ (b : Bool). elim b as (λ y. AfterWindow) [ true ↦ learnRuled (windowOk (st .v) w) C t st w | false ↦ refuseWith Shape t st w ]) (short-shape t short st)
 
+  pub explain-short : (number : ℕ) (out : List ℕ) → explainCall number t st out ≡ afterWrite (Refused Shape) out
+  unfolding explainCall
+  explain-short number out = ap (λ (e : Opening). explainOpening e number t st out) (short-opening t short st)
+
   pub run-short : (n : ℕ) → runCall n t st ≡ refuse Shape st t
   unfolding runCall
   run-short n = ap (λ (e : Opening). runBy e n t st) (short-opening t short st)
@@ -88,6 +93,7 @@ module _ (clauses : List ℕ) (literals variables : List ℤ) (stamps : List Sta
   pub few-refused : ((text : List ℕ) (w : Places) → loadWith text t st w ≡ refuseWith Shape t st w) × ((out : List ℕ) → writeCall t st out ≡ afterWrite (Refused Shape) out) × ((n : ℕ) → propagateCall n t st ≡ refuse Shape st t)
       × ((n : ℕ) → mergeCall n t st ≡ refuse Shape st t) × ((order : List ℤ) → stampCall order t st ≡ refuse Shape st t) × (failedCall t st ≡ refuse Shape st t) × ((n : ℕ) → sweepCall n t st ≡ refuse Shape st t)
       × ((C : List ℤ) (w : Places) → learnCall C t st w ≡ refuseWith Shape t st w) × ((n : ℕ) → runCall n t st ≡ refuse Shape st t) × ((codes : List ℕ) → setCall codes t st ≡ refuse Shape st t)
+      × ((number : ℕ) (out : List ℕ) → explainCall number t st out ≡ afterWrite (Refused Shape) out)
   few-refused = (
     load-with-short t st short,
     write-short t st short,
@@ -99,6 +105,7 @@ module _ (clauses : List ℕ) (literals variables : List ℤ) (stamps : List Sta
     learn-short t st short,
     run-short t st short,
     set-short t st short,
+    explain-short t st short,
   )
     where
       short : length (t .times) < 4096

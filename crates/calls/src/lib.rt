@@ -24,6 +24,7 @@ ghost use Rattle.stamp.specs.Stamp.{stampCall};
 ghost use Rattle.failed.specs.Failed.{failedCall};
 ghost use Rattle.sweep.specs.Sweep.{sweepCall};
 ghost use Rattle.learn.specs.Learn.{learnCall};
+ghost use Rattle.explain.specs.Explain.{explainCall};
 ghost use Rattle.run.specs.Run.{runCall};
 ghost use Rattle.set_programme.specs.SetProgramme.{setCall};
 ghost use Rattle.calls.specs.Calls.{recorded, held, afterStamp, inRecords, afterRun, runInRecords};
@@ -141,6 +142,50 @@ pub fn write(
 {
     let c = stamp_records::columns_of(stamps);
     write_columns(clauses, literals, variables, c, st, out)
+}
+
+fn explain_columns(
+    clauses: &[u32],
+    literals: &[i32],
+    variables: &[i32],
+    c: Columns,
+    st: State,
+    number: u32,
+    out: &mut [u8],
+) -> Answer
+    ensures { λ r. ⌜ afterWrite r (now (out .exit)) ≡ explainCall number (held (now (clauses .entry)) (now (literals .entry)) (now (variables .entry)) c) st (now (out .entry)) ⌝ }
+{
+    if c.count < 2048 {
+        return Answer::Refused(Refusal::Shape);
+    }
+    let times = c.times;
+    let links = c.links;
+    explain::explain(
+        clauses,
+        literals,
+        variables,
+        &times,
+        &links,
+        st,
+        number,
+        out,
+    )
+}
+
+// Explain: what a Sweep would do to the clause of this number, with the chains that show it. Of the stamps the times say what it would do, and the parents the chains.
+pub fn explain(
+    clauses: &[u32],
+    literals: &[i32],
+    variables: &[i32],
+    stamps: &[StampRecord],
+    st: State,
+    number: u32,
+    out: &mut [u8],
+) -> Answer
+    ensures { λ r. ⌜ afterWrite r (now (out .exit)) ≡ explainCall number (recorded (now (clauses .entry)) (now (literals .entry)) (now (variables .entry)) (now (stamps .entry))) st (now (out .entry)) ⌝ }
+{
+    let c = stamp_records::columns_of(stamps);
+    explain_columns(clauses, literals, variables, c, st, number, out)
 }
 
 fn propagate_columns(

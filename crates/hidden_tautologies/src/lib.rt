@@ -9,8 +9,8 @@ ghost use Rattle.stamp_columns.specs.Columns.{columns};
 ghost use Rattle.hidden.specs.Hidden.{byDiscovery, scan, figure6, transitive, hiddenPair, hiddenTautology};
 ghost use Rattle.hidden_tautologies.specs.Judged.{Two, Scanned, Judged};
 
-// Whether the stamps show that the edge from slot p to slot q is transitive: p holds q and is not its parent.
-fn transitive(times: &[u32], links: &[i32], p: u32, q: u32) -> bool
+// Whether the stamps show that the edge from slot p to slot q is transitive: p holds q and is not its parent. Both slots have fresh stamps, as the shape rule gives them to a visit.
+pub fn transitive(times: &[u32], links: &[i32], p: u32, q: u32) -> bool
     requires { ⌜ Two (now times) (now links) p q ⌝ }
     ensures { λ r. ⌜ r ≡ transitive (columns (now (times .entry)) (now (links .entry))) p q ⌝ }
 {

@@ -36,13 +36,14 @@ NoSweep (Sweep cursor) = ⊥
 abbrev numberOf : AfterWindow → ℕ
 numberOf a = a .made .reply .number
 
-module _ (steps : ℕ) (C : List ℤ) (t : Tables) (st : State) (w : Places) where
-  sweep-number : sweepFrom steps 0 t st .reply .number ≡ 0
-  sweep-number = advance-cases Sweep true false (sweepClause (columns (t .times) (t .links))) steps 0 t st (λ (a : After). a .reply .number ≡ 0) (λ counts lt. refl) (λ counts done. refl)
+-- a Sweep that opens with fresh stamps is made
+pub sweep-number : (steps : ℕ) (t : Tables) (st : State) → sweepFrom steps 0 t st .reply .number ≡ 0
+sweep-number steps t st = advance-cases Sweep true false (sweepClause (columns (t .times) (t .links))) steps 0 t st (λ (a : After). a .reply .number ≡ 0) (λ counts lt. refl) (λ counts done. refl)
 
+module _ (steps : ℕ) (C : List ℤ) (t : Tables) (st : State) (w : Places) where
   module _ (ruled : windowOk (st .v) w ≡ true) (allowed : learnableOk (st .v) C ≡ true) where
     stale : (fresh : Bool) → numberOf (learnUnlessStale fresh C t st w) ≡ sweepUnlessStale fresh steps 0 t st .reply .number
-    stale true = ap (λ (b : Bool). numberOf (learnIf b C t st w)) allowed ∙ judged-number t st w C (sweepClause (columns (t .times) (t .links)) C) ∙ sym sweep-number
+    stale true = ap (λ (b : Bool). numberOf (learnIf b C t st w)) allowed ∙ judged-number t st w C (sweepClause (columns (t .times) (t .links)) C) ∙ sym (sweep-number steps t st)
     stale false = refl
 
     opens : (p : Pass) (mark : Bool) → NoSweep p → numberOf (learnOpening (openingBy p mark) C t st w) ≡ sweepBy (entryBy own.Sweep p mark) steps t st .reply .number

@@ -16,7 +16,7 @@ use Rattle.hidden.specs.Hidden.{unhidden}
 use Rattle.paper.specs.Sweeping.{Filtered, none, stays, goes, ToNoOther}
 
 -- a test that decides P leaves the literals that have P
-filter-left : (P : ℤ → Type 0) (test : ℤ → Bool) (C : List ℤ) → ((l : ℤ) → List·Memᴰ l C → (test l ≡ true → P l) × (test l ≡ false → P l → ⊥)) → Filtered P C (filter test C)
+pub filter-left : (P : ℤ → Type 0) (test : ℤ → Bool) (C : List ℤ) → ((l : ℤ) → List·Memᴰ l C → (test l ≡ true → P l) × (test l ≡ false → P l → ⊥)) → Filtered P C (filter test C)
 unfolding filter
 filter-left P test [] exact = none
 filter-left P test (x ∷ C) exact = go (filter-left P test C (λ l m. exact l (List·Memᴰ·tail m))) (test x) refl

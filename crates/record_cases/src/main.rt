@@ -1,7 +1,7 @@
-// Stamp, a learnt clause and Sweep over stamp records, run on the code: P2 stamped and swept with one record more than stated, and with one less,
-// and between the two calls a newcomer judged by the stamps. All records are filled with 7s before, so that those that stayed are seen.
-// The records are passed by value, with the number of them that is lent: only `stamp_lent`, `learn_lent` and `sweep_lent` make a loan of records,
-// and each of them makes one call.
+// Stamp, a learnt clause, an explanation and Sweep over stamp records, run on the code: P2 stamped and swept with one record more than stated, and with
+// one less, and between the two calls a newcomer judged by the stamps, and what the Sweep will do to clause 3 explained. All records are filled with 7s
+// before, so that those that stayed are seen. The records are passed by value, with the number of them that is lent: only `stamp_lent`, `learn_lent`,
+// `explain_lent` and `sweep_lent` make a loan of records, and each of them makes one call.
 ghost use Prim.Native.Nat.{_≤_};
 
 mod words;
@@ -76,6 +76,29 @@ fn learn_lent(
     )
 }
 
+fn explain_lent(
+    clauses: &[u32],
+    literals: &[i32],
+    variables: &[i32],
+    records: [StampRecord; 2049],
+    lent: usize,
+    st: State,
+    number: u32,
+    out: &mut [u8],
+) -> Answer
+    requires { ⌜ lent ≤ 2049 ⌝ }
+{
+    calls::explain(
+        clauses,
+        literals,
+        variables,
+        &records[..lent],
+        st,
+        number,
+        out,
+    )
+}
+
 fn sweep_lent(
     clauses: &mut [u32],
     literals: &mut [i32],
@@ -144,11 +167,14 @@ fn print_text(out: &[u8], k: usize) {
     }
 }
 
+// The answer of a call that writes text, and behind it the text.
 fn print_written(answer: Answer, out: &[u8]) {
     print_answer(answer);
     end_line();
-    if let Answer::Written(k) = answer {
-        print_text(out, k);
+    match answer {
+        Answer::Written(k) => print_text(out, k),
+        Answer::Explained(_, _, k) => print_text(out, k),
+        _ => {}
     }
 }
 
@@ -213,7 +239,23 @@ fn learn_reported(
     report(outcome);
 }
 
-// Stamp, the newcomer and the whole of Sweep.
+// What a Sweep would do to clause 3.
+fn explain_reported(
+    lent: usize,
+    clauses: &[u32],
+    literals: &[i32],
+    variables: &[i32],
+    records: [StampRecord; 2049],
+    st: State,
+)
+    requires { ⌜ lent ≤ 2049 ⌝ }
+{
+    let mut out = [b'.'; 64];
+    let answer = explain_lent(clauses, literals, variables, records, lent, st, 3, &mut out);
+    print_written(answer, &out);
+}
+
+// Stamp, the newcomer, the explanation and the whole of Sweep.
 fn simplify(
     order: &[i32],
     lent: usize,
@@ -228,6 +270,7 @@ fn simplify(
     let records = stamped.records;
     let outcome = stamped.outcome;
     learn_reported(lent, clauses, literals, variables, records, outcome.state);
+    explain_reported(lent, clauses, literals, variables, records, outcome.state);
     report(sweep_lent(
         clauses,
         literals,

@@ -3,6 +3,7 @@ use libc::STDOUT_FILENO;
 use state::Answer;
 use state::Counts;
 use state::Refusal;
+use state::Verdict;
 
 pub fn print(bytes: &[u8]) {
     io::write_all(STDOUT_FILENO, bytes);
@@ -33,6 +34,19 @@ fn print_counts(counts: Counts) {
     print_number(counts.literals as u64);
 }
 
+// A word and the one number that comes with it.
+fn print_value(word: &[u8], value: u64) {
+    print(word);
+    print_number(value);
+}
+
+// The verdict on a clause, how many literals it takes out, and the length written.
+fn print_explained(verdict: Verdict, out: u32, length: usize) {
+    print_value(b"explained", verdict.number());
+    print_number(out as u64);
+    print_number(length as u64);
+}
+
 // A word for the kind of answer and what comes with it, without the end of the line.
 pub fn print_answer(answer: Answer) {
     match answer {
@@ -47,27 +61,13 @@ pub fn print_answer(answer: Answer) {
             print_counts(counts);
         }
         Answer::Stamped => print(b"stamped"),
-        Answer::Failed(set) => {
-            print(b"failed");
-            print_number(set as u64);
-        }
-        Answer::Ran(rounds) => {
-            print(b"ran");
-            print_number(rounds as u64);
-        }
-        Answer::Written(length) => {
-            print(b"written");
-            print_number(length as u64);
-        }
+        Answer::Failed(set) => print_value(b"failed", set as u64),
+        Answer::Ran(rounds) => print_value(b"ran", rounds as u64),
+        Answer::Written(length) => print_value(b"written", length as u64),
         Answer::Set => print(b"set"),
-        Answer::KeptWhole(left) => {
-            print(b"kept");
-            print_number(left as u64);
-        }
-        Answer::KeptShort(left) => {
-            print(b"shortened");
-            print_number(left as u64);
-        }
+        Answer::KeptWhole(left) => print_value(b"kept", left as u64),
+        Answer::KeptShort(left) => print_value(b"shortened", left as u64),
         Answer::NotKept => print(b"dropped"),
+        Answer::Explained(verdict, out, length) => print_explained(verdict, out, length),
     }
 }

@@ -113,7 +113,7 @@ replied-spends st b e m before (going i changed t) = record { v = refl; n = refl
 replied-spends st b e m before (settled t) = record { v = refl; n = refl; fresh = e }
 replied-spends st b e m before (contradicted t) = record { v = refl; n = refl; fresh = refl }
 
-propagate-spends : (st : State) (b : Bool) → b ≡ false → (steps : ℕ) (p : Progress) (t : Tables) → Spends st (propagateFrom b steps p t st)
+pub propagate-spends : (st : State) (b : Bool) → b ≡ false → (steps : ℕ) (p : Progress) (t : Tables) → Spends st (propagateFrom b steps p t st)
 unfolding propagateFrom
 propagate-spends st b e steps p t = let E = replied-spends st b e (propagateVisits (st .n) steps 0 p .visits) (t .clauses) (propagateVisits (st .n) steps 0 p .progress) in record { v = E .v; n = E .n; fresh = E .fresh }
 
@@ -130,7 +130,7 @@ propagate-held {f} steps t st H = by (entryOf own.Propagate t st) refl (propagat
 
 -- ---- Merge
 
-merge-spends : (st : State) (b : Bool) → b ≡ false → (steps c : ℕ) (t : Tables) → Spends st (mergeFrom b steps c t st)
+pub merge-spends : (st : State) (b : Bool) → b ≡ false → (steps c : ℕ) (t : Tables) → Spends st (mergeFrom b steps c t st)
 unfolding advance
 merge-spends st b e steps c t = go (ltb (c + min steps (st .n - c)) (st .n))
   where
@@ -141,7 +141,7 @@ merge-spends st b e steps c t = go (ltb (c + min steps (st .n - c)) (st .n))
     go true = record { v = refl; n = refl; fresh = e }
     go false = record { v = refl; n = refl; fresh = e }
 
-open-spends : (st : State) (steps : ℕ) (t : Tables) → Spends st (mergeOpen steps t st)
+pub open-spends : (st : State) (steps : ℕ) (t : Tables) → Spends st (mergeOpen steps t st)
 unfolding mergeOpen
 open-spends st steps t = go (clashes (edgesOf t (st .n)) (st .v))
   where

@@ -1,7 +1,7 @@
 // The types that all calls share: the state that goes with the tables, the refusals, and the answers.
 ghost use mathlib.Core.Path.{_≡_};
 ghost use Prim.Native.Nat.{_-_, _^_, _≤_};
-ghost use Rattle.state.specs.Answers.{refusalNumber, refusalPlace, replyOf, firstValue, resultBy};
+ghost use Rattle.state.specs.Answers.{refusalNumber, refusalPlace, verdictNumber, replyOf, firstValue, resultBy};
 ghost use Rattle.state.specs.Programmes.{constantProgramme};
 ghost use Rattle.state.specs.States.{state, loadedState, emptyState, opened, closed, marked, programmed};
 
@@ -140,6 +140,8 @@ pub enum Refusal {
     Newcomer,
     // the index of the first code that breaks the rules of programmes, 0 for a wrong length
     Codes(usize),
+    // no clause of this number stands
+    NoClause,
 }
 
 impl Refusal {
@@ -159,6 +161,7 @@ impl Refusal {
             Refusal::Short(_) => 10,
             Refusal::Newcomer => 11,
             Refusal::Codes(_) => 12,
+            Refusal::NoClause => 13,
         }
     }
 
@@ -179,6 +182,7 @@ impl Refusal {
             Refusal::Short(needed) => needed as u64,
             Refusal::Newcomer => 0,
             Refusal::Codes(index) => index as u64,
+            Refusal::NoClause => 0,
         }
     }
 }
@@ -188,6 +192,25 @@ pub struct Counts {
     pub visits: u32,
     pub clauses: u32,
     pub literals: u32,
+}
+
+// What a Sweep would do to a clause: nothing, drop it, or take literals out.
+pub enum Verdict {
+    Nothing,
+    Drop,
+    Shorten,
+}
+
+impl Verdict {
+    pub fn number(self) -> u64
+        ensures { λ r. ⌜ r ≡ verdictNumber self ⌝ }
+    {
+        match self {
+            Verdict::Nothing => 0,
+            Verdict::Drop => 1,
+            Verdict::Shorten => 2,
+        }
+    }
 }
 
 // What the calls answer.
@@ -212,12 +235,14 @@ pub enum Answer {
     KeptWhole(u32),
     KeptShort(u32),
     NotKept,
+    // explain: the verdict, how many literals it takes out, the length written
+    Explained(Verdict, u32, usize),
 }
 
 impl Answer {
     // The refusal's number, 0 where nothing is refused.
     pub fn number(self) -> u64
-        ensures { λ r. ⌜ (r ≡ replyOf self .number) × (r ≤ 12) ⌝ }
+        ensures { λ r. ⌜ (r ≡ replyOf self .number) × (r ≤ 13) ⌝ }
     {
         if let Answer::Refused(refusal) = self {
             return refusal.number();
@@ -225,7 +250,7 @@ impl Answer {
         0
     }
 
-    // The first value: a refusal's place, the visits made, the length written, what becomes of a learnt clause; 0 where there is none.
+    // The first value: a refusal's place, the visits made, the length written, what becomes of a learnt clause, the verdict on a clause; 0 where there is none.
     pub fn value(self) -> u64
         ensures { λ r. ⌜ r ≡ firstValue (replyOf self .values) ⌝ }
     {
@@ -242,6 +267,7 @@ impl Answer {
             Answer::KeptWhole(_) => 0,
             Answer::KeptShort(_) => 2,
             Answer::NotKept => 1,
+            Answer::Explained(verdict, _, _) => verdict.number(),
         }
     }
 }
@@ -252,9 +278,9 @@ pub struct Outcome {
     pub state: State,
 }
 
-// What a function for C returns: a value, or the refusal's number, negative. Numbers of refusals are at most 12, and a length of text is below 2^63.
+// What a function for C returns: a value, or the refusal's number, negative. Numbers of refusals are at most 13, and a length of text is below 2^63.
 pub fn result(number: u64, value: u64) -> i64
-    requires { ⌜ (number ≤ 12) × (number ≡ 0 → value ≤ 2 ^ 63 - 1) ⌝ }
+    requires { ⌜ (number ≤ 13) × (number ≡ 0 → value ≤ 2 ^ 63 - 1) ⌝ }
     ensures { λ r. ⌜ r ≡ resultBy number value ⌝ }
 {
     if number == 0 {

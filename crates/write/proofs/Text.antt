@@ -9,7 +9,8 @@ use lib.Seq.{sets, sets-eq}
 use lib.IntN.{ℤ}
 use borrow.Author.Tests.{lt-leb, le-leb}
 use Rattle.state.specs.declared.State.{State}
-use Rattle.state.specs.declared.Answer.the-variants.{Refused, Written}
+use Rattle.state.specs.declared.Answer.{Answer}
+use Rattle.state.specs.declared.Answer.the-variants.{Refused}
 use Rattle.state.specs.declared.Refusal.the-variants.{Shape, Short}
 use Rattle.tables.specs.Tables.{Tables}
 use Rattle.shape.specs.Decision.{shapeOk}
@@ -17,7 +18,7 @@ use Rattle.printing.specs.Printing.{clauseText, clausesText, headerText, textOf
 use Rattle.printing.specs.Stored.{Stored}
 use Rattle.literal.specs.Literals.{EachSmall}
 use Rattle.printing.proofs.Storing.{stored-then, sets-nil}
-use Rattle.write.specs.Write.{writtenClauses, writeText, afterWrite, writeInto, writeCall}
+use Rattle.write.specs.Write.{writtenClauses, writeText, afterWrite, textInto, writeInto, writeCall}
 use Rattle.write.specs.Gathered.{gathered, unitAt, classAt, writtenAt, formula}
 use Rattle.write.specs.Printable.{PrintableClauses, Printable}
 use Rattle.write.proofs.Gathering.{units-gathered, classes-gathered, standing-gathered, text-append, header-then}
@@ -106,21 +107,21 @@ module _ (t : Tables) (st : State) (R : Printable (t .clauses) (t .literals) (t 
 
 -- ---- measured on an empty part of the output, then written
 
-pub too-short : {text e : List ℕ} {r : ℕ} (out : List ℕ) → Stored text 0 [] e r → length (e ++ out) < r → afterWrite (Refused (Short r)) (e ++ out) ≡ writeInto text out
-too-short {text} {e} {r} out s h =
+pub too-short : (answer : ℕ → Answer) {text e : List ℕ} {r : ℕ} (out : List ℕ) → Stored text 0 [] e r → length (e ++ out) < r → afterWrite (Refused (Short r)) (e ++ out) ≡ textInto answer text out
+too-short answer {text} {e} {r} out s h =
     let n : e ≡ [] = s .stored ∙ sets-nil 0 text in
     let k : r ≡ length text = s .next ∙ omega arith in
     let o : e ++ out ≡ out = ap (λ (d : List ℕ). d ++ out) n in
-    rw (lt-leb (length text) (length out) (omega (arith, k, ap length o)), writeInto) (λ i. afterWrite (Refused (Short (k i))) (o i))
+    rw (lt-leb (length text) (length out) (omega (arith, k, ap length o)), textInto) (λ i. afterWrite (Refused (Short (k i))) (o i))
 
-pub fits-out : {text e o : List ℕ} {n r : ℕ} (out : List ℕ) → Stored text 0 [] e n → n ≤ length (e ++ out) → Stored text 0 (e ++ out) o r → afterWrite (Written r) o ≡ writeInto text out
-fits-out {text} {e} {o} {n} {r} out s h t =
+pub fits-out : (answer : ℕ → Answer) {text e o : List ℕ} {n r : ℕ} (out : List ℕ) → Stored text 0 [] e n → n ≤ length (e ++ out) → Stored text 0 (e ++ out) o r → afterWrite (answer r) o ≡ textInto answer text out
+fits-out answer {text} {e} {o} {n} {r} out s h t =
     let q : e ++ out ≡ out = ap (λ (d : List ℕ). d ++ out) (s .stored ∙ sets-nil 0 text) in
     let k : r ≡ length text = t .next ∙ omega arith in
     let m : length text ≤ length out = omega (arith, s .next, ap length q) in
     let z : 0 + length text ≡ length text = omega arith in
     let p : o ≡ text ++ drop (length text) out = t .stored ∙ ap (λ (d : List ℕ). sets d 0 text) q ∙ sets-eq text out 0 (omega arith) ∙ ap (λ (i : ℕ). text ++ drop i out) z in
-    rw (le-leb (length text) (length out) m, writeInto) (λ i. afterWrite (Written (k i)) (p i))
+    rw (le-leb (length text) (length out) m, textInto) (λ i. afterWrite (answer (k i)) (p i))
 
 -- ---- the call
 

@@ -65,13 +65,16 @@ pub record AfterWrite : Type 0 where
 abbrev pub afterWrite : Answer → List ℕ → AfterWrite
 afterWrite a out = record { reply = replyOf a; out = out }
 
--- a text into an output: all of it, and later bytes stay; or refusal 10 with the length needed, and nothing changes
-abbrev pub writeInto : List ℕ → List ℕ → AfterWrite
-writeInto text out =
+-- a text into an output: all of it, with an answer that says its length, and later bytes stay; or refusal 10 with the length needed, and nothing changes
+abbrev pub textInto : (ℕ → Answer) → List ℕ → List ℕ → AfterWrite
+textInto answer text out =
     elim (leb (length text) (length out)) [
-      | true ↦ afterWrite (Written (length text)) (text ++ drop (length text) out)
+      | true ↦ afterWrite (answer (length text)) (text ++ drop (length text) out)
       | false ↦ afterWrite (Refused (Short (length text))) out
     ]
+
+abbrev pub writeInto : List ℕ → List ℕ → AfterWrite
+writeInto text out = textInto Written text out
 
 -- the call
 unfoldable pub writeCall : Tables → State → List ℕ → AfterWrite

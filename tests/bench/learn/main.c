@@ -4,13 +4,10 @@
  * nanoseconds of processor time, and their ratio; the exit status is 1 if it is above 1.2 for 3 literals or above 2 for 64. */
 #define _POSIX_C_SOURCE 200809L
 #include <stdio.h>
-#include <stdlib.h>
-#include <string.h>
-#include <time.h>
 
-#include "../stamped.h"
+#include "../timed.h"
 
-enum { NEWCOMERS = 256, SAMPLES = 41, CALLS = 64, MOST = UNHIDE_LEARNT_LITERALS };
+enum { NEWCOMERS = 256, MOST = UNHIDE_LEARNT_LITERALS };
 
 static int32_t newcomers[NEWCOMERS][MOST];
 static uint64_t seed = 1;
@@ -45,37 +42,12 @@ static int find_newcomers(uint32_t size) {
     return found == NEWCOMERS;
 }
 
-static double now(void) {
-    struct timespec t;
-    clock_gettime(CLOCK_PROCESS_CPUTIME_ID, &t);
-    return 1e9 * (double)t.tv_sec + (double)t.tv_nsec;
-}
-
-static int refused;
-
 /* Nanoseconds of one learn, of CALLS in a row. */
 static double time_learn(uint32_t size) {
     double start = now();
     for (int i = 0; i < CALLS; i++)
         refused |= unhide_tables_learn(&tables, newcomers[draw(NEWCOMERS)], size, &answer) != 0;
     return (now() - start) / CALLS;
-}
-
-/* Nanoseconds of one Sweep that opens and makes no visit. The state is put back after each. */
-static double time_sweep(void) {
-    static struct unhide_state before;
-    before = tables.state;
-    double start = now();
-    for (int i = 0; i < CALLS; i++) {
-        refused |= unhide_tables_sweep(&tables, 0, &answer) != 0;
-        tables.state = before;
-    }
-    return (now() - start) / CALLS;
-}
-
-static int by_size(const void *a, const void *b) {
-    double x = *(const double *)a, y = *(const double *)b;
-    return (x > y) - (x < y);
 }
 
 static int measure(const char *kind, uint32_t size, double most) {
@@ -88,11 +60,9 @@ static int measure(const char *kind, uint32_t size, double most) {
         learn[i] = time_learn(size);
         sweep[i] = time_sweep();
     }
-    qsort(learn, SAMPLES, sizeof learn[0], by_size);
-    qsort(sweep, SAMPLES, sizeof sweep[0], by_size);
-    double ratio = learn[SAMPLES / 2] / sweep[SAMPLES / 2];
-    printf("%-14s %8u %10.0f %10.0f %8.2f\n", kind, size, learn[SAMPLES / 2], sweep[SAMPLES / 2], ratio);
-    return refused || ratio > most;
+    double learned = median(learn), swept = median(sweep);
+    printf("%-14s %8u %10.0f %10.0f %8.2f\n", kind, size, learned, swept, learned / swept);
+    return refused || learned / swept > most;
 }
 
 int main(int argc, char **argv) {

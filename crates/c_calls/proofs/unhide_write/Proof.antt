@@ -5,8 +5,9 @@ use mir.Facts.{toZ-ofZ}
 use borrow.Author.Tests.{not-true, not-false}
 use borrow.Author.Needs.{sfits-of, needs}
 use Rattle.tables.specs.Tables.{Tables, tables}
+use Rattle.write.specs.Write.{writeCall}
 use Rattle.c_numbers.proofs.Reading.{ready-long}
-use Rattle.c_numbers.proofs.Calling.{unread-write, made-write}
+use Rattle.c_numbers.proofs.Calling.{unread-text, made-text}
 use Rattle.c_calls.proofs.unhide_write.Statement.{statement}
 use Rattle.c_calls.proofs.unhide_write.Tie as tie
 
@@ -27,7 +28,7 @@ returns : tie.Need-returns
 returns c =
     let s = c .before .before .before .before .before .before .before .before .before .before .before .before in
     let refused = c .before .before .refuse-unread in
-    unread-write (lentTables s) (s .args .state .now) (s .args .answer .now) (s .args .out .now) _ _
+    unread-text writeCall (lentTables s) (s .args .state .now) (s .args .answer .now) (s .args .out .now) _ _
     (sym (c .before .before .before .before .before .ready .ensures) ∙ not-true _ (c .before .before .before .before .if1 .taken)) (toZ-ofZ {w = w64} {z = refused .result} (sfits-of (refused .ok)) ∙ refused .ensures .0) (refused .ensures .1)
 
 state-at-requires : tie.Need-state-at-requires
@@ -52,7 +53,7 @@ returns-2 c =
     let s = c .before .before .before .before .before .before .before .before .before .before .before .before .before .before .before .before .before in
     let made = c .before .before .before .before .before .before .write in
     let answered = c .before .before .put-answer in
-    made-write (lentTables s) (s .args .state .now) (s .args .answer .now) (s .args .out .now) _ (made .result) _ _ _
+    made-text writeCall (lentTables s) (s .args .state .now) (s .args .answer .now) (s .args .out .now) _ (made .result) _ _ _
     (sym (c .before .before .before .before .before .before .before .before .before .before .ready .ensures) ∙ not-false _ (c .before .before .before .before .before .before .before .before .before .if1 .left))
     (c .before .before .before .before .before .before .before .before .state-at .ensures) (made .ensures) (toZ-ofZ {w = w64} {z = answered .result} (sfits-of (answered .ok)) ∙ answered .ensures .0) (answered .ensures .1)
 

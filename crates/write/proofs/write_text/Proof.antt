@@ -1,5 +1,6 @@
 -- `write::write_text` meets its contract. The text is measured on an empty part of the output, then written. Assumes nothing.
 use borrow.Author.Needs.{needs}
+use Rattle.state.specs.declared.Answer.the-variants.{Written}
 use Rattle.write.proofs.Text.{too-short, fits-out}
 use Rattle.write.proofs.write_text.Statement.{statement}
 use Rattle.write.proofs.write_text.Tie as tie
@@ -17,7 +18,7 @@ same-length : tie.Need-same-length
 same-length c = search needs
 
 returns : tie.Need-returns
-returns c = λ times links. too-short (c .before .before .before .before .before .before .before .args .out .now) (c .before .before .before .put-formula .ensures times links) (c .if1 .taken)
+returns c = λ times links. too-short Written (c .before .before .before .before .before .before .before .args .out .now) (c .before .before .before .put-formula .ensures times links) (c .if1 .taken)
 
 put-formula-requires-2 : tie.Need-put-formula-requires-2
 put-formula-requires-2 c κs = search needs
@@ -26,7 +27,7 @@ same-length-2 : tie.Need-same-length-2
 same-length-2 c = search needs
 
 returns-2 : tie.Need-returns-2
-returns-2 c = λ times links. fits-out (c .before .before .before .before .before .before .before .before .before .before .before .args .out .now) (c .before .before .before .before .before .before .before .put-formula .ensures times links) (c .before .before .before .before .if1 .left) (c .before .before .put-formula2 .ensures times links)
+returns-2 c = λ times links. fits-out Written (c .before .before .before .before .before .before .before .before .before .before .before .args .out .now) (c .before .before .before .before .before .before .before .put-formula .ensures times links) (c .before .before .before .before .if1 .left) (c .before .before .put-formula2 .ensures times links)
 
 pub write-text-spec : {M : Type 1} → statement M
 write-text-spec =

@@ -1,0 +1,4 @@
+pub mod Climbing
+pub mod Rowed
+pub mod Listing
+pub mod Descending

@@ -1,0 +1,14 @@
+pub mod Cases
+pub mod Clauses
+pub mod Swept
+pub mod Leaving
+pub mod Searching
+pub mod Gathering
+pub mod Finding
+pub mod Firsts
+pub mod Naming
+pub mod Named
+pub mod Few
+pub mod Standing
+pub mod Entering
+pub mod Writing

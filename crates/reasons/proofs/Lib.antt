@@ -1,0 +1,10 @@
+pub mod Asked
+pub mod Cases
+pub mod Visited
+pub mod Right
+pub mod AsSweep
+pub mod SameVisit
+pub mod CallStamps
+pub mod LastStamp
+pub mod Edges
+pub mod Examples
