@@ -214,7 +214,7 @@ fn nothing() -> Found
     }
 }
 
-// A visit of Sweep to a copy of the part, which it leaves in `row`. That one, `slots` and `twins` are as long as the part.
+// A visit of Sweep to a copy of the part, in `row`, which is as long: the clause itself is only read.
 fn judge(part: &[i32], times: &[u32], links: &[i32], row: &mut [i32]) -> Visited
     requires { ⌜ Clause (now times) (now links) (now part) × (length (now row) ≡ length (now part)) ⌝ }
     ensures { λ r. ⌜ partOf r (now (row .exit)) ≡ partAfter (sweepClause (columns (now (times .entry)) (now (links .entry))) (now (part .entry))) (now (part .entry)) ⌝ }
