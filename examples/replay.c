@@ -2,6 +2,7 @@
  * Standard input has a call, a request to print or a change of the tables on each line:
  *
  *     load K                      then K bytes and LF: the text to load
+ *     join A B X X ..             then A bytes, B bytes and LF: the two texts to join, by pairs of linked variables, at most 4,096 numbers
  *     propagate N, merge N, sweep N, run N
  *     stamp L L ..                the order, at most 4,096 literals
  *     failed
@@ -33,6 +34,9 @@
 #include "unhide.h"
 
 enum { MOST_INPUT = 1048576, MOST_STEPS = 65535, MOST_LISTED = 4096, MOST_ROOM = 131072, MOST_CODES = 64, MOST_CODE = 255 };
+
+/* No line that is understood has more words than `join`, two lengths and its list. */
+enum { MOST_WORDS = MOST_LISTED + 3 };
 
 /* ---- tables */
 
@@ -163,7 +167,7 @@ static void take_all_back(struct loan loan) {
     take_back(answer, loan.answer, sizeof answer);
 }
 
-/* The window, which a load and `learn` are lent besides. */
+/* The window, which `load`, `join` and `learn` are lent besides. */
 struct window_loan {
     uint32_t *sizes;
     int32_t *learnt;
@@ -196,9 +200,8 @@ struct word {
     size_t length;
 };
 
-/* The words of a line. No line that is understood has more than `stamp` or `learn` and its list. */
 struct line {
-    struct word words[MOST_LISTED + 1];
+    struct word words[MOST_WORDS];
     size_t count;
 };
 
@@ -213,7 +216,7 @@ static int split(const uint8_t *bytes, size_t length, struct line *line) {
     for (size_t i = 0; i <= length; i++) {
         if (i < length && bytes[i] != ' ')
             continue;
-        if (line->count == MOST_LISTED + 1)
+        if (line->count == MOST_WORDS)
             return 0;
         line->words[line->count].bytes = bytes + from;
         line->words[line->count].length = i - from;
@@ -248,6 +251,17 @@ static int read_number(struct word word, int64_t least, int64_t most, int64_t *n
     return least <= *number && *number <= most;
 }
 
+/* Reads words as numbers of at most `most`; whether all of them are. */
+static int read_numbers(const struct word *words, size_t count, int64_t most, uint32_t *numbers) {
+    for (size_t i = 0; i < count; i++) {
+        int64_t number;
+        if (!read_number(words[i], 0, most, &number))
+            return 0;
+        numbers[i] = (uint32_t)number;
+    }
+    return 1;
+}
+
 /* ---- answers */
 
 static void print_refusal(int64_t result) {
@@ -264,6 +278,14 @@ static void print_answer(int64_t result, const char *word, int has_value) {
         printf("%s\n", word);
 }
 
+/* The answer of a load or a join. */
+static void print_loaded(int64_t result) {
+    if (result != 0)
+        print_refusal(result);
+    else
+        printf("loaded %" PRIu32 " %" PRIu32 " %" PRIu32 "\n", state[V], state[N], state[MARK]);
+}
+
 static void print_counts(int64_t result) {
     if (result != 0)
         print_refusal(result);
@@ -278,25 +300,56 @@ static uint8_t input[MOST_INPUT + 1];
 static size_t input_length;
 static size_t rest;
 
+/* Takes so many bytes and an LF behind the line, which are no line; NULL where they are not there. */
+static uint8_t *take_bytes(size_t size) {
+    uint8_t *bytes = input + rest;
+    if (size >= input_length - rest || bytes[size] != '\n')
+        return NULL;
+    rest += size + 1;
+    return bytes;
+}
+
 static int take_load(const struct line *line) {
     int64_t length;
     if (!read_number(line->words[1], 0, MOST_INPUT, &length))
         return 0;
     size_t size = (size_t)length;
-    if (size >= input_length - rest || input[rest + size] != '\n')
+    uint8_t *bytes = take_bytes(size);
+    if (bytes == NULL)
         return 0;
     struct loan loan = lend_all();
     struct window_loan window_loan = lend_window();
-    uint8_t *text = lend(input + rest, size);
+    uint8_t *text = lend(bytes, size);
     int64_t result = unhide_load(text, size, LENT(loan), WINDOW_LENT(window_loan));
-    take_back(input + rest, text, size);
+    take_back(bytes, text, size);
     take_window_back(window_loan);
     take_all_back(loan);
-    rest += size + 1;
-    if (result != 0)
-        print_refusal(result);
-    else
-        printf("loaded %" PRIu32 " %" PRIu32 " %" PRIu32 "\n", state[V], state[N], state[MARK]);
+    print_loaded(result);
+    return 1;
+}
+
+static int take_join(const struct line *line) {
+    static uint32_t listed[MOST_LISTED];
+    uint32_t lengths[2];
+    size_t count = line->count - 3;
+    if (!read_numbers(line->words + 1, 2, MOST_INPUT, lengths) || !read_numbers(line->words + 3, count, UINT32_MAX, listed))
+        return 0;
+    size_t left_size = lengths[0], right_size = lengths[1];
+    uint8_t *bytes = take_bytes(left_size + right_size);
+    if (bytes == NULL)
+        return 0;
+    struct loan loan = lend_all();
+    struct window_loan window_loan = lend_window();
+    uint8_t *left = lend(bytes, left_size);
+    uint8_t *right = lend(bytes + left_size, right_size);
+    uint32_t *pairs = lend(listed, count * sizeof listed[0]);
+    int64_t result = unhide_join(left, left_size, right, right_size, pairs, count, LENT(loan), WINDOW_LENT(window_loan));
+    take_back(listed, pairs, count * sizeof listed[0]);
+    take_back(bytes + left_size, right, right_size);
+    take_back(bytes, left, left_size);
+    take_window_back(window_loan);
+    take_all_back(loan);
+    print_loaded(result);
     return 1;
 }
 
@@ -392,14 +445,8 @@ static int take_run(const struct line *line) {
 static int take_programme(const struct line *line) {
     static uint32_t listed[MOST_CODES];
     size_t count = line->count - 1;
-    if (count > MOST_CODES)
+    if (!read_numbers(line->words + 1, count, MOST_CODE, listed))
         return 0;
-    for (size_t i = 0; i < count; i++) {
-        int64_t code;
-        if (!read_number(line->words[i + 1], 0, MOST_CODE, &code))
-            return 0;
-        listed[i] = (uint32_t)code;
-    }
     struct loan loan = lend_all();
     uint32_t *codes = lend(listed, count * sizeof listed[0]);
     int64_t result = unhide_set_programme(LENT(loan), codes, count);
@@ -635,38 +682,39 @@ static int take_set(const struct line *line) {
 
 /* ---- the list of lines */
 
-/* The first word of a line, how many words there are (0 where the line has a list), and what takes the line. */
+/* The first word of a line, the least and the most words that it may have, and what takes the line. */
 struct form {
     const char *name;
-    size_t words;
+    size_t least, most;
     int (*take)(const struct line *line);
 };
 
 static const struct form forms[] = {
-    {"load", 2, take_load},
-    {"propagate", 2, take_propagate},
-    {"merge", 2, take_merge},
-    {"sweep", 2, take_sweep},
-    {"stamp", 0, take_stamp},
-    {"learn", 0, take_learn},
-    {"failed", 1, take_failed},
-    {"run", 2, take_run},
-    {"programme", 0, take_programme},
-    {"write", 2, take_write},
-    {"explain", 3, take_explain},
-    {"state", 1, take_state},
-    {"codes", 1, take_codes},
-    {"clauses", 1, take_clauses},
-    {"literals", 1, take_literals},
-    {"variables", 1, take_variables},
-    {"stamps", 1, take_stamps},
-    {"window", 1, take_window},
-    {"compare", 3, take_compare},
-    {"lend", 3, take_lend},
-    {"set", 0, take_set},
+    {"load", 2, 2, take_load},
+    {"join", 3, MOST_WORDS, take_join},
+    {"propagate", 2, 2, take_propagate},
+    {"merge", 2, 2, take_merge},
+    {"sweep", 2, 2, take_sweep},
+    {"stamp", 1, MOST_LISTED + 1, take_stamp},
+    {"learn", 1, MOST_LISTED + 1, take_learn},
+    {"failed", 1, 1, take_failed},
+    {"run", 2, 2, take_run},
+    {"programme", 1, MOST_CODES + 1, take_programme},
+    {"write", 2, 2, take_write},
+    {"explain", 3, 3, take_explain},
+    {"state", 1, 1, take_state},
+    {"codes", 1, 1, take_codes},
+    {"clauses", 1, 1, take_clauses},
+    {"literals", 1, 1, take_literals},
+    {"variables", 1, 1, take_variables},
+    {"stamps", 1, 1, take_stamps},
+    {"window", 1, 1, take_window},
+    {"compare", 3, 3, take_compare},
+    {"lend", 3, 3, take_lend},
+    {"set", 4, 5, take_set},
 };
 
-/* Takes the line that begins at `rest`, and for a load the text behind it; whether it is understood. */
+/* Takes the line that begins at `rest`, and for `load` and `join` the bytes behind it; whether it is understood. */
 static int take_line(void) {
     static struct line line;
     const uint8_t *bytes = input + rest;
@@ -676,7 +724,7 @@ static int take_line(void) {
     rest = (size_t)(end - input) + 1;
     for (size_t i = 0; i < sizeof forms / sizeof forms[0]; i++) {
         if (is_word(line.words[0], forms[i].name))
-            return (forms[i].words == 0 || forms[i].words == line.count) && forms[i].take(&line);
+            return forms[i].least <= line.count && line.count <= forms[i].most && forms[i].take(&line);
     }
     return 0;
 }

@@ -25,8 +25,8 @@ extern "C" {
  *    -3   the formula is larger than the limits above, names a variable that its header does not have,
  *         or has more or fewer clauses than its header says
  *   -10   the output is shorter than the text to write
- * The other refusals of the library, -1, -4 to -9 and -11 to -13, are about tables, passes, stamps, learnt clauses, programmes and clause
- * numbers that a caller gives; here none of these is given, and the rounds are those of the constant programme.
+ * The other refusals of the library, -1, -4 to -9, -11 to -13 and -15, are about tables, passes, stamps, learnt clauses, programmes, clause
+ * numbers and linked variables that a caller gives; here none of these is given, and the rounds are those of the constant programme.
  * The same law says that nothing else is returned.
  *
  * A formula that has an empty clause is written without a round, as `p cnf V 1` and the clause `0`; a formula that turns out
@@ -40,11 +40,12 @@ int64_t unhide_text(const uint8_t *text, size_t text_len, uint16_t rounds, uint8
 /* ---- calls on tables that the caller lends
  *
  * The tables hold a formula, the state says what is known about them, and every call leaves both so that the next can go on.
- * A first load may be given tables and a state that are all zero. The other calls refuse that state, since a programme has at least
+ * A first load or join may be given tables and a state that are all zero. The other calls refuse that state, since a programme has at least
  * one code.
  *
  *   unhide_load            reads a DIMACS text into the tables, whatever they hold; closes any pass, puts the constant programme back,
  *                          empties the window
+ *   unhide_join            reads two DIMACS texts into the tables as one formula, in which linked variables are one; in all else as a load
  *   unhide_propagate       unit propagation, n clauses in a call; resumes an open Propagate
  *   unhide_merge           equivalent literals become one, n clauses in a call; resumes an open Merge
  *   unhide_stamp           stamps all literals in the order given; the stamps are then fresh
@@ -61,14 +62,14 @@ int64_t unhide_text(const uint8_t *text, size_t text_len, uint16_t rounds, uint8
  *
  * A call of Propagate, Merge or Sweep opens its pass, or resumes it where it is open, and makes at most n visits to clauses; Propagate goes
  * through the clauses again until one time through changes nothing. Where the answer says open, visits are left, and another call
- * goes on where this one stopped. While a pass is open the other passes, Learn, Explain and Run are refused; Load, Write and Set programme
- * are not.
- * Opening Propagate or Merge, the end of Sweep, the mark and a load spend the stamps: they are fresh no more.
+ * goes on where this one stopped. While a pass is open the other passes, Learn, Explain and Run are refused; Load, Join, Write and
+ * Set programme are not.
+ * Opening Propagate or Merge, the end of Sweep, the mark, a load and a join spend the stamps: they are fresh no more.
  *
  * Most callers use unhide_tables_load and so on, further below, with one `struct unhide_tables`. The calls that these make take a pointer
  * and a length, in numbers, for each slice: clauses, literals, variables, times, links, the state and the answer. The stated lengths
- * are 12,288, 16,384, 2,048, 4,096, 4,096, 40 and 4 numbers; what is lent beyond them is neither read nor written. Load and Learn take
- * the window besides: sizes, learnt and the window's numbers, of 64, 4,096 and 2 numbers.
+ * are 12,288, 16,384, 2,048, 4,096, 4,096, 40 and 4 numbers; what is lent beyond them is neither read nor written. Load, Join and Learn
+ * take the window besides: sizes, learnt and the window's numbers, of 64, 4,096 and 2 numbers.
  *
  * No pointer may be null, not even with a length of 0. Slices that are lent to one call must not overlap.
  *
@@ -91,11 +92,12 @@ enum {
     UNHIDE_LEARNT_LITERALS = 64
 };
 
-/* Refusals. Where several apply, the topmost holds; of -2 and -3 the one at the smaller offset. The place is 0 where none is named. */
+/* Refusals. Where several apply, the topmost holds; of -2 and -3 the one at the smaller offset, and in a join the left text's before the
+ * right's. The place is 0 where none is named. */
 enum unhide_refusal {
     /* all calls: a slice is shorter than stated (an answer of fewer than four numbers stays as it is), a number of the state, its programme
-     * apart, is none that it can have, or (but for Load) tables and state, its programme included, break the rules that every call keeps:
-     * then nothing was loaded, or the caller has written into them; Learn: the window breaks its rules (struct unhide_window).
+     * apart, is none that it can have, or (but for Load and Join) tables and state, its programme included, break the rules that every
+     * call keeps: then nothing was loaded, or the caller has written into them; Learn: the window breaks its rules (struct unhide_window).
      * Compare looks at no rules: it refuses fewer times than stated and literals that are not of the variables */
     UNHIDE_SHAPE = -1,
     /* the passes, Learn, Explain and Run: a pass is open, other than the one that this call resumes */
@@ -110,10 +112,14 @@ enum unhide_refusal {
     UNHIDE_CYCLE = -7,
     /* Failed, Sweep, Learn, Explain: the stamps are not fresh */
     UNHIDE_STALE = -9,
-    /* Load: the text breaks the grammar. Place: the offset in the text */
+    /* Load, Join: a text breaks the grammar. Place: the offset in this text */
     UNHIDE_GRAMMAR = -2,
-    /* Load: the text is beyond a limit, or has more or fewer clauses than its header says. Place: the offset in the text */
+    /* Load, Join: a text is beyond a limit, or has more or fewer clauses than its header says. Place: the offset in this text.
+     * Join, below -15: what is joined is beyond a limit. Place: 0, where no text is refused with this number */
     UNHIDE_LIMIT = -3,
+    /* Join: a pair has a variable that its text does not have, or one that a pair before it has on the same side.
+     * Place: the index of the first such pair */
+    UNHIDE_LINK = -15,
     /* Explain: no clause has this number, or the clause was dropped */
     UNHIDE_NO_CLAUSE = -13,
     /* Write, Explain: the output is too short. Place: the length that is needed, for Write at most 135,184 */
@@ -161,6 +167,11 @@ enum unhide_relation {
     UNHIDE_LATER = 4
 };
 
+/* A pair of linked variables, for Join: one of the left text and one of the right. */
+struct unhide_pair {
+    uint32_t left, right;
+};
+
 enum unhide_pass {
     UNHIDE_NO_PASS = 0,
     UNHIDE_PROPAGATE = 1,
@@ -188,8 +199,8 @@ struct unhide_state {
     uint32_t pass, cursor, changed;
     /* 1 or 0: the stamps are fresh; no assignment satisfies the formula */
     uint32_t fresh, mark;
-    /* what each round of Run follows: so many codes, numbers of enum unhide_code. A load and Set programme leave 0 behind them; what stands
-     * there is not looked at */
+    /* what each round of Run follows: so many codes, numbers of enum unhide_code. A load, a join and Set programme leave 0 behind them; what
+     * stands there is not looked at */
     uint32_t programme_length;
     uint32_t programme[UNHIDE_CODES];
 };
@@ -197,7 +208,7 @@ struct unhide_state {
 /* The window: the last 64 learnt clauses that were kept, eldest first. Clause k, counted from 0, has size k and its literals in record k,
  * from the front on; Learn puts 0 behind them. A window that Learn takes has at most 64 clauses, each of at most 64 literals of the variables,
  * no variable twice, and the literals that its numbers say. What lies behind a clause's literals and behind the clauses is not looked at.
- * A window that is all zero is empty, and a load empties any. */
+ * A window that is all zero is empty, and a load or a join empties any. */
 struct unhide_window {
     uint32_t sizes[UNHIDE_LEARNT];
     int32_t learnt[UNHIDE_LEARNT][UNHIDE_LEARNT_LITERALS];
@@ -268,6 +279,7 @@ typedef char unhide_clause_has_no_padding[sizeof(struct unhide_clause) == 3 * si
 typedef char unhide_variable_has_no_padding[sizeof(struct unhide_variable) == 2 * sizeof(int32_t) ? 1 : -1];
 typedef char unhide_times_has_no_padding[sizeof(struct unhide_times) == 2 * sizeof(uint32_t) ? 1 : -1];
 typedef char unhide_links_has_no_padding[sizeof(struct unhide_links) == 2 * sizeof(int32_t) ? 1 : -1];
+typedef char unhide_pair_has_no_padding[sizeof(struct unhide_pair) == 2 * sizeof(uint32_t) ? 1 : -1];
 typedef char unhide_state_has_no_padding[sizeof(struct unhide_state) == 40 * sizeof(uint32_t) ? 1 : -1];
 typedef char unhide_window_has_no_padding[sizeof(struct unhide_window) == (64 + 4096 + 2) * sizeof(uint32_t) ? 1 : -1];
 typedef char unhide_answer_has_no_padding[sizeof(struct unhide_answer) == 4 * sizeof(uint64_t) ? 1 : -1];
@@ -275,6 +287,24 @@ typedef char unhide_answer_has_no_padding[sizeof(struct unhide_answer) == 4 * si
 /* ---- the calls on slices */
 
 int64_t unhide_load(const uint8_t *text, size_t text_len,
+                    uint32_t *clauses, size_t clauses_len, int32_t *literals, size_t literals_len,
+                    int32_t *variables, size_t variables_len,
+                    const uint32_t *times, size_t times_len, const int32_t *links, size_t links_len,
+                    uint32_t *state, size_t state_len, uint64_t *answer, size_t answer_len,
+                    uint32_t *sizes, size_t sizes_len, int32_t *learnt, size_t learnt_len, uint32_t *window, size_t window_len);
+
+/* Two formulas, given as DIMACS texts, become one. `pairs` has two numbers for each pair of linked variables, one of the left text and one
+ * of the right; `pairs_len` counts the numbers, 0 for no pair. The left variables keep their numbers. A right variable that is linked gets
+ * the number of its left one; the others get the numbers behind the left variables, in their order. The clauses are those of the left text,
+ * then those of the right with these numbers. So an assignment satisfies the join exactly where it satisfies the left formula and its values,
+ * read by these numbers, satisfy the right one.
+ *
+ * Refused with UNHIDE_SHAPE, as a load; UNHIDE_GRAMMAR or UNHIDE_LIMIT of the left text, then of the right; UNHIDE_LINK, where a number left
+ * over at the end of `pairs` is a pair without a right variable; UNHIDE_LIMIT at place 0 where the join has more than 1,024 variables,
+ * 4,096 clauses or 16,384 literals as written. An offset does not tell which of the two texts it is in. A load of the left text alone, into
+ * other tables, does: it is refused with the same number and place if it is that one, and else is made. */
+int64_t unhide_join(const uint8_t *left, size_t left_len, const uint8_t *right, size_t right_len,
+                    const uint32_t *pairs, size_t pairs_len,
                     uint32_t *clauses, size_t clauses_len, int32_t *literals, size_t literals_len,
                     int32_t *variables, size_t variables_len,
                     const uint32_t *times, size_t times_len, const int32_t *links, size_t links_len,
@@ -373,6 +403,19 @@ int64_t unhide_compare(const uint32_t *times, size_t times_len, uint32_t variabl
 static inline int64_t unhide_tables_load(struct unhide_tables *tables, const uint8_t *text, size_t text_len, struct unhide_answer *answer)
 {
     return unhide_load(text, text_len,
+                       UNHIDE_LENT(uint32_t, tables->clauses), UNHIDE_LENT(int32_t, tables->literals),
+                       UNHIDE_LENT(int32_t, tables->variables), UNHIDE_LENT(const uint32_t, tables->times),
+                       UNHIDE_LENT(const int32_t, tables->links), UNHIDE_LENT(uint32_t, tables->state),
+                       UNHIDE_LENT(uint64_t, *answer), UNHIDE_LENT(uint32_t, tables->window.sizes),
+                       UNHIDE_LENT(int32_t, tables->window.learnt), UNHIDE_LENT(uint32_t, tables->window.numbers));
+}
+
+/* `pairs_len` counts pairs. */
+static inline int64_t unhide_tables_join(struct unhide_tables *tables, const uint8_t *left, size_t left_len,
+                                         const uint8_t *right, size_t right_len, const struct unhide_pair *pairs, size_t pairs_len,
+                                         struct unhide_answer *answer)
+{
+    return unhide_join(left, left_len, right, right_len, (const uint32_t *)pairs, 2 * pairs_len,
                        UNHIDE_LENT(uint32_t, tables->clauses), UNHIDE_LENT(int32_t, tables->literals),
                        UNHIDE_LENT(int32_t, tables->variables), UNHIDE_LENT(const uint32_t, tables->times),
                        UNHIDE_LENT(const int32_t, tables->links), UNHIDE_LENT(uint32_t, tables->state),

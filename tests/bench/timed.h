@@ -2,18 +2,10 @@
 #ifndef TIMED_H
 #define TIMED_H
 
-#include <stdlib.h>
-#include <time.h>
-
+#include "measure.h"
 #include "stamped.h"
 
 enum { SAMPLES = 41, CALLS = 64 };
-
-static double now(void) {
-    struct timespec t;
-    clock_gettime(CLOCK_PROCESS_CPUTIME_ID, &t);
-    return 1e9 * (double)t.tv_sec + (double)t.tv_nsec;
-}
 
 /* Whether a call that is measured was refused. */
 static int refused;
@@ -28,16 +20,6 @@ static double time_sweep(void) {
         tables.state = before;
     }
     return (now() - start) / CALLS;
-}
-
-static int by_size(const void *a, const void *b) {
-    double x = *(const double *)a, y = *(const double *)b;
-    return (x > y) - (x < y);
-}
-
-static double median(double *samples) {
-    qsort(samples, SAMPLES, sizeof samples[0], by_size);
-    return samples[SAMPLES / 2];
 }
 
 #endif

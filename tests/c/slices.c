@@ -1,7 +1,8 @@
 /* What the calls on slices do with a state that is none and with slices of other lengths: refusal 1 with place 0, before anything else is looked at,
- * and no number that they should not touch is touched. Then programmes: those that no call but Load takes, and those that are set or refused.
- * Then the window: slices of other lengths, with numbers behind them, and windows that Learn refuses and Load does not.
- * Last explanations: each verdict by each rule with its chains, outputs of other lengths with bytes behind them, and every refusal.
+ * and no number that they should not touch is touched. Then programmes: those that no call but Load and Join takes, and those that are set or refused.
+ * Then the window: slices of other lengths, with numbers behind them, and windows that Learn refuses and Load and Join do not.
+ * Then explanations: each verdict by each rule with its chains, outputs of other lengths with bytes behind them, and every refusal.
+ * Last joins: the numbers that a load of the same clauses leaves, slices of other lengths, lists of links, the limits, and every refusal.
  * What differs is printed, and the exit status is then 1. */
 #include <stdio.h>
 #include <string.h>
@@ -20,11 +21,12 @@ static void compare(const char *name, long expected, long found) {
 /* The numbers of the state, and how many it is lent with: two more than stated. */
 enum { PASS = 2, CURSOR = 3, CHANGED = 4, FRESH = 5, MARK = 6, LENGTH = 7, CODES = 8, STATED = 40, LENT = 42 };
 
-static uint32_t clauses[3 * UNHIDE_CLAUSES];
-static int32_t literals[UNHIDE_LITERALS];
-static int32_t variables[2 * UNHIDE_VARIABLES];
-static uint32_t times[2 * UNHIDE_SLOTS];
-static int32_t links[2 * UNHIDE_SLOTS];
+/* The tables, with two numbers more than stated behind each. */
+static uint32_t clauses[3 * UNHIDE_CLAUSES + 2];
+static int32_t literals[UNHIDE_LITERALS + 2];
+static int32_t variables[2 * UNHIDE_VARIABLES + 2];
+static uint32_t times[2 * UNHIDE_SLOTS + 2];
+static int32_t links[2 * UNHIDE_SLOTS + 2];
 static uint32_t state[LENT];
 static uint64_t answer[6];
 static uint8_t out[64];
@@ -39,19 +41,36 @@ static uint32_t window[4];
 #define WINDOW sizes, SIZES, learnt, PLACES, window, 2
 
 static const uint8_t text[] = "p cnf 4 3\n-1 2 0\n-2 3 0\n1 3 4 0\n";
+
+/* The same formula as a join: right variables 1 and 2 are 1 and 3, and 3 is the fourth. */
+static const char left[] = "p cnf 3 2\n-1 2 0\n-2 3 0\n";
+static const char right[] = "p cnf 3 1\n1 2 3 0\n";
+static const uint32_t pairs[] = {1, 1, 3, 2};
+
+#define JOINED (const uint8_t *)left, sizeof left - 1, (const uint8_t *)right, sizeof right - 1, pairs, 4
+
 static const uint32_t constant[] = {UNHIDE_CODE_SETTLE, UNHIDE_CODE_STAMP, UNHIDE_CODE_FAILED, UNHIDE_CODE_SWEEP};
 static const uint32_t other[] = {UNHIDE_CODE_SETTLE, UNHIDE_CODE_STAMP, UNHIDE_CODE_SWEEP};
 
 #define TABLES clauses, 3 * UNHIDE_CLAUSES, literals, UNHIDE_LITERALS, variables, 2 * UNHIDE_VARIABLES, times, 2 * UNHIDE_SLOTS, links, 2 * UNHIDE_SLOTS
 
-enum { LOAD, PROPAGATE, MERGE, STAMP, FAILED, SWEEP, LEARN, RUN, SET_PROGRAMME, WRITE, EXPLAIN, CALLS };
+/* The stated lengths of the tables and, behind them, of the window's slices. */
+enum { TABLE_SLICES = 5, SLICES = 8 };
 
-static const char *const names[CALLS] = {"load", "propagate", "merge", "stamp", "failed", "sweep", "learn", "run", "set programme", "write", "explain"};
+static const size_t lengths[SLICES] = {3 * UNHIDE_CLAUSES, UNHIDE_LITERALS, 2 * UNHIDE_VARIABLES, 2 * UNHIDE_SLOTS, 2 * UNHIDE_SLOTS, SIZES, PLACES, 2};
+
+/* Load and Join take any programme and any tables, the calls from Propagate on do not. */
+enum { LOAD, JOIN, PROPAGATE, MERGE, STAMP, FAILED, SWEEP, LEARN, RUN, SET_PROGRAMME, WRITE, EXPLAIN, CALLS };
+
+static const char *const names[CALLS] = {"load",  "join",  "propagate", "merge",         "stamp", "failed",
+                                         "sweep", "learn", "run",       "set programme", "write", "explain"};
 
 static int64_t call(int which, size_t state_len, size_t answer_len) {
     switch (which) {
     case LOAD:
         return unhide_load(text, sizeof text - 1, TABLES, state, state_len, answer, answer_len, WINDOW);
+    case JOIN:
+        return unhide_join(JOINED, TABLES, state, state_len, answer, answer_len, WINDOW);
     case PROPAGATE:
         return unhide_propagate(TABLES, state, state_len, answer, answer_len, 1);
     case MERGE:
@@ -90,18 +109,22 @@ static void prepare(void) {
     memcpy(state + CODES, constant, sizeof constant);
 }
 
+/* Whether the answer has 7s behind the place. */
+static int rest_kept(void) {
+    static const uint64_t untouched[5] = {7, 7, 7, 7, 7};
+    return memcmp(answer + 1, untouched, sizeof untouched) == 0;
+}
+
 /* A call on the state as it is: refused with 1, and nothing changes but the place. */
 static void compare_unmade(const char *what, int which, size_t state_len, size_t answer_len) {
-    static const uint64_t untouched[6] = {7, 7, 7, 7, 7, 7};
     char name[64];
     uint32_t before[LENT];
     memcpy(before, state, sizeof state);
     sprintf(name, "%s, %s", names[which], what);
     int64_t result = call(which, state_len, answer_len);
     int place = answer_len < 4 ? answer[0] == 7 : answer[0] == 0;
-    int rest = memcmp(answer + 1, untouched + 1, 5 * sizeof answer[0]) == 0;
     int same = memcmp(state, before, sizeof state) == 0;
-    compare(name, -1, result == -1 && place && rest && same ? -1 : 0);
+    compare(name, -1, result == -1 && place && rest_kept() && same ? -1 : 0);
 }
 
 /* Each call, with one number of the state changed, is refused. */
@@ -173,35 +196,38 @@ static void compare_compare(void) {
 
 /* ---- programmes */
 
-/* A load on the state as it is: made, and the state has the constant programme with zeros behind it. */
-static void compare_loaded(const char *what) {
+/* A load or a join on the state as it is: made, and the state has the constant programme with zeros behind it. */
+static void compare_loaded(const char *what, int which) {
     uint32_t expected[LENT] = {4, 3, 0, 0, 0, 0, 0, 4, 1, 2, 3, 4};
     char name[64];
     expected[STATED] = expected[STATED + 1] = 7;
-    sprintf(name, "load, %s", what);
-    compare(name, 0, (long)call(LOAD, LENT, 6));
+    sprintf(name, "%s, %s", names[which], what);
+    compare(name, 0, (long)call(which, LENT, 6));
     compare(name, 0, memcmp(state, expected, sizeof state));
 }
 
-/* A state of zeros: Load takes it, every other call refuses it. */
+/* A call on a state that only Load and Join take. */
+static void compare_taken(const char *what, int which) {
+    if (which < PROPAGATE)
+        compare_loaded(what, which);
+    else
+        compare_unmade(what, which, LENT, 6);
+}
+
+/* A state of zeros: Load and Join take it, every other call refuses it. */
 static void compare_zeros(void) {
-    prepare_zeros();
-    compare_loaded("state of zeros");
-    for (int which = LOAD + 1; which < CALLS; which++) {
+    for (int which = 0; which < CALLS; which++) {
         prepare_zeros();
-        compare_unmade("state of zeros", which, LENT, 6);
+        compare_taken("state of zeros", which);
     }
 }
 
 /* The same for the constant programme with one number changed. */
 static void compare_damaged(const char *what, int field, uint32_t value) {
-    prepare();
-    state[field] = value;
-    compare_loaded(what);
-    for (int which = LOAD + 1; which < CALLS; which++) {
+    for (int which = 0; which < CALLS; which++) {
         prepare();
         state[field] = value;
-        compare_unmade(what, which, LENT, 6);
+        compare_taken(what, which);
     }
 }
 
@@ -268,7 +294,7 @@ static void compare_codes(void) {
     }
 }
 
-/* A code behind the length is not judged by any call, and stays but for a load and a programme that is set. */
+/* A code behind the length is not judged by any call, and stays but for a load, a join and a programme that is set. */
 static void compare_behind(void) {
     for (int which = 0; which < CALLS; which++) {
         char name[64];
@@ -277,7 +303,7 @@ static void compare_behind(void) {
         int64_t expected = needs_stamps(which) ? UNHIDE_STALE : 0;
         sprintf(name, "%s, code behind the length", names[which]);
         compare(name, expected, (long)call(which, LENT, 6));
-        compare(name, which == LOAD || which == SET_PROGRAMME ? 0 : 9, (long)state[CODES + 4]);
+        compare(name, which < PROPAGATE || which == SET_PROGRAMME ? 0 : 9, (long)state[CODES + 4]);
     }
 }
 
@@ -356,18 +382,20 @@ static void compare_short_windows(void) {
     compare("load, short windows kept", 1, window_kept() && state[FRESH] == 1);
 }
 
-/* A window that breaks the rule: Learn refuses it, a load empties it. */
+/* A window that breaks the rule: Learn refuses it, a load and a join empty it. */
 static void compare_damaged_window(const char *name, uint32_t count, uint32_t total, uint32_t size, int32_t literal) {
-    prepare_fresh();
-    window[0] = count;
-    window[1] = total;
-    sizes[0] = size;
-    learnt[1] = literal;
-    compare_unlearnt(name, SIZES, PLACES, 2);
-    compare(name, 0, (long)call(LOAD, LENT, 6));
-    compare(name, 0, (long)(window[0] | window[1] | sizes[0] | sizes[SIZES - 1]));
-    compare(name, 0, (long)(learnt[0] | learnt[1] | learnt[PLACES - 1]));
-    compare(name, 1, sizes[SIZES] == 9 && learnt[PLACES] == 9 && window[2] == 9);
+    for (int which = LOAD; which <= JOIN; which++) {
+        prepare_fresh();
+        window[0] = count;
+        window[1] = total;
+        sizes[0] = size;
+        learnt[1] = literal;
+        compare_unlearnt(name, SIZES, PLACES, 2);
+        compare(name, 0, (long)call(which, LENT, 6));
+        compare(name, 0, (long)(window[0] | window[1] | sizes[0] | sizes[SIZES - 1]));
+        compare(name, 0, (long)(learnt[0] | learnt[1] | learnt[PLACES - 1]));
+        compare(name, 1, sizes[SIZES] == 9 && learnt[PLACES] == 9 && window[2] == 9);
+    }
 }
 
 static void compare_damaged_windows(void) {
@@ -491,12 +519,11 @@ static void compare_turned_explains(void) {
 
 /* Tables of which one has a number less than stated. */
 static void compare_short_explains(void) {
-    const size_t stated[] = {3 * UNHIDE_CLAUSES, UNHIDE_LITERALS, 2 * UNHIDE_VARIABLES, 2 * UNHIDE_SLOTS, 2 * UNHIDE_SLOTS};
     stamp_text(chained, rising);
     memset(out, '.', sizeof out);
-    for (int table = 0; table < 5; table++) {
-        size_t lent[5];
-        memcpy(lent, stated, sizeof stated);
+    for (int table = 0; table < TABLE_SLICES; table++) {
+        size_t lent[SLICES];
+        memcpy(lent, lengths, sizeof lengths);
         lent[table]--;
         answer[0] = 7;
         compare("explain, a short table", UNHIDE_SHAPE,
@@ -526,6 +553,144 @@ static void compare_refused_explains(void) {
     compare_unexplained("explain, a wrong programme", UNHIDE_SHAPE, 0, 3, 0);
 }
 
+/* ---- joins */
+
+static uint32_t clauses_before[3 * UNHIDE_CLAUSES + 2];
+static int32_t literals_before[UNHIDE_LITERALS + 2];
+static int32_t variables_before[2 * UNHIDE_VARIABLES + 2];
+static uint32_t times_before[2 * UNHIDE_SLOTS + 2];
+static int32_t links_before[2 * UNHIDE_SLOTS + 2];
+
+static void keep_all_before(void) {
+    keep_before();
+    memcpy(clauses_before, clauses, sizeof clauses);
+    memcpy(literals_before, literals, sizeof literals);
+    memcpy(variables_before, variables, sizeof variables);
+    memcpy(times_before, times, sizeof times);
+    memcpy(links_before, links, sizeof links);
+}
+
+/* Whether the tables, the state and the window are as they were, and what is behind them too. */
+static int all_kept(void) {
+    return window_kept() && memcmp(state_before, state, sizeof state) == 0 && memcmp(clauses_before, clauses, sizeof clauses) == 0 &&
+           memcmp(literals_before, literals, sizeof literals) == 0 && memcmp(variables_before, variables, sizeof variables) == 0 &&
+           memcmp(times_before, times, sizeof times) == 0 && memcmp(links_before, links, sizeof links) == 0;
+}
+
+/* Tables with a 9 in every byte, a state with a Sweep open and fresh stamps, and the window of one clause: only Load and Join take these. */
+static void prepare_join(void) {
+    prepare();
+    state[PASS] = UNHIDE_SWEEP;
+    state[CURSOR] = 1;
+    state[FRESH] = 1;
+    memset(clauses, 9, sizeof clauses);
+    memset(literals, 9, sizeof literals);
+    memset(variables, 9, sizeof variables);
+    memset(times, 9, sizeof times);
+    memset(links, 9, sizeof links);
+    prepare_window();
+}
+
+/* A join on that, with tables and a window of these lengths. */
+static int64_t join(const char *first, const char *second, const uint32_t *linked, size_t count, const size_t *lent) {
+    prepare_join();
+    return unhide_join((const uint8_t *)first, strlen(first), (const uint8_t *)second, strlen(second), linked, count, clauses, lent[0],
+                       literals, lent[1], variables, lent[2], times, lent[3], links, lent[4], state, LENT, answer, 6, sizes, lent[5], learnt,
+                       lent[6], window, lent[7]);
+}
+
+/* With slices as stated and with longer ones it leaves what a load of the same clauses does, behind the stated places too. */
+static void compare_joins(void) {
+    for (size_t more = 0; more <= 2; more++) {
+        size_t lent[SLICES];
+        for (int i = 0; i < SLICES; i++)
+            lent[i] = lengths[i] + more;
+        prepare_join();
+        call(LOAD, LENT, 6);
+        keep_all_before();
+        compare("join", 0, (long)join(left, right, pairs, 4, lent));
+        compare("join, as a load", 1, all_kept());
+        compare("join, answer", 1, (answer[0] | answer[1] | answer[2] | answer[3]) == 0 && answer[4] == 7 && answer[5] == 7);
+    }
+}
+
+/* Refused, and nothing changes but the place. */
+static void compare_unjoined(const char *name, long result, long place, const char *first, const char *second, const uint32_t *linked, size_t count,
+                             const size_t *lent) {
+    prepare_join();
+    keep_all_before();
+    compare(name, result, (long)join(first, second, linked, count, lent));
+    compare(name, place, (long)answer[0]);
+    compare(name, 1, rest_kept() && all_kept());
+}
+
+/* Accepted, with so many variables and clauses. */
+static void compare_joined(const char *name, uint32_t v, uint32_t n, const char *first, const char *second, const uint32_t *linked, size_t count) {
+    compare(name, 0, (long)join(first, second, linked, count, lengths));
+    compare(name, 1, state[0] == v && state[1] == n);
+}
+
+/* Tables or a window of which one slice has a number less than stated, or none. */
+static void compare_short_joins(void) {
+    for (int slice = 0; slice < SLICES; slice++) {
+        size_t lent[SLICES];
+        memcpy(lent, lengths, sizeof lengths);
+        lent[slice]--;
+        compare_unjoined("join, a short slice", UNHIDE_SHAPE, 0, left, right, pairs, 4, lent);
+        lent[slice] = 0;
+        compare_unjoined("join, a slice of no numbers", UNHIDE_SHAPE, 0, left, right, pairs, 4, lent);
+    }
+}
+
+/* Lists of links by their length: a number left over is a pair without a right variable. */
+static void compare_links(void) {
+    static const uint32_t listed[] = {1, 1, 3, 2, 2, 3};
+    compare_joined("join, no links", 6, 3, left, right, listed, 0);
+    compare_unjoined("join, a left variable alone", UNHIDE_LINK, 0, left, right, listed, 1, lengths);
+    compare_joined("join, a link", 5, 3, left, right, listed, 2);
+    compare_unjoined("join, a link and a left variable", UNHIDE_LINK, 1, left, right, listed, 3, lengths);
+    compare_joined("join, two links", 4, 3, left, right, listed, 4);
+    compare_unjoined("join, two links and a left variable", UNHIDE_LINK, 2, left, right, listed, 5, lengths);
+    compare_joined("join, all linked", 3, 3, left, right, listed, 6);
+}
+
+/* A text with one token many times. */
+static const char *repeated(const char *header, const char *token, int count, const char *end) {
+    static char many[40000];
+    char *at = many + sprintf(many, "%s", header);
+    for (int i = 0; i < count; i++)
+        at += sprintf(at, "%s", token);
+    sprintf(at, "%s", end);
+    return many;
+}
+
+/* The limits on clauses and on literals as written, repeats included. */
+static void compare_limits(void) {
+    static const uint32_t same[] = {1, 1};
+    const char *most = repeated("p cnf 1 4095\n", "1 0\n", 4095, "");
+    compare_joined("join, 4096 clauses", 1, 4096, most, "p cnf 1 1\n1 0\n", same, 2);
+    compare_unjoined("join, 4097 clauses", UNHIDE_LIMIT, 0, most, "p cnf 1 2\n1 0 1 0\n", same, 2, lengths);
+    most = repeated("p cnf 1 1\n", "1 ", 16383, "0\n");
+    compare_joined("join, 16384 literals", 1, 2, most, "p cnf 1 1\n1 0\n", same, 2);
+    compare_unjoined("join, 16385 literals", UNHIDE_LIMIT, 0, most, "p cnf 1 1\n1 1 0\n", same, 2, lengths);
+}
+
+/* The refusals, each with those below it: 1, those of the left text, those of the right text, 15, and 3 of the join. */
+static void compare_refused_joins(void) {
+    static const char wrong[] = "p cnf x", most[] = "p cnf 1024 0\n", more[] = "p cnf 2 0\n";
+    static const uint32_t used[] = {1, 1, 1, 2};
+    size_t short_of[SLICES];
+    memcpy(short_of, lengths, sizeof lengths);
+    short_of[0]--;
+    compare_unjoined("join, all refusals", UNHIDE_SHAPE, 0, wrong, "", used, 4, short_of);
+    compare_unjoined("join, all but the first", UNHIDE_GRAMMAR, 6, wrong, "", used, 4, lengths);
+    compare_unjoined("join, left limit and right grammar", UNHIDE_LIMIT, 10, "p cnf 1 1\n2 0\n", "", used, 4, lengths);
+    compare_unjoined("join, right grammar and a wrong link", UNHIDE_GRAMMAR, 6, most, wrong, used, 4, lengths);
+    compare_unjoined("join, right limit and a wrong link", UNHIDE_LIMIT, 6, most, "p cnf 1025 0\n", used, 4, lengths);
+    compare_unjoined("join, a wrong link and 1025 variables", UNHIDE_LINK, 1, most, more, used, 4, lengths);
+    compare_unjoined("join, 1025 variables", UNHIDE_LIMIT, 0, most, more, used, 2, lengths);
+}
+
 int main(void) {
     compare_compare();
     compare_states();
@@ -543,6 +708,11 @@ int main(void) {
     compare_turned_explains();
     compare_short_explains();
     compare_refused_explains();
+    compare_joins();
+    compare_short_joins();
+    compare_links();
+    compare_limits();
+    compare_refused_joins();
     if (!differs)
         printf("ok slices\n");
     return differs;

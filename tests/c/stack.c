@@ -1,7 +1,8 @@
-/* The stack that `unhide_text` and `unhide_run` take, on the formula with the deepest walk and on one whose propagation goes through the clauses many times.
+/* The stack that `unhide_text` and `unhide_run` take, on the formula with the deepest walk and on one whose propagation goes through the clauses many times,
+ * and the stack that `unhide_join` takes, which keeps the numbers of both formulas at once.
  *
- *     stack TEXT RUN    makes the calls in threads with stacks of so many bytes: a call that needs more ends the program with a signal
- *     stack             prints for each of the two the least size, in steps of a page, with which it returns
+ *     stack TEXT RUN    makes the calls in threads with stacks of so many bytes, a join with RUN: a call that needs more ends the program with a signal
+ *     stack             prints for each of the three the least size, in steps of a page, with which it returns
  */
 #define _XOPEN_SOURCE 700
 #include <pthread.h>
@@ -46,6 +47,16 @@ static int run_returns(const char *text) {
     return unhide_tables_load(&tables, (const uint8_t *)text, strlen(text), &answer) == 0 && unhide_tables_run(&tables, 2, &answer) == 0;
 }
 
+/* The two formulas, every variable linked to that of its number. */
+static int join_returns(void) {
+    static struct unhide_pair pairs[VARIABLES];
+    struct unhide_answer answer;
+    uint32_t v;
+    for (v = 1; v <= VARIABLES; v++)
+        pairs[v - 1].left = pairs[v - 1].right = v;
+    return unhide_tables_join(&tables, (const uint8_t *)deep, strlen(deep), (const uint8_t *)far, strlen(far), pairs, VARIABLES, &answer) == 0;
+}
+
 static void *texts(void *result) {
     *(int *)result = text_returns(deep) && text_returns(far);
     return NULL;
@@ -53,6 +64,11 @@ static void *texts(void *result) {
 
 static void *runs(void *result) {
     *(int *)result = run_returns(deep) && run_returns(far);
+    return NULL;
+}
+
+static void *joins(void *result) {
+    *(int *)result = join_returns();
     return NULL;
 }
 
@@ -92,9 +108,12 @@ static size_t least(void *(*calls)(void *)) {
 int main(int argc, char **argv) {
     write_deep();
     write_far();
-    if (argc == 3)
-        return returns_in(texts, strtoul(argv[1], NULL, 10)) && returns_in(runs, strtoul(argv[2], NULL, 10)) ? 0 : 1;
+    if (argc == 3) {
+        size_t text = strtoul(argv[1], NULL, 10), run = strtoul(argv[2], NULL, 10);
+        return returns_in(texts, text) && returns_in(runs, run) && returns_in(joins, run) ? 0 : 1;
+    }
     printf("unhide_text %lu\n", (unsigned long)least(texts));
     printf("unhide_run %lu\n", (unsigned long)least(runs));
+    printf("unhide_join %lu\n", (unsigned long)least(joins));
     return 0;
 }

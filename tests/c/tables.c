@@ -54,7 +54,7 @@ static int64_t explain(uint32_t number, uint8_t *out, size_t length) {
     return unhide_tables_explain(&tables, number, out, length, &answer);
 }
 
-/* Tables and a state of zeros, before the first load: every call but that is refused. */
+/* Tables and a state of zeros, before the first load: every call but that, and a join, is refused. */
 static void compare_zeros(void) {
     uint8_t out[64];
     compare("bytes", 172456, (long)sizeof tables);
@@ -303,6 +303,108 @@ static void compare_runs(void) {
     compare_codes("programme after runs", settle_last, 4);
 }
 
+/* ---- joins */
+
+static const char left[] = "p cnf 3 2\n-1 2 0\n-2 3 0\n";
+static const char right[] = "p cnf 4 2\n-1 2 0\n3 2 -4 0\n";
+static const struct unhide_pair linked[] = {{3, 1}, {1, 3}};
+
+static int64_t join(const char *first, const char *second, const struct unhide_pair *pairs, size_t count) {
+    return unhide_tables_join(&tables, (const uint8_t *)first, strlen(first), (const uint8_t *)second, strlen(second), pairs, count, &answer);
+}
+
+/* Right variable 1 is 3 and right variable 3 is 1; 2 and 4 get the numbers behind the left variables. Without links all four do. */
+static void compare_joined(void) {
+    static const int32_t literals[] = {-1, 2, -2, 3, -3, 4, 1, 4, -5}, unlinked[] = {-1, 2, -2, 3, -4, 5, 6, 5, -7};
+    memset(&tables, 0, sizeof tables);
+    compare_call("join on zeros", 0, 0, join(left, right, linked, 2));
+    compare_rest("join on zeros", 0, 0, 0);
+    compare("joined variables", 5, (long)tables.state.variables);
+    compare("joined clauses", 4, (long)tables.state.clauses);
+    compare("joined literals", 0, memcmp(tables.literals, literals, sizeof literals));
+    compare("start of joined clause 4", 6, (long)unhide_clause_at(&tables, 4)->start);
+    compare("class of joined variable 5", 5, (long)unhide_variable_at(&tables, 5)->class_literal);
+    compare_codes("programme of a join", constant, 4);
+    compare_call("join of one link", 0, 0, join(left, right, linked, 1));
+    compare("variables by one link", 6, (long)tables.state.variables);
+    compare_call("join without links", 0, 0, join(left, right, linked, 0));
+    compare("variables without links", 7, (long)tables.state.variables);
+    compare("literals without links", 0, memcmp(tables.literals, unlinked, sizeof unlinked));
+    compare_call("join with an empty clause", 0, 0, join(left, "p cnf 0 1\n0\n", linked, 0));
+    compare("mark of a join", 1, (long)tables.state.mark);
+}
+
+/* A join closes the pass, spends the stamps, puts the constant programme back and empties the window, as a load does. */
+static void compare_replaced(void) {
+    static const int32_t pair[] = {2, 4};
+    load("p cnf 4 3\n-1 2 0\n-2 3 0\n1 3 4 0\n");
+    unhide_tables_stamp(&tables, order, 8, &answer);
+    unhide_tables_learn(&tables, pair, 2, &answer);
+    set_programme(settle, 1);
+    unhide_tables_sweep(&tables, 1, &answer);
+    compare("pass before a join", UNHIDE_SWEEP, (long)tables.state.pass);
+    compare("window before a join", 1, (long)tables.window.numbers.clauses);
+    compare_call("join in a pass", 0, 0, join(left, right, linked, 2));
+    compare("pass after a join", UNHIDE_NO_PASS, (long)tables.state.pass);
+    compare("cursor after a join", 0, (long)tables.state.cursor);
+    compare("stamps after a join", 0, (long)tables.state.fresh);
+    compare("window after a join", 0, (long)(tables.window.numbers.clauses | tables.window.numbers.literals | tables.window.sizes[0]));
+    compare("literals learnt before a join", 0, (long)(unhide_learnt_at(&tables, 0)[0] | unhide_learnt_at(&tables, 0)[1]));
+    compare_codes("programme after a join", constant, 4);
+}
+
+/* A join that is refused changes no table, no state and no window. */
+static void compare_unjoined(const char *name, long result, long place, const char *first, const char *second, const struct unhide_pair *pairs,
+                             size_t count) {
+    static struct unhide_tables before;
+    char named[64];
+    before = tables;
+    compare_call(name, result, place, join(first, second, pairs, count));
+    sprintf(named, "%s, tables kept", name);
+    compare(named, 0, memcmp(&before, &tables, sizeof tables));
+}
+
+/* The place is the offset in the text at fault, and the left text is read first. */
+static void compare_wrong_texts(void) {
+    static const struct unhide_pair no_pair[] = {{0, 0}};
+    compare_unjoined("join, left grammar", UNHIDE_GRAMMAR, 10, "p cnf 1 1\n01 0\n", right, linked, 2);
+    compare_unjoined("join, left limit", UNHIDE_LIMIT, 12, "p cnf 3 1\n1 4 0\n", right, linked, 2);
+    compare_unjoined("join, right grammar", UNHIDE_GRAMMAR, 14, left, "p cnf 4 1\n1 2\n", linked, 2);
+    compare_unjoined("join, right limit", UNHIDE_LIMIT, 14, left, "p cnf 4 2\n1 0\n", linked, 2);
+    compare_unjoined("join, no left text", UNHIDE_GRAMMAR, 0, "", right, linked, 2);
+    compare_unjoined("join, no right text", UNHIDE_GRAMMAR, 0, left, "", linked, 2);
+    compare_unjoined("join, both texts", UNHIDE_LIMIT, 14, "p cnf 4 2\n1 0\n", "x", linked, 2);
+    compare_unjoined("join, a text and a link", UNHIDE_GRAMMAR, 0, left, "x", no_pair, 1);
+}
+
+/* Each list breaks the rules with its last pair alone: a variable out of range, or used before on its side. */
+static void compare_wrong_links(void) {
+    static const struct unhide_pair wrong[][3] = {
+        {{3, 1}, {1, 3}, {0, 2}}, {{3, 1}, {1, 3}, {4, 2}}, {{3, 1}, {1, 3}, {4294967295u, 2}}, {{3, 1}, {1, 3}, {3, 2}},
+        {{3, 1}, {1, 3}, {2, 0}}, {{3, 1}, {1, 3}, {2, 5}}, {{3, 1}, {1, 3}, {2, 4294967295u}}, {{3, 1}, {1, 3}, {2, 3}},
+    };
+    int i;
+    for (i = 0; i < 8; i++) {
+        char name[64];
+        sprintf(name, "join, wrong links, list %d", i + 1);
+        compare_unjoined(name, UNHIDE_LINK, 2, left, right, wrong[i], 3);
+        sprintf(name, "join, wrong pair %d alone", i + 1);
+        if (i % 4 != 3)
+            compare_unjoined(name, UNHIDE_LINK, 0, left, right, wrong[i] + 2, 1);
+    }
+}
+
+/* Of 1,024 left variables and two right ones, two links leave 1,024, one leaves too many. A wrong link is refused first. */
+static void compare_limits(void) {
+    static const char most[] = "p cnf 1024 0\n", more[] = "p cnf 2 0\n";
+    static const struct unhide_pair pairs[] = {{1, 2}, {1024, 1}, {1024, 2}};
+    compare_unjoined("join, 1025 variables", UNHIDE_LIMIT, 0, most, more, pairs, 1);
+    compare_unjoined("join, 1026 variables", UNHIDE_LIMIT, 0, most, more, pairs, 0);
+    compare_unjoined("join, 1025 variables and a wrong link", UNHIDE_LINK, 1, most, more, pairs + 1, 2);
+    compare_call("join, 1024 variables", 0, 0, join(most, more, pairs, 2));
+    compare("most joined variables", 1024, (long)tables.state.variables);
+}
+
 int main(void) {
     compare_zeros();
     compare_passes();
@@ -315,6 +417,11 @@ int main(void) {
     compare_set();
     compare_wrong();
     compare_runs();
+    compare_joined();
+    compare_replaced();
+    compare_wrong_texts();
+    compare_wrong_links();
+    compare_limits();
     if (!differs)
         printf("ok tables\n");
     return differs;

@@ -14,8 +14,12 @@ mod far;
 mod forest;
 mod formulas;
 mod implied;
+mod join_lines;
+mod joins;
 mod learn_lines;
+mod limit_pairs;
 mod limits;
+mod links;
 mod lists;
 mod near;
 mod newcomers;
@@ -25,6 +29,7 @@ mod programmes;
 mod random;
 mod repeats;
 mod script;
+mod splits;
 mod texts;
 mod valued;
 mod window_damage;
@@ -37,6 +42,8 @@ mod explain;
 mod failed;
 #[path = "../second/graph.rs"]
 mod graph;
+#[path = "../second/join.rs"]
+mod join;
 #[path = "../second/learn.rs"]
 mod learn;
 #[path = "../second/load.rs"]

@@ -7,6 +7,8 @@ use crate::drafts;
 use crate::explain_lines;
 use crate::explains;
 use crate::formulas::{odd_text, plain_text};
+use crate::join_lines;
+use crate::joins::{self, Join};
 use crate::learn_lines;
 use crate::limits;
 use crate::lists;
@@ -127,6 +129,11 @@ impl Script {
             self.say(line);
             return;
         }
+        if self.random.once_in(4) {
+            let lines = join_lines::wrong(&mut self.random);
+            self.say_bytes(&lines);
+            return;
+        }
         if self.random.once_in(3) {
             let line = programme_lines::wrong(&mut self.random);
             self.say(&line);
@@ -162,6 +169,7 @@ impl Script {
         }
         self.learn_sometimes();
         self.explain_sometimes();
+        self.join_sometimes();
         let formula = &self.replay.formula;
         if tables_are_lent(formula).is_err() || self.replay.window.is_lent().is_err() {
             self.while_lent_short();
@@ -269,6 +277,28 @@ impl Script {
         } else {
             let count = self.random.pick(&[1, 1, 2, 3]);
             self.explain(count);
+        }
+        if sets_unused {
+            self.say("state");
+        }
+    }
+
+    /// In tables and states of all kinds; of these joins most are refused.
+    fn join_sometimes(&mut self) {
+        if !self.random.once_in(20) {
+            return;
+        }
+        let sets_unused = self.random.once_in(10);
+        if sets_unused {
+            self.set_unused();
+        }
+        if self.random.once_in(3) {
+            let join = joins::good(&mut self.random);
+            self.join(&join);
+            self.rest_of_formula = self.random.between(4, 20);
+        } else {
+            let join = joins::wrong(&mut self.random);
+            self.join(&join);
         }
         if sets_unused {
             self.say("state");
@@ -477,15 +507,26 @@ impl Script {
         self.call(&format!("write {}", room.min(131_072)));
     }
 
-    /// Loads a formula, once in three times after texts that are wrong.
+    /// Loads a formula or joins two, once in three times after texts or joins that
+    /// are wrong.
     fn load(&mut self) {
         while self.random.once_in(3) {
-            let draft = drafts::any(&mut self.random);
-            let text = texts::wrong(&mut self.random, &draft);
+            if self.random.once_in(3) {
+                let join = joins::wrong(&mut self.random);
+                self.join(&join);
+            } else {
+                let draft = drafts::any(&mut self.random);
+                let text = texts::wrong(&mut self.random, &draft);
+                self.load_text(&text);
+            }
+        }
+        if self.random.once_in(2) {
+            let join = joins::good(&mut self.random);
+            self.join(&join);
+        } else {
+            let text = self.text();
             self.load_text(&text);
         }
-        let text = self.text();
-        self.load_text(&text);
         self.rest_of_formula = self.random.between(4, 20);
         if self.random.once_in(3) {
             let codes = programmes::valid(&mut self.random);
@@ -498,14 +539,24 @@ impl Script {
         }
     }
 
-    /// A load puts the constant programme back and empties the window or, refused,
-    /// leaves what is there, so both are often looked at behind it.
     fn load_text(&mut self, text: &[u8]) {
-        self.calls += 1;
         let mut bytes = format!("load {}\n", text.len()).into_bytes();
         bytes.extend_from_slice(text);
         bytes.push(b'\n');
+        self.calls += 1;
         self.say_bytes(&bytes);
+        self.look_behind_load();
+    }
+
+    fn join(&mut self, join: &Join) {
+        self.calls += 1;
+        self.say_bytes(&join.lines());
+        self.look_behind_load();
+    }
+
+    /// A load and a join put the constant programme back and empty the window or,
+    /// refused, leave what is there, so both are often looked at behind it.
+    fn look_behind_load(&mut self) {
         if self.random.once_in(4) {
             self.say("codes");
         }

@@ -3,21 +3,22 @@
 //! assignments.
 
 use crate::calls::{any, fitting, line, Call};
-use crate::chained;
 use crate::compare_calls::{in_two_calls, run_by_passes};
 use crate::compare_explain::{self, clauses_agree};
 use crate::compare_figures::figures_agree;
 use crate::compare_intervals::{comparisons_agree, numbers_agree};
+use crate::compare_join::{self, joins_agree};
 use crate::compare_learn::{self, forest_agrees, Learning};
 use crate::compare_programmes::{refusal_agrees, rules_agree, setting_agrees};
 use crate::compare_reach::{Counts, Stamped};
 use crate::compare_repeats::{loaded_agrees, merged_agrees};
+use crate::compare_shares::Pair;
 use crate::compare_values::{own_values, values_agree, values_stay, written_clauses};
 use crate::compare_walks::{groups_agree, is_subsequence, stamps_agree};
 use crate::failed::failed;
 use crate::forest::forest;
-use crate::formulas::{draft, odd_text, plain_text, Draft};
-use crate::implied;
+use crate::formulas::{odd_text, plain_text, Draft};
+use crate::join::join;
 use crate::load::{load, without_repeats};
 use crate::merge::merge;
 use crate::newcomers;
@@ -27,15 +28,14 @@ use crate::random::Random;
 use crate::refusal::Refusal;
 use crate::run::run;
 use crate::shape;
+use crate::small;
 use crate::stamp::stamp;
 use crate::sweep::sweep;
 use crate::tables::{
     ClauseRecord, Formula, Pass, StampRecord, VariableRecord, MOST_CLAUSES, MOST_LITERALS,
     MOST_VARIABLES,
 };
-use crate::transitive;
 use crate::truth::{Assignments, Truth, MOST_TRIED};
-use crate::valued;
 use crate::visits::Answer;
 use crate::window::Window;
 use crate::write::write;
@@ -44,7 +44,10 @@ use crate::write::write;
 /// status.
 pub fn check(seed: u64, count: usize) -> i32 {
     let mut random = Random::new(seed);
-    let alone = rules_agree().and_then(|()| numbers_agree(&mut random, count));
+    let mut joins = compare_join::Counts::default();
+    let alone = rules_agree()
+        .and_then(|()| numbers_agree(&mut random, count))
+        .and_then(|()| joins_agree(&mut random, count / 4, &mut joins));
     if let Err(difference) = alone {
         println!("differs: {difference}");
         return 1;
@@ -53,6 +56,7 @@ pub fn check(seed: u64, count: usize) -> i32 {
     let mut calls = 0;
     let mut accepted = 0;
     let mut other_runs = 0;
+    let mut joined = 0;
     let mut reach = Counts::default();
     let mut learnt = compare_learn::Counts::default();
     let mut explained = compare_explain::Counts::default();
@@ -63,6 +67,7 @@ pub fn check(seed: u64, count: usize) -> i32 {
         calls += one.calls;
         accepted += one.accepted;
         other_runs += one.other_runs;
+        joined += one.pair.is_some() as usize;
         reach.add(&one.reach);
         learnt.add(&one.learning.counts);
         explained.add(&one.explained);
@@ -81,6 +86,7 @@ pub fn check(seed: u64, count: usize) -> i32 {
     println!("{}", learnt.told());
     println!("{}", explained.told());
     println!("in forests {}", in_forests.told());
+    println!("{}, {joined} with calls behind them", joins.told());
     0
 }
 
@@ -96,7 +102,9 @@ enum Outcome {
 struct Check<'a> {
     truth: &'a Truth,
     formula: Formula,
-    /// The loaded formula, its clauses as written.
+    /// The two formulas, if it began with a join.
+    pair: Option<Pair>,
+    /// The loaded formula, its clauses as written; behind a join those of both.
     loaded: Vec<Vec<i32>>,
     wanted: Assignments,
     /// The calls made, as a script for a replay.
@@ -135,46 +143,87 @@ const OLD_PROGRAMME: Programme = Programme {
 };
 
 impl<'a> Check<'a> {
-    /// Loads a random formula into tables that are not empty.
+    /// Loads a random formula, or joins two, into tables that are not empty.
     fn start(random: &mut Random, truth: &'a Truth) -> Check<'a> {
-        let draft = any_draft(random);
-        let plain = plain_text(&draft);
-        let text = if random.once_in(2) {
-            odd_text(random, &draft)
+        if random.once_in(3) {
+            Check::joined(random, truth)
         } else {
-            plain.clone()
-        };
-        let mut script = format!("load {}\n", plain.len()).into_bytes();
-        script.extend_from_slice(&plain);
-        script.push(b'\n');
+            Check::loaded(random, truth)
+        }
+    }
+
+    fn loaded(random: &mut Random, truth: &'a Truth) -> Check<'a> {
+        let draft = small::any(random, MOST_TRIED);
+        let plain = plain_text(&draft);
+        let text = plain_or_odd(random, &draft);
+        let mut check = Check::before_load(truth);
+        check.say(&format!("load {}\n", plain.len()), &[&plain]);
+        let loaded = load(&mut check.formula, &mut check.learning.window, &text);
+        check.accepted = loaded.is_ok() as usize;
+        check.wanted = truth.clauses(&draft.clauses);
+        check.loaded = draft.clauses;
+        check
+    }
+
+    fn joined(random: &mut Random, truth: &'a Truth) -> Check<'a> {
+        let pair = Pair::any(random);
+        let (plain_left, plain_right) = (plain_text(&pair.left), plain_text(&pair.right));
+        let left = plain_or_odd(random, &pair.left);
+        let right = plain_or_odd(random, &pair.right);
+        let mut check = Check::before_load(truth);
+        let words: Vec<String> = pair.links.iter().map(|x| format!(" {x}")).collect();
+        let (a, b) = (plain_left.len(), plain_right.len());
+        let line = format!("join {a} {b}{}\n", words.concat());
+        check.say(&line, &[&plain_left, &plain_right]);
+        let (formula, window) = (&mut check.formula, &mut check.learning.window);
+        let joined = join(formula, window, &left, &right, &pair.links);
+        check.accepted = joined.is_ok() as usize;
+        check.wanted = pair.satisfying();
+        check.loaded = pair.clauses();
+        check.pair = Some(pair);
+        check
+    }
+
+    /// Tables, a programme and a window that are not empty.
+    fn before_load(truth: &'a Truth) -> Check<'a> {
         let mut formula = Formula::empty();
         formula.clauses.fill(OLD_CLAUSE);
         formula.literals.fill(OLD_LITERAL);
         formula.variables.fill(OLD_VARIABLE);
         formula.stamps.fill(OLD_STAMP);
         formula.state.programme = OLD_PROGRAMME;
-        let mut learning = Learning::before_load();
-        let accepted = load(&mut formula, &mut learning.window, &text).is_ok();
         Check {
             truth,
             formula,
-            wanted: truth.clauses(&draft.clauses),
-            loaded: draft.clauses,
-            script,
+            pair: None,
+            wanted: truth.clauses(&[]),
+            loaded: Vec::new(),
+            script: Vec::new(),
             calls: 1,
-            accepted: accepted as usize,
+            accepted: 0,
             other_runs: 0,
             stamped: None,
             reach: Counts::default(),
-            learning,
+            learning: Learning::before_load(),
             explained: compare_explain::Counts::default(),
             in_forests: compare_explain::Counts::default(),
         }
     }
 
+    /// A line of the script with the texts behind it.
+    fn say(&mut self, line: &str, texts: &[&[u8]]) {
+        self.script.extend_from_slice(line.as_bytes());
+        self.script.extend_from_slice(&texts.concat());
+        self.script.push(b'\n');
+    }
+
     fn calls(&mut self, random: &mut Random) -> Result<(), String> {
         if self.accepted == 0 {
             return Err("a good text is refused".to_string());
+        }
+        if let Some(pair) = &self.pair {
+            pair.numbers_agree()?;
+            pair.shares_agree()?;
         }
         self.tables_agree()?;
         if self.formula.state.programme != Programme::constant() {
@@ -535,23 +584,11 @@ impl<'a> Check<'a> {
     }
 }
 
-/// A formula of at most 12 variables, of any kind.
-fn any_draft(random: &mut Random) -> Draft {
-    if random.once_in(4) {
-        let variables = random.between(3, MOST_TRIED);
-        transitive::draft(random, variables)
-    } else if random.once_in(3) {
-        let variables = random.between(3, MOST_TRIED);
-        chained::draft(random, variables)
-    } else if random.once_in(3) {
-        let variables = random.between(3, MOST_TRIED);
-        implied::draft(random, variables)
-    } else if random.once_in(3) {
-        let variables = random.between(2, MOST_TRIED);
-        valued::draft(random, variables)
+fn plain_or_odd(random: &mut Random, draft: &Draft) -> Vec<u8> {
+    if random.once_in(2) {
+        odd_text(random, draft)
     } else {
-        let variables = random.below(MOST_TRIED + 1);
-        draft(random, variables)
+        plain_text(draft)
     }
 }
 

@@ -5,14 +5,25 @@ use crate::refusal::{tables_are_lent, Refusal};
 use crate::tables::{
     ClauseRecord, Formula, Pass, State, VariableRecord, MOST_CLAUSES, MOST_LITERALS, MOST_VARIABLES,
 };
-use crate::text;
+use crate::text::{self, Written};
 use crate::window::Window;
 
 pub fn load(formula: &mut Formula, window: &mut Window, text: &[u8]) -> Result<(), Refusal> {
-    tables_are_lent(formula)?;
-    window.is_lent()?;
+    all_is_lent(formula, window)?;
     let written = text::read(text)?;
+    fill(formula, window, &written);
+    Ok(())
+}
 
+/// Refusal 1, for load and join: a table or the window is shorter than stated.
+pub fn all_is_lent(formula: &Formula, window: &Window) -> Result<(), Refusal> {
+    tables_are_lent(formula)?;
+    window.is_lent()
+}
+
+/// The tables and the state become what is written, with the constant programme;
+/// the window is emptied. Only the stamp records stay.
+pub fn fill(formula: &mut Formula, window: &mut Window, written: &Written) {
     window.clear();
     formula.clauses[..MOST_CLAUSES].fill(ClauseRecord::default());
     formula.literals[..MOST_LITERALS].fill(0);
@@ -47,7 +58,6 @@ pub fn load(formula: &mut Formula, window: &mut Window, text: &[u8]) -> Result<(
             formula.state.mark = true;
         }
     }
-    Ok(())
 }
 
 /// Of equal literals the first stays.

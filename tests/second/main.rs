@@ -12,6 +12,7 @@ mod refusal;
 mod shape;
 mod window;
 
+mod join;
 mod load;
 mod text;
 mod write;
@@ -38,19 +39,25 @@ mod compare_calls;
 mod compare_explain;
 mod compare_figures;
 mod compare_intervals;
+mod compare_join;
 mod compare_learn;
 mod compare_programmes;
 mod compare_reach;
 mod compare_repeats;
+mod compare_shares;
 mod compare_values;
 mod compare_walks;
 mod named;
 mod named_explain;
 mod named_explain_refusals;
+mod named_join;
+mod named_join_limits;
+mod named_join_refusals;
 mod named_learn;
 mod named_programmes;
 mod named_reach;
 mod named_window;
+mod small;
 mod transitive;
 mod truth;
 
@@ -64,6 +71,10 @@ mod forest;
 mod formulas;
 #[path = "../generate/implied.rs"]
 mod implied;
+#[path = "../generate/limit_pairs.rs"]
+mod limit_pairs;
+#[path = "../generate/links.rs"]
+mod links;
 #[path = "../generate/lists.rs"]
 mod lists;
 #[path = "../generate/newcomers.rs"]
@@ -74,6 +85,10 @@ mod programmes;
 mod random;
 #[path = "../generate/repeats.rs"]
 mod repeats;
+#[path = "../generate/splits.rs"]
+mod splits;
+#[path = "../generate/texts.rs"]
+mod texts;
 #[path = "../generate/valued.rs"]
 mod valued;
 

@@ -4,10 +4,12 @@
 //! formulas at the limits; each with what a replay of it prints. Those of the
 //! programme stand in `named_programmes.rs`, those of the reach in
 //! `named_reach.rs`, those of learn in `named_learn.rs` and `named_window.rs`,
-//! those of explain in `named_explain.rs` and `named_explain_refusals.rs`.
+//! those of explain in `named_explain.rs` and `named_explain_refusals.rs`, those of
+//! joins in `named_join.rs`, `named_join_refusals.rs` and `named_join_limits.rs`.
 
 use crate::{
-    named_explain, named_explain_refusals, named_learn, named_programmes, named_reach, named_window,
+    named_explain, named_explain_refusals, named_join, named_join_limits, named_join_refusals,
+    named_learn, named_programmes, named_reach, named_window,
 };
 
 /// The bytes of a load, the calls behind it, a line each, and what a replay of
@@ -56,7 +58,9 @@ pub fn script() -> Vec<u8> {
 fn all_large() -> Vec<Case> {
     let windows = named_window::large();
     let explains = named_explain::large();
-    large().into_iter().chain(windows).chain(explains).collect()
+    let others = windows.into_iter().chain(explains);
+    let joins = named_join_limits::cases();
+    large().into_iter().chain(others).chain(joins).collect()
 }
 
 /// Cases on small formulas.
@@ -83,8 +87,12 @@ fn short() -> Vec<Case> {
     let explains = named_explain::cases()
         .into_iter()
         .chain(named_explain_refusals::cases());
-    let others = passes.chain(programmes).chain(reach);
-    texts.chain(others).chain(learns).chain(explains).collect()
+    let joins = named_join::cases()
+        .into_iter()
+        .chain(named_join_refusals::cases());
+    let passes = passes.chain(programmes).chain(reach);
+    let others = learns.chain(explains).chain(joins);
+    texts.chain(passes).chain(others).collect()
 }
 
 /// Cases that end with a wrong line.
@@ -99,6 +107,7 @@ fn wrong_lines() -> Vec<Case> {
         .chain(named_explain_refusals::WRONG_LINES)
         .map(with_calls)
         .chain(too_long)
+        .chain(named_join_refusals::wrong_lines())
         .collect()
 }
 

@@ -16,7 +16,7 @@ pub fn refuse<T>(number: u32, place: usize) -> Result<T, Refusal> {
     })
 }
 
-/// Refusal 1, for load: a table is shorter than stated.
+/// Refusal 1, for load and join: a table is shorter than stated.
 pub fn tables_are_lent(formula: &Formula) -> Result<(), Refusal> {
     let lent = &formula.lent;
     if lent.clauses < MOST_CLAUSES
@@ -29,7 +29,7 @@ pub fn tables_are_lent(formula: &Formula) -> Result<(), Refusal> {
     Ok(())
 }
 
-/// Refusal 1, for every call other than load.
+/// Refusal 1, for every call other than load and join.
 pub fn tables_have_shape(formula: &Formula) -> Result<(), Refusal> {
     tables_are_lent(formula)?;
     if !shape::holds(formula) {

@@ -3,6 +3,7 @@
 use crate::comparison::compare;
 use crate::explain::explain;
 use crate::failed::failed;
+use crate::join::join;
 use crate::learn::{learn, Learnt};
 use crate::load::load;
 use crate::merge::merge;
@@ -64,26 +65,32 @@ impl Replay {
         }
     }
 
-    /// Takes one line, and the bytes of a `load` with it. Returns what comes
-    /// after.
+    /// Takes one line, and the bytes of a `load` or a `join` with it. Returns what
+    /// comes after.
     fn take_line<'a>(&mut self, input: &'a [u8]) -> Result<&'a [u8], WrongLine> {
         let end = input.iter().position(|b| *b == b'\n').ok_or(WrongLine)?;
         let line = std::str::from_utf8(&input[..end]).map_err(|_| WrongLine)?;
         let after = &input[end + 1..];
         let words: Vec<&str> = line.split(' ').collect();
-        if words[0] == "load" {
-            let [_, count] = words[..] else {
-                return Err(WrongLine);
-            };
-            let count = number(count, 0, MOST_INPUT as i64)? as usize;
-            if after.get(count) != Some(&b'\n') {
-                return Err(WrongLine);
+        match &words[..] {
+            ["load", count] => {
+                let (text, after) = split_bytes(after, byte_count(count)?)?;
+                self.load(text);
+                Ok(after)
             }
-            self.load(&after[..count]);
-            return Ok(&after[count + 1..]);
+            ["join", left, right, links @ ..] => {
+                let (left, right) = (byte_count(left)?, byte_count(right)?);
+                let links = links_of(links)?;
+                let (texts, after) = split_bytes(after, left + right)?;
+                let (left, right) = texts.split_at(left);
+                self.join(left, right, &links);
+                Ok(after)
+            }
+            words => {
+                self.take_words(words)?;
+                Ok(after)
+            }
         }
-        self.take_words(&words)?;
-        Ok(after)
     }
 
     fn take_words(&mut self, words: &[&str]) -> Result<(), WrongLine> {
@@ -168,16 +175,14 @@ impl Replay {
 
     fn load(&mut self, text: &[u8]) {
         self.clear_unused();
-        match load(&mut self.formula, &mut self.window, text) {
-            Ok(()) => {
-                let state = self.formula.state;
-                self.print(format!(
-                    "loaded {} {} {}",
-                    state.variables, state.clauses, state.mark as u32
-                ));
-            }
-            Err(refusal) => self.print_refusal(refusal),
-        }
+        let answer = load(&mut self.formula, &mut self.window, text);
+        self.print_loaded(answer);
+    }
+
+    fn join(&mut self, left: &[u8], right: &[u8], links: &[u32]) {
+        self.clear_unused();
+        let answer = join(&mut self.formula, &mut self.window, left, right, links);
+        self.print_loaded(answer);
     }
 
     fn stamp(&mut self, words: &[&str]) -> Result<(), WrongLine> {
@@ -365,6 +370,17 @@ impl Replay {
         self.print(format!("refused {} {}", refusal.number, refusal.place));
     }
 
+    fn print_loaded(&mut self, answer: Result<(), Refusal>) {
+        let state = self.formula.state;
+        match answer {
+            Ok(()) => self.print(format!(
+                "loaded {} {} {}",
+                state.variables, state.clauses, state.mark as u32
+            )),
+            Err(refusal) => self.print_refusal(refusal),
+        }
+    }
+
     fn print_answer(&mut self, answer: Result<Answer, Refusal>) {
         match answer {
             Ok(answer) => self.print(format!(
@@ -469,6 +485,27 @@ fn list_of(words: &[&str]) -> Result<Vec<i32>, WrongLine> {
         return Err(WrongLine);
     }
     words.iter().map(|word| any_i32(word)).collect()
+}
+
+/// The links of a line, any u32, if there are not too many.
+fn links_of(words: &[&str]) -> Result<Vec<u32>, WrongLine> {
+    if words.len() > MOST_LIST {
+        return Err(WrongLine);
+    }
+    words.iter().map(|word| any_u32(word)).collect()
+}
+
+/// How many bytes stand behind a line.
+fn byte_count(word: &str) -> Result<usize, WrongLine> {
+    Ok(number(word, 0, MOST_INPUT as i64)? as usize)
+}
+
+/// So many bytes, and what comes after the LF behind them.
+fn split_bytes(input: &[u8], count: usize) -> Result<(&[u8], &[u8]), WrongLine> {
+    if input.get(count) != Some(&b'\n') {
+        return Err(WrongLine);
+    }
+    Ok((&input[..count], &input[count + 1..]))
 }
 
 /// A decimal number without leading zeros, `-` before a negative one.

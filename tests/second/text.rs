@@ -6,7 +6,7 @@ use crate::refusal::{refuse, Refusal};
 use crate::tables::{MOST_CLAUSES, MOST_LITERALS, MOST_VARIABLES};
 
 const GRAMMAR: u32 = 2;
-const LIMIT: u32 = 3;
+pub const LIMIT: u32 = 3;
 
 /// What a text says: V and the clauses as written.
 pub struct Written {

@@ -22,10 +22,17 @@ impl Assignments {
     /// variable v true if bit v - 1 of a is 1.
     fn of_literal(literal: i32) -> Assignments {
         let variable = literal.unsigned_abs() as usize;
+        Assignments::that(|assignment| {
+            let is_true = (assignment >> (variable - 1)) & 1 == 1;
+            is_true == (literal > 0)
+        })
+    }
+
+    /// The assignments of which this is true, each given by its number.
+    pub fn that(is_one: impl Fn(usize) -> bool) -> Assignments {
         let mut words = [0; WORDS];
         for assignment in 0..1 << MOST_TRIED {
-            let is_true = (assignment >> (variable - 1)) & 1 == 1;
-            if is_true == (literal > 0) {
+            if is_one(assignment) {
                 words[assignment / 64] |= 1 << (assignment % 64);
             }
         }

@@ -1,5 +1,5 @@
 //! The window of learnt clauses that the caller lends, and the rule that it
-//! keeps. Only learn and a load take it.
+//! keeps. Only learn, a load and a join take it.
 
 use crate::refusal::{refuse, Refusal};
 use crate::tables::EXTRA;
@@ -38,7 +38,7 @@ impl Window {
         }
     }
 
-    /// Refusal 1, for learn and load: a table is shorter than stated.
+    /// Refusal 1, for learn, load and join: a table is shorter than stated.
     pub fn is_lent(&self) -> Result<(), Refusal> {
         if self.lent_sizes < MOST_LEARNT || self.lent_learnt < MOST_PLACES {
             return refuse(1, 0);

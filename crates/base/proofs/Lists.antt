@@ -257,6 +257,12 @@ getD-any [] i a b lt = absurd (omega arith)
 getD-any (x ∷ l) zero a b lt = refl
 getD-any (x ∷ l) (suc i) a b lt = getD-any l i a b (omega arith)
 
+-- behind the end
+pub getD-beyond : {A : Type 0} (l : List A) (i : ℕ) (d : A) → length l ≤ i → getD l i d ≡ d
+getD-beyond [] i d h = refl
+getD-beyond (x ∷ l) zero d h = absurd (omega (arith, h))
+getD-beyond (x ∷ l) (suc i) d h = getD-beyond l i d (omega (arith, h))
+
 -- an entry that is not 0 stands in the list
 pub getD-inside : (l : List ℕ) (i : ℕ) → 0 < getD l i 0 → i < length l
 getD-inside [] i h = absurd (omega arith)

@@ -1,4 +1,4 @@
--- One call after the other, with the window: after a load or a learnt clause, made or refused, the numbers are again a state's and a window's and the answer has its four places, and the next call finds the state, the tables and the window that the definition of the last one gave.
+-- One call after the other, with the window: after a load, a join or a learnt clause, made or refused, the numbers are again a state's and a window's and the answer has its four places, and the next call finds the state, the tables and the window that the definition of the last one gave.
 -- A call that does not take the window leaves it, and one that takes it can be made behind it (`next-beside`). Assumes nothing.
 use Prim.Native.Nat.{ℕ, zero, suc}
 use native.Mathlib.Omega.{arith}
@@ -40,7 +40,7 @@ window-next m sizes learnt w kept = ap (λ (x : Window). places (m .window .size
         numbered zero = window-back (m .window .window) w
         numbered (suc n) = sym (ap (λ (p : Places). p .window) same)
 
--- ---- a load
+-- ---- a load or a join
 
 -- what the next call finds
 pub record FoundLoad (m : AfterWindow) (x : AfterLoadC) : Type 0 where
@@ -70,7 +70,7 @@ module _ (t : Tables) (s a sizes : List ℕ) (learnt : List ℤ) (w : List ℕ) 
       window-kept (inl made) = inl (made .0)
       window-kept (inr same) = inr (same .2)
 
-  -- THE LAW, with `load-with-keeps`
+  -- THE LAW, with `load-with-keeps` or `join-with-keeps`
   pub next-load : (call : Tables → State → Places → AfterWindow) → KeepsWith call → FoundLoad (call t (stateOf s) (places sizes learnt (windowAt w))) (loadC call t s a sizes learnt w)
   next-load call keeps = rw (called-load call t s a sizes learnt w e) (told-load-found (call t (stateOf s) (places sizes learnt (windowAt w))) (keeps t (stateOf s) (places sizes learnt (windowAt w))))
 

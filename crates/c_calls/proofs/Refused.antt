@@ -16,10 +16,11 @@ use Rattle.programmes.proofs.Judging.{judge-exact}
 use Rattle.tables.specs.Tables.{Tables}
 use Rattle.tables.specs.Long.{longOk}
 use Rattle.tables.specs.Calls.{After, refuse}
-use Rattle.dimacs.specs.Text.{judgeText, bodyOf}
+use Rattle.dimacs.specs.Text.{judgeText, textClauses}
 use Rattle.dimacs.specs.declared.Verdict.{Verdict}
 use Rattle.dimacs.specs.declared.Verdict.the-variants.{Refused, Fits}
-use Rattle.load.specs.Load.{loadBy, loadCall}
+use Rattle.join.specs.Join.{judgeJoin, joinClauses}
+use Rattle.load.specs.Load.{loadBy, loadFormula, loadCall, joinCall}
 use Rattle.propagate.specs.Propagate.{propagateCall}
 use Rattle.merge.specs.Merge.{mergeCall}
 use Rattle.stamp.specs.Stamp.{stampCall}
@@ -49,18 +50,26 @@ way-keeps : (t : Tables) (st : State) (a : After) → Way t st a → Kept t st a
 way-keeps t st a (inl made) = inl (made .0, λ placed. ap (λ (p : Programme). length (p .codes)) (made .1 .programme) ∙ placed)
 way-keeps t st a (inr kept) = inr kept
 
--- the load of the tables alone
-pub load-keeps : (text : List ℕ) → Keeps (loadCall text)
-unfolding loadCall constantProgramme programmeOf
-load-keeps text t st = by (longOk t)
+-- a formula by its verdict, into the tables alone: a load or a join
+formula-keeps : (verdict : Verdict) (cs : List (List ℤ)) → Keeps (loadFormula verdict cs)
+unfolding constantProgramme programmeOf
+formula-keeps verdict cs t st = by (longOk t)
   where
-    judged : (v : Verdict) (cs : List (List ℤ)) → Kept t st (loadBy v cs t st)
-    judged (Refused r) cs = inr (refl, refl)
-    judged (Fits v n size) cs = inl (refl, λ placed. refl)
+    judged : (v : Verdict) → Kept t st (loadBy v cs t st)
+    judged (Refused r) = inr (refl, refl)
+    judged (Fits v n size) = inl (refl, λ placed. refl)
 
-    by : (b : Bool) → Kept t st (elim b as (λ x. After) [ true ↦ loadBy (judgeText text) (bodyOf text (judgeText text)) t st | false ↦ refuse Shape st t ])
-    by true = judged (judgeText text) (bodyOf text (judgeText text))
+    by : (b : Bool) → Kept t st (elim b as (λ x. After) [ true ↦ loadBy verdict cs t st | false ↦ refuse Shape st t ])
+    by true = judged verdict
     by false = inr (refl, refl)
+
+pub load-keeps : (text : List ℕ) → Keeps (loadCall text)
+unfolding loadCall
+load-keeps text = formula-keeps (judgeText text) (textClauses text)
+
+pub join-keeps : (left right links : List ℕ) → Keeps (joinCall left right links)
+unfolding joinCall
+join-keeps left right links = formula-keeps (judgeJoin left right links) (joinClauses left right links)
 
 set-keeps : (codes : List ℕ) → Keeps (setCall codes)
 unfolding programmeOf

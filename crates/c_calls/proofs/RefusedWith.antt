@@ -1,4 +1,4 @@
--- A refused load or learnt clause for C leaves the state, the tables and the window as they are: its result is 0, or nothing changed but the first number of the answer. Assumes nothing.
+-- A refused load, join or learnt clause for C leaves the state, the tables and the window as they are: its result is 0, or nothing changed but the first number of the answer. Assumes nothing.
 use Prim.Native.Nat.{ℕ, zero, suc}
 use mathlib.Core.Bool.{Bool, true, false}
 use mathlib.Core.Path.{_≡_, refl, ap, _∙_}
@@ -14,7 +14,7 @@ use Rattle.tables.specs.Calls.{After}
 use Rattle.window.specs.declared.Window.{Window}
 use Rattle.window.specs.Window.{Places, places, AfterWindow, afterWindow, refuseWith}
 use Rattle.window.specs.Rule.{longWindowOk}
-use Rattle.load.specs.Load.{loadCall, emptiedBy, loadWith}
+use Rattle.load.specs.Load.{loadCall, joinCall, emptiedBy, emptying, withWindow, loadWith, joinWith}
 use Rattle.learn.specs.Learn.{learnCall}
 use Rattle.learn.proofs.Cases.{learn-ways}
 use Rattle.c_numbers.specs.StateNumbers.{stateOf}
@@ -22,7 +22,7 @@ use Rattle.c_numbers.specs.CCalls.{putAnswerBy, putAnswer, putStateBy, refuseUn
 use Rattle.c_numbers.specs.WindowCalls.{readyWith, windowAt, putWindowBy, AfterLoadC, afterLoadC, toldLoad, loadC, AfterLearnC, afterLearnC, toldLearn, learnC}
 use Rattle.c_numbers.proofs.Answered.{unread-behind}
 use Rattle.c_numbers.proofs.StateBack.{Placed}
-use Rattle.c_calls.proofs.Refused.{Kept, load-keeps}
+use Rattle.c_calls.proofs.Refused.{Kept, load-keeps, join-keeps}
 
 -- the call was made, and the programme has its places if it had them, or the state, the tables and the window are as they were
 abbrev pub KeptWith : Tables → State → Places → AfterWindow → Type 0
@@ -54,8 +54,8 @@ module _ (t : Tables) (st : State) (w : Places) where
       by (inl made) = inl (made, same-placed (only .0))
       by (inr same) = inr (only .0, only .1, same)
 
-  -- a load of the tables, with the window emptied where the text was loaded
-  emptied-kept : (m : After) → Kept t st m → KeptWith t st w (afterWindow m (emptiedBy (m .reply .number) w))
+  -- a load or a join of the tables, with the window emptied where it was accepted
+  emptied-kept : (m : After) → Kept t st m → KeptWith t st w (emptying m w)
   emptied-kept m (inl made) = inl made
   emptied-kept m (inr same) = numbered (m .reply .number) refl
     where
@@ -63,13 +63,20 @@ module _ (t : Tables) (st : State) (w : Places) where
       numbered zero e = inl (e, same-placed (same .0))
       numbered (suc n) e = inr (same .0, same .1, refl)
 
+  window-kept : (m : After) → Kept t st m → KeptWith t st w (withWindow m t st w)
+  window-kept m kept = by (longWindowOk w)
+    where
+      by : (b : Bool) → KeptWith t st w (elim b as (λ _. AfterWindow) [ true ↦ emptying m w | false ↦ refuseWith Shape t st w ])
+      by true = emptied-kept m kept
+      by false = inr (refl, refl, refl)
+
 pub load-with-keeps : (text : List ℕ) → KeepsWith (loadWith text)
 unfolding loadWith
-load-with-keeps text t st w = by (longWindowOk w)
-  where
-    by : (b : Bool) → KeptWith t st w (elim b as (λ _. AfterWindow) [ true ↦ afterWindow (loadCall text t st) (emptiedBy (loadCall text t st .reply .number) w) | false ↦ refuseWith Shape t st w ])
-    by true = emptied-kept t st w (loadCall text t st) (load-keeps text t st)
-    by false = inr (refl, refl, refl)
+load-with-keeps text t st w = window-kept t st w (loadCall text t st) (load-keeps text t st)
+
+pub join-with-keeps : (left right links : List ℕ) → KeepsWith (joinWith left right links)
+unfolding joinWith
+join-with-keeps left right links t st w = window-kept t st w (joinCall left right links t st) (join-keeps left right links t st)
 
 pub learn-only : (C : List ℤ) → KeepsOnly (learnCall C)
 learn-only C t st w = learn-ways C t st w (Only t st w) (λ r. (refl, refl, inr refl)) (λ T. (refl, refl, inl refl)) (λ T D S. (refl, refl, inl refl)) (λ T e. (refl, refl, inl refl))
@@ -112,7 +119,7 @@ module _ (t : Tables) (s a sizes : List ℕ) (learnt : List ℤ) (w : List ℕ) 
     abbrev on-read : AfterWindow
     on-read = call t (stateOf s) (places sizes learnt (windowAt w))
 
-    -- THE LAW for a load, with `load-with-keeps`
+    -- THE LAW for a load and a join, with `load-with-keeps` and `join-with-keeps`
     pub refused-load : LoadLeft (loadC call t s a sizes learnt w)
     unfolding loadC
     refused-load = reading (readyWith s a w)

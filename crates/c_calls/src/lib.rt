@@ -1,7 +1,7 @@
 // The calls for C. Each function reads the state from its numbers (crate c_numbers), makes the call of the same name, and puts the state and the answer into theirs; the last two have no state.
 ghost use mathlib.Core.Path.{_≡_};
 ghost use Rattle.tables.specs.Lent.{lent, returned};
-ghost use Rattle.load.specs.Load.{loadWith};
+ghost use Rattle.load.specs.Load.{loadWith, joinWith};
 ghost use Rattle.learn.specs.Learn.{learnCall};
 ghost use Rattle.propagate.specs.Propagate.{propagateCall};
 ghost use Rattle.merge.specs.Merge.{mergeCall};
@@ -44,6 +44,51 @@ pub extern "C" fn unhide_load(
     let w = c_numbers::window_at(window);
     let made = load::load(
         text,
+        clauses,
+        literals,
+        variables,
+        times,
+        links,
+        st,
+        sizes,
+        learnt,
+        w,
+    );
+    let outcome = made.outcome;
+    let a = outcome.answer;
+    c_numbers::finish_window(window, a, made.window);
+    c_numbers::finish(state, answer, outcome)
+}
+
+// Two texts are joined into the tables by the pairs of a link table, and the window is emptied; else as a load.
+#[no_mangle]
+pub extern "C" fn unhide_join(
+    left: &[u8],
+    right: &[u8],
+    pairs: &[u32],
+    clauses: &mut [u32],
+    literals: &mut [i32],
+    variables: &mut [i32],
+    times: &[u32],
+    links: &[i32],
+    state: &mut [u32],
+    answer: &mut [u64],
+    sizes: &mut [u32],
+    learnt: &mut [i32],
+    window: &mut [u32],
+) -> i64
+    ensures { λ r. ⌜ afterLoadC (afterC r (now (answer .exit)) (now (state .exit)) (returned clauses literals variables times links)) (now (sizes .exit)) (now (learnt .exit)) (now (window .exit))
+        ≡ loadC (joinWith (now (left .entry)) (now (right .entry)) (now (pairs .entry))) (lent clauses literals variables times links) (now (state .entry)) (now (answer .entry)) (now (sizes .entry)) (now (learnt .entry)) (now (window .entry)) ⌝ }
+{
+    if !c_numbers::ready_with(state, answer, window) {
+        return c_numbers::refuse_unread(answer);
+    }
+    let st = c_numbers::state_at(state);
+    let w = c_numbers::window_at(window);
+    let made = load::join(
+        left,
+        right,
+        pairs,
         clauses,
         literals,
         variables,

@@ -48,7 +48,7 @@ clause-at v (x ∷ c) rest h =
     let not : eqZ x (pos 0) ≡ false = ne-eqZ x (pos 0) (λ e. omega (arith, ap natAbs e, h .0)) in
     rw (not, firstClause) (ap (λ (d : List ℤ). x ∷ d) (clause-at v c rest (h .1 .1)))
 
-clauses-next : (v k : ℕ) (c rest : List ℤ) → InClause v c → clausesIn (suc k) (c ++ (pos 0 ∷ rest)) ≡ c ∷ clausesIn k rest
+pub clauses-next : (v k : ℕ) (c rest : List ℤ) → InClause v c → clausesIn (suc k) (c ++ (pos 0 ∷ rest)) ≡ c ∷ clausesIn k rest
 unfolding clausesIn
 clauses-next v k c rest h =
     let e : firstClause (c ++ (pos 0 ∷ rest)) ≡ c = clause-at v c rest h in

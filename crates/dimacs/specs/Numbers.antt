@@ -1,5 +1,6 @@
 -- The numbers that a load keeps of a body: the literals as they come, and 0 at the end of each clause. Assumes nothing: these are definitions.
 use Prim.Native.Nat.{ℕ, zero, suc}
+use mathlib.Core.Path.{_≡_}
 use mathlib.Core.Bool.{true, false}
 use mathlib.Core.List.{List, [], _∷_}
 use lib.ListN.{length, drop}
@@ -35,3 +36,8 @@ clausesIn (suc n) ns = firstClause ns ∷ clausesIn n (drop (suc (length (firstC
 abbrev pub clausesKept : Verdict → List ℤ → List (List ℤ)
 clausesKept (Refused r) ns = []
 clausesKept (Fits v n body) ns = clausesIn n ns
+
+-- a formula of the clauses cs was judged: the verdict is r, and where it fits its clauses are kept in the numbers
+pub record Judged (verdict : Verdict) (cs : List (List ℤ)) (r : Verdict) (numbers : List ℤ) : Type 0 where
+  pub is : r ≡ verdict
+  pub kept : (v n body : ℕ) → r ≡ Fits v n body → clausesIn n numbers ≡ cs

@@ -8,8 +8,8 @@ ghost use lib.Dec.{leb, ltb, eqb};
 ghost use Rattle.dimacs.specs.Words.{isSep, isWordByte, isLineByte, isDigit, span, front, wordsAt};
 ghost use Rattle.dimacs.specs.Tokens.{decimal, unsigned, tokenBy, tokenOf};
 ghost use Rattle.dimacs.specs.Header.{comments, expect, number, lineEnd, headerRest, header};
-ghost use Rattle.dimacs.specs.Text.{judge, judgeEnd, judgeText, budget, literalOf, bodyOf};
-ghost use Rattle.dimacs.specs.Numbers.{clausesKept};
+ghost use Rattle.dimacs.specs.Text.{judge, judgeEnd, judgeText, budget, literalOf, bodyOf, textClauses};
+ghost use Rattle.dimacs.specs.Numbers.{clausesKept, Judged};
 use state::Refusal;
 
 // What stands at an offset of the text's body: `start` is its first byte, `next` the byte after it. A magnitude above 65,535
@@ -460,7 +460,7 @@ fn judge_words(text: &[u8], v: u32, n: u32, body: usize, numbers: &mut [i32]) ->
 // The judgement of a text, and the clauses of a text that fits in `numbers`, which a load has made long enough.
 pub fn judge_text(text: &[u8], numbers: &mut [i32]) -> Verdict
     requires { ⌜ 20480 ≤ length (now numbers) ⌝ }
-    ensures { λ r. ⌜ (r ≡ judgeText (now (text .entry))) × (clausesKept r (now (numbers .exit)) ≡ bodyOf (now (text .entry)) r) ⌝ }
+    ensures { λ r. ⌜ Judged (judgeText (now (text .entry))) (textClauses (now (text .entry))) r (now (numbers .exit)) ⌝ }
 {
     match read_header(text) {
         Header::NoHeader(r) => Verdict::Refused(r),

@@ -24,15 +24,15 @@ use Rattle.dimacs.specs.declared.Verdict.the-variants.{Refused, Fits}
 use Rattle.load.specs.Load.{loadBy, loadCall}
 use Rattle.write.specs.Write.{afterWrite, writeText, writeInto}
 use Rattle.write.proofs.Text.{call-written}
-use Rattle.roundtrip.proofs.LoadBack.{long-enough}
-use Rattle.roundtrip.proofs.Reread.{text-loads}
+use Rattle.load.proofs.Fill.{formula-lent}
 use Rattle.settle.specs.Settle.{Standing}
 use Rattle.call_lists.specs.Lists.{stepsOn}
+use Rattle.call_lists.specs.Starts.{load}
 use Rattle.run.specs.Run.{runCall}
 use Rattle.run.proofs.Ways.{way-same, run-way}
 use Rattle.simplify.specs.Texts.{runUnless, simplifyLoaded, simplifyIn}
 use Rattle.simplify.proofs.Simplified.{refused-load}
-use Rattle.refinement.proofs.Loaded.{load-held}
+use Rattle.refinement.proofs.Starting.{started-as, start-held, loadStarted}
 use Rattle.refinement.proofs.Demand3.{demand-3, steps-held}
 use Rattle.refinement.proofs.Running.{run-calls, run-keeps}
 
@@ -56,7 +56,7 @@ module _ (t : Tables) (L : Long t) (text : List ℕ) (count : ℕ) where
   pub refused-text : (r : Refusal) → judgeText text ≡ Refused r → (out : List ℕ) → simplifyIn t text count out ≡ afterWrite (answer.Refused r) out
   unfolding loadCall
   refused-text r e out =
-      let loads : loaded ≡ refuse r emptyState t = rw (long-enough t L, loadCall) (ap (λ (x : Verdict). loadBy x (textClauses text) t emptyState) e) in
+      let loads : loaded ≡ refuse r emptyState t = formula-lent (judgeText text) (textClauses text) t emptyState L ∙ ap (λ (x : Verdict). loadBy x (textClauses text) t emptyState) e in
       sym (refused-load (record { answer = answer.Refused r; state = emptyState }) t loaded count out (sym loads) (λ z. omega (arith, number-bounds r, z)))
 
   -- ---- a text that is accepted
@@ -67,23 +67,23 @@ module _ (t : Tables) (L : Long t) (text : List ℕ) (count : ℕ) where
     end-stands τ = go (loaded .state .mark)
       where
         go : (b : Bool) → Stands (runUnless b count loaded .tables) (runUnless b count loaded .state) τ ↔ Satisfies τ (textClauses text)
-        go true = demand-3 text v n body accepted t L emptyState [] τ
-        go false = run-keeps text v n body accepted t L emptyState count τ
+        go true = demand-3 (loadStarted text v n body accepted t L emptyState) [] τ
+        go false = run-keeps (loadStarted text v n body accepted t L emptyState) count τ
 
     pub end-shape : Shape (end .tables) (end .state)
     end-shape = go (loaded .state .mark)
       where
         go : (b : Bool) → Shape (runUnless b count loaded .tables) (runUnless b count loaded .state)
-        go true = load-held text v n body accepted t L emptyState .shape
+        go true = start-held (loadStarted text v n body accepted t L emptyState) .shape
         go false =
             let M = run-calls count (loaded .tables) (loaded .state) in
-            subst (λ (w : Standing). Shape (w .tables) (w .state)) (M .ends) (steps-held (M .calls) (loaded .tables) (loaded .state) (load-held text v n body accepted t L emptyState) .shape)
+            subst (λ (w : Standing). Shape (w .tables) (w .state)) (M .ends) (steps-held (M .calls) (loaded .tables) (loaded .state) (start-held (loadStarted text v n body accepted t L emptyState)) .shape)
 
     pub end-variables : end .state .v ≡ v
     end-variables = go (loaded .state .mark)
       where
         before : loaded .state .v ≡ v
-        before = ap (λ (a : After). a .state .v) (text-loads text v n body accepted t L emptyState)
+        before = ap (λ (a : After). a .state .v) (started-as (load text) t emptyState v n body L accepted)
 
         go : (b : Bool) → runUnless b count loaded .state .v ≡ v
         go true = before
@@ -91,6 +91,6 @@ module _ (t : Tables) (L : Long t) (text : List ℕ) (count : ℕ) where
 
     pub accepted-text : (out : List ℕ) → simplifyIn t text count out ≡ writeInto (writeText (end .tables) (end .state)) out
     accepted-text out =
-        let taken : loaded .reply .number ≡ 0 = ap (λ (a : After). a .reply .number) (text-loads text v n body accepted t L emptyState) in
+        let taken : loaded .reply .number ≡ 0 = ap (λ (a : After). a .reply .number) (started-as (load text) t emptyState v n body L accepted) in
         let shape : shapeOk (end .tables) (end .state) ≡ true = sym (shape-agrees (end .tables) (end .state) (says-yes end-shape)) in
         ap (λ (m : ℕ). simplifyLoaded m count loaded out) taken ∙ sym (call-written (end .tables) (end .state) out shape)

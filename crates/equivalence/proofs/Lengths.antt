@@ -12,10 +12,11 @@ use Rattle.tables.specs.Tables.{Tables, classOf, valueOf}
 use Rattle.shape.specs.Shape.{Shape}
 use Rattle.printing.specs.Printing.{clausesText, headerText}
 use Rattle.literal.specs.Ranged.{total}
+use Rattle.literal.proofs.Ranged.{total-append}
 use Rattle.write.specs.Write.{writtenClauses, writeText}
 use Rattle.write.specs.Gathered.{gathered, ownValue, unitFor, classFor, unitAt, classAt, writtenAt, formula}
 use Rattle.write.proofs.Gathering.{header-then}
-use Rattle.write.proofs.Bounds.{total-append, clauses-short, unit-one, ready, header-short, standing-count, standing-total}
+use Rattle.write.proofs.Bounds.{clauses-short, unit-one, ready, header-short, standing-count, standing-total}
 use Rattle.write.proofs.Text.{formula-below, written-marked, written-unmarked}
 use Rattle.roundtrip.proofs.Written.{written-in}
 use Rattle.equivalence.specs.Returns.{longest}

@@ -6,3 +6,4 @@ pub mod Texts
 pub mod Refusing
 pub mod Lengths
 pub mod Answers
+pub mod Started

@@ -20,3 +20,10 @@ pub record Equivalent (input text : List ℕ) : Type 0 where
   pub spelt : text ≡ textOf variables clauses
   pub ranged : InClauses variables clauses
   pub same : (τ : Assignment) → Satisfies τ (textClauses input) ↔ Satisfies τ clauses
+
+-- a text that a load accepts with v variables, whose clauses the same assignments satisfy as cs
+pub record TextFor (v : ℕ) (cs : List (List ℤ)) (text : List ℕ) : Type 0 where
+  pub number : ℕ
+  pub body : ℕ
+  pub accepted : judgeText text ≡ Fits v number body
+  pub same : (τ : Assignment) → Satisfies τ (textClauses text) ↔ Satisfies τ cs

@@ -23,7 +23,7 @@ use Rattle.dimacs.specs.Header.{header, headerRest}
 use Rattle.dimacs.specs.Text.{judge, judgeText, clausesOf}
 use Rattle.dimacs.specs.declared.Verdict.{Verdict}
 use Rattle.dimacs.specs.declared.Verdict.the-variants.{Refused as No, Fits}
-use Rattle.load.specs.Load.{loadCall, laid, clauseRecords, literalPlaces, variableRecords}
+use Rattle.load.specs.Load.{loadFormula, loadCall, laid, clauseRecords, literalPlaces, variableRecords}
 
 -- ---- what a load starts from: tables that hold 7 everywhere, with one place more than stated, and a state with an open pass, fresh stamps and a programme of its own
 abbrev lent : ℕ → Tables
@@ -216,7 +216,7 @@ by-answer b e t st h = go (judgeText (b .text)) refl
         let a : refusalNumber r ∷ refusalPlace r ∷ [] ≡ b .number ∷ b .place ∷ [] = rw q at e in
         let n : refusalNumber r ≡ b .number = cc in
         let p : refusalPlace r ≡ b .place = cc in
-        rw (h, loadCall, q, n, p)
+        rw (h, loadFormula, loadCall, q, n, p)
     go (Fits v n body) q =
         let a : [] ≡ b .number ∷ b .place ∷ [] = rw q at e in
         absurd (let z : _≡_ {A = ℕ} 0 1 = cc in omega arith)

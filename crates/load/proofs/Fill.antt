@@ -8,23 +8,22 @@ use native.Mathlib.Numerals.{add-one}
 use lib.ListN.{length, take, drop, set, replicate, length-set, length-append, take-append-drop, replicate-append-replicate}
 use lib.Seq.{take-suc-set, drop-set-lt, length-take-le, sets, sets-eq, take-at}
 use lib.IntN.{ℤ, pos}
-use Rattle.base.specs.Decide.{Decides, agrees}
+use Rattle.base.specs.Decide.{Decides, says-yes, agrees}
 use Rattle.state.specs.States.{loadedState}
 use Rattle.state.specs.declared.State.{State}
-use Rattle.state.specs.declared.Refusal.{Refusal}
 use Rattle.state.specs.declared.Refusal.the-variants.{Shape}
 use Rattle.state.specs.declared.Answer.the-variants.{Loaded}
 use Rattle.tables.specs.Tables.{Tables, tables}
 use Rattle.tables.specs.Long.{Long, long?, longOk}
 use Rattle.tables.specs.Calls.{answered, refuse}
-use Rattle.literal.specs.Ranged.{InClause, InClauses}
-use Rattle.dimacs.specs.Text.{judgeText, bodyOf, textClauses}
-use Rattle.dimacs.specs.Numbers.{clausesIn, clausesKept}
+use Rattle.literal.proofs.Ranged.{in-all}
+use Rattle.dimacs.specs.Numbers.{clausesKept, Judged}
 use Rattle.dimacs.specs.declared.Verdict.{Verdict}
 use Rattle.dimacs.specs.declared.Verdict.the-variants.{Refused, Fits}
-use Rattle.dimacs.proofs.Accepted.{text-within}
-use Rattle.load.specs.Load.{accept, loadBy, loadCall, laid, filled, clauseRecords, literalPlaces, variableRecords}
-use Rattle.load.specs.Laid.{cleared, Layable, LaidBy}
+use Rattle.dimacs.proofs.Accepted.{Within, text-within}
+use Rattle.join.proofs.Within.{join-within}
+use Rattle.load.specs.Load.{accept, loadBy, loadFormula, laid, filled, clauseRecords, literalPlaces, variableRecords}
+use Rattle.load.specs.Laid.{cleared, Layable, LayableBy, eitherVerdict, eitherClauses, LaidBy}
 use Rattle.load.specs.declared.Progress.{Progress}
 
 -- ---- zeros from k up to i, on the way to `end`, in a table of any numbers
@@ -129,48 +128,50 @@ module _ {cs : List (List ℤ)} {c₀ : List ℕ} {l₀ : List ℤ} {c : List �
       let pl = el ∙ cleared-filled (pos 0) l₀ l (literalPlaces cs) (p .start) 16384 (h .places) (omega (arith, h .within .1, h .sizes .1)) (h .beyond .1) in
       λ i. answered Loaded (loadedState v n (h .marks i)) (tables (pc i) (pl i) (ew i) times links)
 
--- a smaller number of variables
-in-clause : (v : ℕ) (c : List ℤ) → v ≤ 1024 → InClause v c → InClause 1024 c
-unfolding InClause
-in-clause v [] h i = tt
-in-clause v (x ∷ c) h i = (i .0, (omega (arith, i .1 .0), in-clause v c h (i .1 .1)))
+-- ---- a formula of the clauses cs by its verdict r, and the numbers that were kept of it
+module _ {verdict : Verdict} {cs : List (List ℤ)} {r : Verdict} {ns : List ℤ} (J : Judged verdict cs r ns) where
+  -- clauses that are within the limits where they are let in can be laid
+  pub judged-layable : ((v n body : ℕ) → verdict ≡ Fits v n body → (v ≤ 1024) × ((n ≤ 4096) × Within v n 16384 cs)) → (c l : ℕ) → 12288 ≤ c → 16384 ≤ l → LayableBy r ns c l
+  judged-layable within c l hc hl = record { fits = fits }
+    where
+      fits : (v n body : ℕ) → r ≡ Fits v n body → (v ≤ 1024) × Layable n ns c l
+      fits v n body e =
+          let W = within v n body (sym (J .is) ∙ e) in
+          let k = J .kept v n body e in
+          (W .0, record { number = W .1 .0; each = rw k (in-all v 1024 cs (W .0) (W .1 .1 .each)); size = rw k (W .1 .1 .size); clauseRoom = hc; literalRoom = hl })
 
-in-clauses : (v : ℕ) (cs : List (List ℤ)) → v ≤ 1024 → InClauses v cs → InClauses 1024 cs
-unfolding InClauses
-in-clauses v [] h i = tt
-in-clauses v (c ∷ cs) h i = (in-clause v c h (i .0), in-clauses v cs h (i .1))
+  pub judged-loads : (t : Tables) (st : State) → loadBy r (clausesKept r ns) t st ≡ loadBy verdict cs t st
+  judged-loads t st = by r refl
+    where
+      by : (x : Verdict) → r ≡ x → loadBy x (clausesKept x ns) t st ≡ loadBy verdict cs t st
+      by (Refused q) e = ap (λ (y : Verdict). loadBy y cs t st) (sym e ∙ J .is)
+      by (Fits v n body) e = ap (λ (ds : List (List ℤ)). accept v n ds t) (J .kept v n body e) ∙ ap (λ (y : Verdict). loadBy y cs t st) (sym e ∙ J .is)
 
--- ---- a text by its verdict r, and the numbers that were kept of it
-module _ (text : List ℕ) (ns : List ℤ) {r : Verdict} (judged : (r ≡ judgeText text) × (clausesKept r ns ≡ bodyOf text r)) where
-  module _ {v n body : ℕ} (e : r ≡ Fits v n body) where
-    kept-is : clausesIn n ns ≡ textClauses text
-    kept-is = ap (λ (x : Verdict). clausesKept x ns) (sym e) ∙ judged .1 ∙ ap (bodyOf text) (judged .0)
+-- the tables by the verdict that was given
+pub by-verdict : {verdict given : Verdict} → verdict ≡ given → (ns : List ℤ) (t : Tables) (st : State) → loadBy given (clausesKept given ns) t st ≡ loadBy verdict (clausesKept verdict ns) t st
+by-verdict e ns t st = ap (λ (x : Verdict). loadBy x (clausesKept x ns) t st) (sym e)
 
-    -- the clauses of a text that fits can be laid
-    pub text-layable : (c l : ℕ) → 12288 ≤ c → 16384 ≤ l → (v ≤ 1024) × Layable n ns c l
-    text-layable c l hc hl =
-        let W = text-within text v n body (sym (judged .0) ∙ e) in
-        (W .0, record { number = W .1 .0; each = rw kept-is (in-clauses v (textClauses text) (W .0) (W .1 .1 .each)); size = rw kept-is (W .1 .1 .size); clauseRoom = hc; literalRoom = hl })
-
-    pub text-accepted : (t : Tables) (st : State) → accept v n (clausesIn n ns) t ≡ loadBy (judgeText text) (textClauses text) t st
-    text-accepted t st = ap (λ (cs : List (List ℤ)). accept v n cs t) kept-is ∙ ap (λ (x : Verdict). loadBy x (textClauses text) t st) (sym e ∙ judged .0)
-
-  pub text-refused : {q : Refusal} → r ≡ Refused q → (t : Tables) (st : State) → refuse q st t ≡ loadBy (judgeText text) (textClauses text) t st
-  text-refused e t st = ap (λ (x : Verdict). loadBy x (textClauses text) t st) (sym e ∙ judged .0)
+-- a left text alone, or a join
+pub either-within : (joined : Bool) (left right links : List ℕ) (v n body : ℕ) → eitherVerdict joined left right links ≡ Fits v n body → (v ≤ 1024) × ((n ≤ 4096) × Within v n 16384 (eitherClauses joined left right links))
+either-within true left right links = join-within left right links
+either-within false left right links = text-within left
 
 pub long-agrees : (t : Tables) {b : Bool} → Decides b (Long t) → b ≡ longOk t
 unfolding longOk
 long-agrees t h = agrees h (long? t)
 
--- a load by the test of the tables' lengths
-pub load-short : (text : List ℕ) (t : Tables) (st : State) {b : Bool} → Decides b (Long t) → b ≡ false → refuse Shape st t ≡ loadCall text t st
-unfolding loadCall
-load-short text t st h e = rw (sym (long-agrees t h) ∙ e, loadCall)
+-- by the test of the tables' lengths
+module _ (verdict : Verdict) (cs : List (List ℤ)) (t : Tables) (st : State) {b : Bool} (tested : Decides b (Long t)) where
+  pub formula-short : b ≡ false → refuse Shape st t ≡ loadFormula verdict cs t st
+  formula-short e = rw (sym (long-agrees t tested) ∙ e, loadFormula)
 
-pub load-long : (text : List ℕ) (t : Tables) (st : State) {b : Bool} → Decides b (Long t) → b ≡ true → loadBy (judgeText text) (textClauses text) t st ≡ loadCall text t st
-unfolding loadCall
-load-long text t st h e = rw (sym (long-agrees t h) ∙ e, loadCall)
+  pub formula-long : b ≡ true → loadBy verdict cs t st ≡ loadFormula verdict cs t st
+  formula-long e = rw (sym (long-agrees t tested) ∙ e, loadFormula)
 
--- what a load of a text asks of the tables
+-- on tables that are long enough
+pub formula-lent : (verdict : Verdict) (cs : List (List ℤ)) (t : Tables) (st : State) → Long t → loadFormula verdict cs t st ≡ loadBy verdict cs t st
+formula-lent verdict cs t st L = sym (formula-long verdict cs t st (says-yes L) refl)
+
+-- what laying asks of the tables
 pub long-rooms : (t : Tables) {b : Bool} → Decides b (Long t) → b ≡ true → (12288 ≤ length (t .clauses)) × ((16384 ≤ length (t .literals)) × (2048 ≤ length (t .variables)))
 long-rooms t h e = let L : Long t = h .holds e in (L .clauses, (L .literals, L .variables))

@@ -9,6 +9,10 @@ use lib.IntN.{ℤ}
 use Rattle.literal.specs.Clauses.{distinct, tautology}
 use Rattle.literal.specs.Ranged.{InClause, InClauses, total}
 use Rattle.dimacs.specs.Numbers.{firstClause, clausesIn}
+use Rattle.dimacs.specs.Text.{judgeText, textClauses}
+use Rattle.dimacs.specs.declared.Verdict.{Verdict}
+use Rattle.dimacs.specs.declared.Verdict.the-variants.{Fits}
+use Rattle.join.specs.Join.{judgeJoin, joinClauses}
 use Rattle.load.specs.Load.{clauseRecords, literalPlaces, anyEmpty}
 use Rattle.load.specs.declared.Written.{Written}
 use Rattle.load.specs.declared.Progress.{Progress}
@@ -58,6 +62,17 @@ pub record Layable (n : ℕ) (numbers : List ℤ) (clauses literals : ℕ) : Typ
   pub size : total (clausesIn n numbers) ≤ 16384
   pub clauseRoom : 12288 ≤ clauses
   pub literalRoom : 16384 ≤ literals
+
+-- the verdict and the clauses of a left text alone, or of a join
+abbrev pub eitherVerdict : Bool → List ℕ → List ℕ → List ℕ → Verdict
+eitherVerdict joined left right links = elim joined [ true ↦ judgeJoin left right links | false ↦ judgeText left ]
+
+abbrev pub eitherClauses : Bool → List ℕ → List ℕ → List ℕ → List (List ℤ)
+eitherClauses joined left right links = elim joined [ true ↦ joinClauses left right links | false ↦ textClauses left ]
+
+-- the clauses of a formula that this verdict lets in
+pub record LayableBy (verdict : Verdict) (numbers : List ℤ) (clauses literals : ℕ) : Type 0 where
+  pub fits : (v n body : ℕ) → verdict ≡ Fits v n body → (v ≤ 1024) × Layable n numbers clauses literals
 
 -- the clauses cs are laid at the front of the tables; what lies beyond the stated sizes stays
 pub record LaidBy (cs : List (List ℤ)) (c₀ : List ℕ) (l₀ : List ℤ) (c : List ℕ) (l : List ℤ) (p : Progress) : Type 0 where

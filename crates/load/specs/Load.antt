@@ -17,9 +17,10 @@ use Rattle.tables.specs.Long.{longOk}
 use Rattle.tables.specs.Calls.{After, answered, refuse}
 use Rattle.window.specs.Window.{Places, emptied, AfterWindow, afterWindow, refuseWith}
 use Rattle.window.specs.Rule.{longWindowOk}
-use Rattle.dimacs.specs.Text.{judgeText, bodyOf}
+use Rattle.dimacs.specs.Text.{judgeText, textClauses}
 use Rattle.dimacs.specs.declared.Verdict.{Verdict}
 use Rattle.dimacs.specs.declared.Verdict.the-variants.{Refused, Fits}
+use Rattle.join.specs.Join.{judgeJoin, joinClauses}
 
 -- what is kept of a clause
 abbrev pub keptOf : List ℤ → List ℤ
@@ -62,9 +63,17 @@ abbrev pub loadBy : Verdict → List (List ℤ) → Tables → State → After
 loadBy (Refused r) cs t st = refuse r st t
 loadBy (Fits v n _) cs t st = accept v n cs t
 
--- the call on the tables: a table that is shorter than stated gets 1; else the text is judged, and its clauses are laid
+-- a formula of the clauses cs by its verdict: a table that is shorter than stated gets 1 before that
+abbrev pub loadFormula : Verdict → List (List ℤ) → Tables → State → After
+loadFormula verdict cs t st = elim (longOk t) [ true ↦ loadBy verdict cs t st | false ↦ refuse Shape st t ]
+
+-- the call on the tables: the text is judged, and its clauses are laid
 unfoldable pub loadCall : List ℕ → Tables → State → After
-loadCall text t st = elim (longOk t) [ true ↦ loadBy (judgeText text) (bodyOf text (judgeText text)) t st | false ↦ refuse Shape st t ]
+loadCall text t st = loadFormula (judgeText text) (textClauses text) t st
+
+-- a join counts as a load in all but its verdict and its clauses. Document 02, CR 11: "in all else too the call counts as one"
+unfoldable pub joinCall : List ℕ → List ℕ → List ℕ → Tables → State → After
+joinCall left right links t st = loadFormula (judgeJoin left right links) (joinClauses left right links) t st
 
 -- ---- the call, with the window. Document 02, CR 1: "a load empties the window"; "a window handed in with another .. gets 1, save from a load", which tests its lengths alone
 
@@ -73,6 +82,16 @@ abbrev pub emptiedBy : ℕ → Places → Places
 emptiedBy zero w = emptied w
 emptiedBy (suc _) w = w
 
+-- a call on the tables, with a window that is long enough
+abbrev pub emptying : After → Places → AfterWindow
+emptying made w = afterWindow made (emptiedBy (made .reply .number) w)
+
+-- a load or a join, by what it comes to on the tables t in the state st
+abbrev pub withWindow : After → Tables → State → Places → AfterWindow
+withWindow made t st w = elim (longWindowOk w) [ true ↦ emptying made w | false ↦ refuseWith Shape t st w ]
+
 unfoldable pub loadWith : List ℕ → Tables → State → Places → AfterWindow
-loadWith text t st w =
-    elim (longWindowOk w) [ true ↦ afterWindow (loadCall text t st) (emptiedBy (loadCall text t st .reply .number) w) | false ↦ refuseWith Shape t st w ]
+loadWith text t st w = withWindow (loadCall text t st) t st w
+
+unfoldable pub joinWith : List ℕ → List ℕ → List ℕ → Tables → State → Places → AfterWindow
+joinWith left right links t st w = withWindow (joinCall left right links t st) t st w

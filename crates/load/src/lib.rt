@@ -1,6 +1,6 @@
-// A load: the text is judged as a whole, each token being read once and kept as a number, and only then are its clauses laid in the
-// tables, so that a refused load changes nothing. A clause is collected as it is written, and then its repeats are removed. The time is
-// linear in the text.
+// A load, of a text or of two that are joined: the formula is judged as a whole, each token being read once and kept as a number, and only
+// then are its clauses laid in the tables, so that a refused load changes nothing. A clause is collected as it is written, and then its repeats are removed. The time is
+// linear in the texts.
 ghost use mathlib.Core.Path.{_≡_};
 ghost use mathlib.Core.List.{List};
 ghost use Prim.Native.Nat.{ℕ, _+_, _*_, _≤_};
@@ -10,14 +10,15 @@ ghost use lib.IntN.{ℤ, pos};
 ghost use Rattle.literal.specs.Clauses.{distinct};
 ghost use Rattle.literal.specs.Holding.{holding};
 ghost use Rattle.repeats.specs.Marks.{noMarks};
-ghost use Rattle.dimacs.specs.Text.{judgeText, textClauses};
-ghost use Rattle.dimacs.specs.Numbers.{firstClause, clausesIn};
+ghost use Rattle.dimacs.specs.Numbers.{firstClause, clausesIn, clausesKept, Judged};
 ghost use Rattle.state.specs.declared.State.{State};
+ghost use Rattle.tables.specs.Tables.{Tables};
 ghost use Rattle.tables.specs.Lent.{lent, returned, unlent};
 ghost use Rattle.tables.specs.Calls.{after};
 ghost use Rattle.window.specs.Window.{places, afterWith};
-ghost use Rattle.load.specs.Load.{variableRecords, filled, accept, loadBy, loadCall, loadWith};
-ghost use Rattle.load.specs.Laid.{written, keptSize, flag, putClauseRecord, nextClause, cleared, Collectable, ClauseEnd, Layable, LaidBy};
+ghost use Rattle.window.specs.Rule.{LongWindow};
+ghost use Rattle.load.specs.Load.{variableRecords, filled, accept, loadBy, loadFormula, loadCall, emptying, withWindow, loadWith, joinWith};
+ghost use Rattle.load.specs.Laid.{written, keptSize, flag, putClauseRecord, nextClause, cleared, Collectable, ClauseEnd, Layable, LayableBy, eitherVerdict, eitherClauses, LaidBy};
 use dimacs::Verdict;
 use state::Answer;
 use state::Outcome;
@@ -217,30 +218,70 @@ fn lay(
     }
 }
 
-// A text into tables that are long enough. A text has at most 16,384 literals and 4,096 clause ends, so many numbers are kept.
-fn load_text(
-    text: &[u8],
+// A formula that was judged, by the numbers that were kept of it, into tables that are long enough; or its refusal, which changes nothing.
+fn lay_judged(
+    verdict: Verdict,
+    numbers: &[i32],
     clauses: &mut [u32],
     literals: &mut [i32],
     variables: &mut [i32],
     st: State,
 ) -> Outcome
-    requires { ⌜ (12288 ≤ length (now clauses)) × ((16384 ≤ length (now literals)) × (2048 ≤ length (now variables))) ⌝ }
+    requires { ⌜ LayableBy verdict (now numbers) (length (now clauses)) (length (now literals)) × (2048 ≤ length (now variables)) ⌝ }
     ensures { λ r. ⌜ ((times : List ℕ) (links : List ℤ) → after r (returned clauses literals variables (unlent times) (unlent links))
-        ≡ loadBy (judgeText (now (text .entry))) (textClauses (now (text .entry))) (lent clauses literals variables (unlent times) (unlent links)) st) ⌝ }
+        ≡ loadBy verdict (clausesKept verdict (now (numbers .entry))) (lent clauses literals variables (unlent times) (unlent links)) st) ⌝ }
 {
-    let mut numbers = [0i32; 20480];
-    match dimacs::judge_text(text, &mut numbers) {
+    match verdict {
         Verdict::Refused(r) => Outcome {
             answer: Answer::Refused(r),
             state: st,
         },
-        Verdict::Fits { v, n, body: _ } => lay(&numbers, v, n, clauses, literals, variables, st),
+        Verdict::Fits { v, n, body: _ } => lay(numbers, v, n, clauses, literals, variables, st),
     }
 }
 
-// Loads a text into the tables, or refuses it and changes nothing. The stamp records (`times`, `links`) stay in both cases:
-// here only their lengths are tested.
+// The judgement of the left text alone, or of the join of both, and the clauses of a formula that fits in `numbers`.
+fn judge(left: &[u8], right: &[u8], pairs: &[u32], joined: bool, numbers: &mut [i32]) -> Verdict
+    requires { ⌜ 20480 ≤ length (now numbers) ⌝ }
+    ensures { λ r. ⌜ Judged (eitherVerdict joined (now (left .entry)) (now (right .entry)) (now (pairs .entry))) (eitherClauses joined (now (left .entry)) (now (right .entry)) (now (pairs .entry))) r (now (numbers .exit)) ⌝ }
+{
+    if joined {
+        return join::judge_join(left, right, pairs, numbers);
+    }
+    dimacs::judge_text(left, numbers)
+}
+
+// A load of the left text alone, or of the join of both, or a refusal, which changes nothing. The stamp records (`times`, `links`) stay in
+// both cases: here only their lengths are tested. The calls go through this one function: it is large and has two callers, so that the
+// compiler keeps it apart, and its array is not on the stack beneath a run behind a load.
+fn load_formula(
+    left: &[u8],
+    right: &[u8],
+    pairs: &[u32],
+    joined: bool,
+    clauses: &mut [u32],
+    literals: &mut [i32],
+    variables: &mut [i32],
+    times: &[u32],
+    links: &[i32],
+    st: State,
+) -> Outcome
+    ensures { λ r. ⌜ after r (returned clauses literals variables times links)
+        ≡ loadFormula (eitherVerdict joined (now (left .entry)) (now (right .entry)) (now (pairs .entry))) (eitherClauses joined (now (left .entry)) (now (right .entry)) (now (pairs .entry))) (lent clauses literals variables times links) st ⌝ }
+{
+    if !tables::long_ok(clauses, literals, variables, times, links) {
+        return Outcome {
+            answer: Answer::Refused(Refusal::Shape),
+            state: st,
+        };
+    }
+    // a formula that fits has at most 16,384 literals and 4,096 clause ends
+    let mut numbers = [0i32; 20480];
+    let verdict = judge(left, right, pairs, joined, &mut numbers);
+    lay_judged(verdict, &numbers, clauses, literals, variables, st)
+}
+
+// Loads a text into the tables: the call `load` without the window.
 pub fn load_tables(
     text: &[u8],
     clauses: &mut [u32],
@@ -253,16 +294,82 @@ pub fn load_tables(
     ensures { λ r. ⌜ after r (returned clauses literals variables times links)
         ≡ loadCall (now (text .entry)) (lent clauses literals variables times links) st ⌝ }
 {
-    if !tables::long_ok(clauses, literals, variables, times, links) {
-        return Outcome {
-            answer: Answer::Refused(Refusal::Shape),
-            state: st,
-        };
-    }
-    load_text(text, clauses, literals, variables, st)
+    load_formula(
+        text,
+        &[],
+        &[],
+        false,
+        clauses,
+        literals,
+        variables,
+        times,
+        links,
+        st,
+    )
 }
 
-// The exported call: the text into the tables, and a window that is long enough emptied, whatever it holds; or neither.
+// What a call on the tables that was accepted does to a window that is long enough: it empties it, whatever it holds.
+fn empty_window(outcome: Outcome, sizes: &mut [u32], learnt: &mut [i32], window: Window) -> Windowed
+    requires { ⌜ LongWindow (places (now sizes) (now learnt) window) ⌝ }
+    ensures { λ r. ⌜ ((t : Tables) → afterWith r t (now (sizes .exit)) (now (learnt .exit)) ≡ emptying (after outcome t) (places (now (sizes .entry)) (now (learnt .entry)) window)) ⌝ }
+{
+    let answer = outcome.answer;
+    if answer.number() > 0 {
+        return Windowed { outcome, window };
+    }
+    clear_words(sizes, 0, 64);
+    clear_literals(learnt, 0, 4096);
+    Windowed {
+        outcome,
+        window: Window::empty(),
+    }
+}
+
+// The formula into the tables, and a window that is long enough emptied, whatever it holds; or neither.
+fn load_with(
+    left: &[u8],
+    right: &[u8],
+    pairs: &[u32],
+    joined: bool,
+    clauses: &mut [u32],
+    literals: &mut [i32],
+    variables: &mut [i32],
+    times: &[u32],
+    links: &[i32],
+    st: State,
+    sizes: &mut [u32],
+    learnt: &mut [i32],
+    window: Window,
+) -> Windowed
+    ensures { λ r. ⌜ afterWith r (returned clauses literals variables times links) (now (sizes .exit)) (now (learnt .exit))
+        ≡ withWindow (loadFormula (eitherVerdict joined (now (left .entry)) (now (right .entry)) (now (pairs .entry))) (eitherClauses joined (now (left .entry)) (now (right .entry)) (now (pairs .entry))) (lent clauses literals variables times links) st)
+        (lent clauses literals variables times links) st (places (now (sizes .entry)) (now (learnt .entry)) window) ⌝ }
+{
+    if !window::long_ok(sizes, learnt) {
+        return Windowed {
+            outcome: Outcome {
+                answer: Answer::Refused(Refusal::Shape),
+                state: st,
+            },
+            window,
+        };
+    }
+    let outcome = load_formula(
+        left,
+        right,
+        pairs,
+        joined,
+        clauses,
+        literals,
+        variables,
+        times,
+        links,
+        st,
+    );
+    empty_window(outcome, sizes, learnt, window)
+}
+
+// The exported call: a text is loaded.
 pub fn load(
     text: &[u8],
     clauses: &mut [u32],
@@ -278,24 +385,54 @@ pub fn load(
     ensures { λ r. ⌜ afterWith r (returned clauses literals variables times links) (now (sizes .exit)) (now (learnt .exit))
         ≡ loadWith (now (text .entry)) (lent clauses literals variables times links) st (places (now (sizes .entry)) (now (learnt .entry)) window) ⌝ }
 {
-    if !window::long_ok(sizes, learnt) {
-        return Windowed {
-            outcome: Outcome {
-                answer: Answer::Refused(Refusal::Shape),
-                state: st,
-            },
-            window,
-        };
-    }
-    let outcome = load_tables(text, clauses, literals, variables, times, links, st);
-    let answer = outcome.answer;
-    if answer.number() > 0 {
-        return Windowed { outcome, window };
-    }
-    clear_words(sizes, 0, 64);
-    clear_literals(learnt, 0, 4096);
-    Windowed {
-        outcome,
-        window: Window::empty(),
-    }
+    load_with(
+        text,
+        &[],
+        &[],
+        false,
+        clauses,
+        literals,
+        variables,
+        times,
+        links,
+        st,
+        sizes,
+        learnt,
+        window,
+    )
+}
+
+// The exported call: two texts are joined by the links in `pairs`, two numbers for each, a left variable and a right one.
+pub fn join(
+    left: &[u8],
+    right: &[u8],
+    pairs: &[u32],
+    clauses: &mut [u32],
+    literals: &mut [i32],
+    variables: &mut [i32],
+    times: &[u32],
+    links: &[i32],
+    st: State,
+    sizes: &mut [u32],
+    learnt: &mut [i32],
+    window: Window,
+) -> Windowed
+    ensures { λ r. ⌜ afterWith r (returned clauses literals variables times links) (now (sizes .exit)) (now (learnt .exit))
+        ≡ joinWith (now (left .entry)) (now (right .entry)) (now (pairs .entry)) (lent clauses literals variables times links) st (places (now (sizes .entry)) (now (learnt .entry)) window) ⌝ }
+{
+    load_with(
+        left,
+        right,
+        pairs,
+        true,
+        clauses,
+        literals,
+        variables,
+        times,
+        links,
+        st,
+        sizes,
+        learnt,
+        window,
+    )
 }

@@ -8,19 +8,19 @@ use mathlib.Core.Bool.{Bool, true, false}
 use mathlib.Core.Logic.{_↔_}
 use mathlib.Core.List.{List, [], _∷_}
 use lib.IntN.{ℤ}
+use Rattle.base.specs.Decide.{says-yes}
 use Rattle.literal.specs.Assignments.{Assignment, Satisfies}
 use Rattle.state.specs.declared.State.{State}
 use Rattle.tables.specs.Tables.{Tables, tables}
-use Rattle.tables.specs.Long.{Long}
 use Rattle.tables.specs.Stands.{Stands}
 use Rattle.tables.specs.Calls.{After}
 use Rattle.window.specs.Window.{Places, clausesOf, AfterWindow, afterWindow}
-use Rattle.window.specs.Rule.{LongWindow, longWindowOk, long-exact}
+use Rattle.window.specs.Rule.{LongWindow}
 use Rattle.window.proofs.Kept.{emptied-clauses}
-use Rattle.dimacs.specs.Text.{judgeText, textClauses}
-use Rattle.dimacs.specs.declared.Verdict.the-variants.{Fits}
-use Rattle.load.specs.Load.{loadCall, emptiedBy, loadWith}
-use Rattle.roundtrip.proofs.Reread.{text-loads}
+use Rattle.load.specs.Load.{loadCall, joinCall, emptiedBy, emptying, loadWith, joinWith}
+use Rattle.load.proofs.Emptying.{window-long}
+use Rattle.call_lists.specs.Starts.{Start, load, join, startOn, startWith, Started, formula, begun}
+use Rattle.refinement.proofs.Starting.{started-laid}
 use Rattle.learn.specs.Learn.{learnCall}
 use Rattle.call_lists.specs.Lists.{Lent, lend, giveBack, Step, stepsOn}
 use Rattle.refinement.proofs.Held.{Held}
@@ -57,26 +57,23 @@ learns-apart (learn C lent sizes learnt ∷ xs) g =
     subst₂ (λ (t : Tables) (st : State). Alike (stepsOn (callsOf xs) t st .tables) (stepsOn (callsOf xs) t st .state) (actsOn xs (actOn (learn C lent sizes learnt) g))) (same .0) (same .1)
     (learns-apart xs (actOn (learn C lent sizes learnt) g))
 
--- ---- a load with a window that is long enough
+-- ---- a load or a join with a window that is long enough
 
-load-with : (text : List ℕ) (t : Tables) (st : State) (w : Places) → LongWindow w → loadWith text t st w ≡ afterWindow (loadCall text t st) (emptiedBy (loadCall text t st .reply .number) w)
-unfolding loadWith
-load-with text t st w L = by (longWindowOk w) refl
-  where
-    by : (b : Bool) → longWindowOk w ≡ b → loadWith text t st w ≡ afterWindow (loadCall text t st) (emptiedBy (loadCall text t st .reply .number) w)
-    by true e = rw (e, loadWith)
-    by false e = absurd (long-exact w .fails e L)
+start-with : (s : Start) (t : Tables) (st : State) (w : Places) → LongWindow w → startWith s t st w ≡ emptying (startOn s t st) w
+unfolding loadWith joinWith
+start-with (load text) t st w L = sym (window-long (loadCall text t st) t st w (says-yes L) refl refl)
+start-with (join left right links) t st w L = sym (window-long (joinCall left right links t st) t st w (says-yes L) refl refl)
 
 -- ---- the theorem
 
-module _ (text : List ℕ) (v n body : ℕ) (accepted : judgeText text ≡ Fits v n body) (t : Tables) (L : Long t) (st : State) (w : Places) (LW : LongWindow w) where
+module _ (b : Started) (w : Places) (LW : LongWindow w) where
   abbrev loaded : AfterWindow
-  loaded = loadWith text t st w
+  loaded = startWith (b .start) (b .tables) (b .state) w
 
   pub window-empty : clausesOf (loaded .window) ≡ []
   window-empty =
-      ap (λ (a : AfterWindow). clausesOf (a .window)) (load-with text t st w LW)
-      ∙ ap (λ (a : After). clausesOf (emptiedBy (a .reply .number) w)) (text-loads text v n body accepted t L st)
+      ap (λ (a : AfterWindow). clausesOf (a .window)) (start-with (b .start) (b .tables) (b .state) w LW)
+      ∙ ap (λ (a : After). clausesOf (emptiedBy (a .reply .number) w)) (started-laid b .is)
       ∙ emptied-clauses w
 
   module _ (xs : List Act) where
@@ -84,16 +81,16 @@ module _ (text : List ℕ) (v n body : ℕ) (accepted : judgeText text ≡ Fits 
     g = actsOn xs (stage (loaded .made .tables) (loaded .made .state) (loaded .window))
 
     -- its tables and state are what the list without its learnt clauses leaves
-    g-alike : Alike (stepsOn (callsOf xs) (loadCall text t st .tables) (loadCall text t st .state) .tables) (stepsOn (callsOf xs) (loadCall text t st .tables) (loadCall text t st .state) .state) g
+    g-alike : Alike (stepsOn (callsOf xs) (begun b .tables) (begun b .state) .tables) (stepsOn (callsOf xs) (begun b .tables) (begun b .state) .state) g
     g-alike =
-        subst (λ (a : After). Alike (stepsOn (callsOf xs) (a .tables) (a .state) .tables) (stepsOn (callsOf xs) (a .tables) (a .state) .state) g) (ap (λ (a : AfterWindow). a .made) (load-with text t st w LW))
+        subst (λ (a : After). Alike (stepsOn (callsOf xs) (a .tables) (a .state) .tables) (stepsOn (callsOf xs) (a .tables) (a .state) .state) g) (ap (λ (a : AfterWindow). a .made) (start-with (b .start) (b .tables) (b .state) w LW))
         (learns-apart xs (stage (loaded .made .tables) (loaded .made .state) (loaded .window)))
 
-    pub acts-held : Held (loadedClauses (textClauses text)) (g .tables) (g .state)
-    acts-held = subst₂ (Held (loadedClauses (textClauses text))) (sym (g-alike .0)) (sym (g-alike .1)) (calls.held text v n body accepted t L st (callsOf xs))
+    pub acts-held : Held (loadedClauses (formula b)) (g .tables) (g .state)
+    acts-held = subst₂ (Held (loadedClauses (formula b))) (sym (g-alike .0)) (sym (g-alike .1)) (calls.held b (callsOf xs))
 
-    pub demand-3-learns : (τ : Assignment) → Stands (g .tables) (g .state) τ ↔ Satisfies τ (textClauses text)
-    demand-3-learns τ = subst₂ (λ (u : Tables) (s : State). Stands u s τ ↔ Satisfies τ (textClauses text)) (sym (g-alike .0)) (sym (g-alike .1)) (calls.demand-3 text v n body accepted t L st (callsOf xs) τ)
+    pub demand-3-learns : (τ : Assignment) → Stands (g .tables) (g .state) τ ↔ Satisfies τ (formula b)
+    demand-3-learns τ = subst₂ (λ (u : Tables) (s : State). Stands u s τ ↔ Satisfies τ (formula b)) (sym (g-alike .0)) (sym (g-alike .1)) (calls.demand-3 b (callsOf xs) τ)
 
     pub learnt-right : (C : List ℤ) (lent : Lent) (u : Places) → Right (g .tables) (g .state) C (learnCall C (lend lent (g .tables)) (g .state) u)
     learnt-right C lent u = lent-right (g .tables) (g .state) acts-held lent C u

@@ -45,6 +45,7 @@ use Rattle.call_lists.specs.Lists.{Call, stamp, sweep, Lent, Step, Trail, stepO
 use Rattle.reach.specs.Reach.{Reached, reached?, Shortened, PairsWhole, AllWhole, ReachKept}
 use Rattle.reach.specs.Following.{Follows, Following}
 use Rattle.reach.proofs.Graph.{reached-exact}
+use Rattle.call_lists.specs.Starts.{load}
 use Rattle.reach.proofs.Kept.{loaded-reach}
 
 -- ---- an example
@@ -167,7 +168,7 @@ unfolding stepsOn
 still-reached = (stands p3 (now p3) (seen .0 .1) 2, kept .same whole₃ (pos 1) (pos 3) .0 was-reached, λ p q. kept .same whole₃ p q .1)
   where
     kept : ReachKept (then p3 .tables) (then p3 .state) (now p3 .tables) (now p3 .state)
-    kept = loaded-reach (bytes (p3 .text)) emptyTables emptyState [] (p3 .order) stated (ap (λ (x : Seen). getD (x .refusals) 0 1) (seen .0 .0)) (whole (sweep 3) ∷ []) (one-sweep 3)
+    kept = loaded-reach (load (bytes (p3 .text))) emptyTables emptyState [] (p3 .order) stated (ap (λ (x : Seen). getD (x .refusals) 0 1) (seen .0 .0)) (whole (sweep 3) ∷ []) (one-sweep 3)
 
     was-reached : ReachedIn p3 (then p3)
     was-reached = exact p3 (then p3) (seen .0 .0) refl (record { above = omega arith; within = omega arith }) (record { above = omega arith; within = omega arith }) .0 refl

@@ -9,7 +9,7 @@ use Rattle.walk.specs.Walk.{Stamps}
 use Rattle.state.specs.declared.State.{State}
 use Rattle.tables.specs.Tables.{Tables}
 use Rattle.tables.specs.Calls.{After}
-use Rattle.load.specs.Load.{loadCall}
+use Rattle.call_lists.specs.Starts.{Start, startOn}
 use Rattle.stamp.specs.Stamp.{stampCall}
 use Rattle.sound.specs.Formula.{Clause}
 use Rattle.sound.specs.Sweep.{visitFirst}
@@ -81,15 +81,15 @@ module _ (order : List ℤ) (lent : Lent) (t : Tables) (st : State) where
       begun : HeldBy (Begun (st .v) σ (G .then)) (stamped .tables) (stamped .state)
       begun = held-same (back-fronts lent t (stampCall order u st .tables) (on-lent .shape .long)) on-lent
 
--- and so behind a load and any list of calls, refused ones included
-pub loaded-reach : (text : List ℕ) (t : Tables) (st : State) (before : List Step) (order : List ℤ) (lent : Lent)
-    → let loaded = loadCall text t st in
+-- and so behind a load or a join and any list of calls, refused ones included
+pub loaded-reach : (s : Start) (t : Tables) (st : State) (before : List Step) (order : List ℤ) (lent : Lent)
+    → let loaded = startOn s t st in
     let stood = stepsOn before (loaded .tables) (loaded .state) in
     let stamped = stepOn (record { call = stamp order; lent = lent }) (stood .tables) (stood .state) in
     stamped .reply .number ≡ 0 → (ss : List Step) → Following ss
     → let now = stepsOn ss (stamped .tables) (stamped .state) in
     ReachKept (stamped .tables) (stamped .state) (now .tables) (now .state)
-loaded-reach text t st before order lent =
-    let loaded = loadCall text t st in
+loaded-reach s t st before order lent =
+    let loaded = startOn s t st in
     let stood = stepsOn before (loaded .tables) (loaded .state) in
     reach-kept order lent (stood .tables) (stood .state)

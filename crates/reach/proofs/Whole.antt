@@ -6,7 +6,7 @@ use mathlib.Core.Logic.{_⊎_, inl, inr, ⊎-elim}
 use mathlib.Core.List.{List, [], _∷_, map}
 use lib.ListN.{length, getD, length-map}
 use Rattle.base.specs.Decide.{same-or, le-or}
-use Rattle.base.proofs.Lists.{sub-full}
+use Rattle.base.proofs.Lists.{getD-beyond, sub-full}
 use Rattle.literal.specs.Literals.{slotOf}
 use Rattle.walk.specs.Walk.{Stamps}
 use Rattle.state.specs.declared.State.{State}
@@ -23,14 +23,6 @@ use Rattle.refinement.specs.Represented.{clauseOf}
 use Rattle.refinement.proofs.Standing.{clause-stands, stands-clause}
 use Rattle.reach.specs.Reach.{Shortened, PairsWhole, AllWhole}
 use Rattle.reach.proofs.Swept.{first-length}
-
--- ---- lists
-
--- a place that a formula does not have
-getD-beyond : (f : List Clause) (i : ℕ) → length f ≤ i → getD f i dropped ≡ dropped
-getD-beyond [] i h = refl
-getD-beyond (c ∷ f) zero h = absurd (omega (arith, h))
-getD-beyond (c ∷ f) (suc i) h = getD-beyond f i (omega (arith, h))
 
 -- ---- the tables t hold the clauses f, and t′ those of a sweep of f
 
@@ -68,7 +60,7 @@ module _ (σ : Stamps) (count : ℕ) (f : List Clause) {t t′ : Tables} {st st�
 
   -- the clauses of f are those of the records
   inside : (i : ℕ) {C : List ℕ} → getD f i dropped ≡ standing C → i < st .n
-  inside i e = ⊎-elim (λ (h : st .n ≤ i). absurd (not-standing (sym (getD-beyond f i (omega (arith, h, number))) ∙ e))) (λ (h : i < st .n). h) (le-or (st .n) i)
+  inside i e = ⊎-elim (λ (h : st .n ≤ i). absurd (not-standing (sym (getD-beyond f i dropped (omega (arith, h, number))) ∙ e))) (λ (h : i < st .n). h) (le-or (st .n) i)
 
   pub pairs-whole : PairsWhole (st .n) t t′ → slots.PairsWhole f g
   pairs-whole w i a b e =
@@ -80,4 +72,4 @@ module _ (σ : Stamps) (count : ℕ) (f : List Clause) {t t′ : Tables} {st st�
   all-whole w i = ⊎-elim (λ (h : st .n ≤ i). inl (beyond i h)) (λ (lt : i < st .n). unshortened i lt (w i lt)) (le-or (st .n) i)
     where
       beyond : (j : ℕ) → st .n ≤ j → getD g j dropped ≡ getD f j dropped
-      beyond j h = getD-beyond g j (omega (arith, h, number, first-length (sweepVisit σ) count f)) ∙ sym (getD-beyond f j (omega (arith, h, number)))
+      beyond j h = getD-beyond g j dropped (omega (arith, h, number, first-length (sweepVisit σ) count f)) ∙ sym (getD-beyond f j dropped (omega (arith, h, number)))

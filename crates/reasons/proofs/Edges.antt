@@ -19,10 +19,7 @@ use Rattle.tables.specs.Tables.{Tables}
 use Rattle.tables.specs.Long.{Long}
 use Rattle.tables.specs.Calls.{After}
 use Rattle.shape.specs.Shape.{Shape}
-use Rattle.dimacs.specs.Text.{judgeText}
-use Rattle.dimacs.specs.declared.Verdict.the-variants.{Fits}
-use Rattle.load.specs.Load.{loadCall}
-use Rattle.roundtrip.proofs.Reread.{text-loads}
+use Rattle.call_lists.specs.Starts.{Started, begun}
 use Rattle.stamp.specs.Stamp.{stampCall}
 use Rattle.stamp.proofs.Shaped.{fresh-shaped}
 use Rattle.write.specs.Write.{AfterWrite}
@@ -36,7 +33,7 @@ use Rattle.paper.specs.Sweeping.{Filtered, none, stays, goes}
 use Rattle.paper.proofs.Accepted.{accepted}
 use Rattle.paper.proofs.StampAncestors.{stamp-ancestors}
 use Rattle.call_lists.specs.Lists.{Lent, lend, Step, stepOn, Trail, stepsOn}
-use Rattle.refinement.proofs.Loaded.{load-held}
+use Rattle.refinement.proofs.Starting.{started-laid, start-held}
 use Rattle.refinement.proofs.Demand3.{lent-fronts, back-fronts}
 use Rattle.reasons.specs.Reasons.{Earliest, PairReason, DropReason, LiteralReason}
 use Rattle.reasons.specs.Reasons as rule
@@ -154,18 +151,18 @@ module _ {ss : List Step} {t : Tables} {st : State} {now : Tables} {state : Stat
 
 -- ---- the theorem
 
-module _ (text : List ℕ) (v n body : ℕ) (judged : judgeText text ≡ Fits v n body) (t : Tables) (L : Long t) (st : State) (ss : List Step) where
+module _ (b : Started) (ss : List Step) where
   abbrev loaded : After
-  loaded = loadCall text t st
+  loaded = begun b
 
   abbrev now : Trail
   now = stepsOn ss (loaded .tables) (loaded .state)
 
   not-fresh : loaded .state .fresh ≡ false
-  not-fresh = ap (λ (a : After). a .state .fresh) (text-loads text v n body judged t L st)
+  not-fresh = ap (λ (a : After). a .state .fresh) (started-laid b .is)
 
   pub stamps-walked : now .state .fresh ≡ true → LastStamp ss (loaded .tables) (loaded .state) (now .tables) (now .state)
-  stamps-walked fresh = ⊎-elim (λ W. W) (λ K. clash (K .fresh) not-fresh) (last-stamp ss (loaded .tables) (loaded .state) (load-held text v n body judged t L st) fresh)
+  stamps-walked fresh = ⊎-elim (λ W. W) (λ K. clash (K .fresh) not-fresh) (last-stamp ss (loaded .tables) (loaded .state) (start-held b) fresh)
 
   pub chain-edges : (lent : Lent) (number : ℕ) (out : List ℕ) → explainCall number (lend lent (now .tables)) (now .state) out .reply .number ≡ 0
       → (E : ExplainedAs number (lend lent (now .tables)) (now .state) out (explainCall number (lend lent (now .tables)) (now .state) out))

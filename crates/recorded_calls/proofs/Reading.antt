@@ -24,10 +24,12 @@ use Rattle.entry.proofs.Entering.{opens-entered, resumes-entered}
 use Rattle.visits.proofs.Entered.{entered-formed, entered-cursor}
 use Rattle.visits.proofs.Advancing.{advance-cases}
 use Rattle.visits.proofs.Visiting.{SameStamps, stamps-same, Shrinks, visits-beside}
-use Rattle.dimacs.specs.Text.{judgeText, bodyOf}
+use Rattle.dimacs.specs.Text.{judgeText, textClauses}
 use Rattle.dimacs.specs.declared.Verdict.{Verdict}
 use Rattle.dimacs.specs.declared.Verdict.the-variants as verdict
-use Rattle.load.specs.Load.{laid, loadBy, loadCall}
+use Rattle.load.specs.Load.{laid, loadBy, loadCall, joinCall}
+use Rattle.join.specs.Join.{joinClauses, judgeJoin}
+use Rattle.call_lists.specs.Starts.{Start, load, join, startOn}
 use Rattle.propagate.specs.Propagate.{propagateFrom, propagateBy, propagateCall}
 use Rattle.propagate_visits.specs.Visits.{Progress, going, begin, propagateVisits}
 use Rattle.propagate_visits.proofs.Stepping.{Good}
@@ -53,14 +55,16 @@ advance-reads pass a b rule shrinks steps k t st =
     let S = visits-beside rule shrinks (min steps (st .n - k)) k t .stamps in
     advance-cases pass a b rule steps k t st (Reads t) (λ counts lt. S) (λ counts done. S)
 
-pub load-reads : (text : List ℕ) (t : Tables) (st : State) → Reads t (loadCall text t st)
-unfolding loadCall laid
-load-reads text t st = by (longOk t) (judgeText text)
-  where
-    by : (b : Bool) (x : Verdict) → Reads t (elim b as (λ y. After) [ true ↦ loadBy x (bodyOf text x) t st | false ↦ refuse Shape st t ])
-    by true (verdict.Refused r) = stamps-same t
-    by true (verdict.Fits v n body) = record { times = refl; links = refl }
-    by false x = stamps-same t
+by-reads : (b : Bool) (x : Verdict) (cs : List (List ℤ)) (t : Tables) (st : State) → Reads t (elim b as (λ y. After) [ true ↦ loadBy x cs t st | false ↦ refuse Shape st t ])
+unfolding laid
+by-reads true (verdict.Refused r) cs t st = stamps-same t
+by-reads true (verdict.Fits v n body) cs t st = record { times = refl; links = refl }
+by-reads false x cs t st = stamps-same t
+
+pub start-reads : (s : Start) (t : Tables) (st : State) → Reads t (startOn s t st)
+unfolding loadCall joinCall
+start-reads (load text) t st = by-reads (longOk t) (judgeText text) (textClauses text) t st
+start-reads (join left right links) t st = by-reads (longOk t) (judgeJoin left right links) (joinClauses left right links) t st
 
 pub propagate-reads : (steps : ℕ) (t : Tables) (st : State) → Reads t (propagateCall steps t st)
 unfolding propagateCall propagateFrom

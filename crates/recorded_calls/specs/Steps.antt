@@ -1,8 +1,9 @@
 -- Document 01, demand 3, of the calls that lend the stamps as a slice of records: a list of them as data, each with how much of every table its caller lends, and what they leave, as the contracts of crate `calls` say it.
 -- Assumes nothing: these are definitions.
-use Prim.Native.Nat.{ℕ, _≤_}
+use Prim.Native.Nat.{ℕ}
+use mathlib.Core.Path.{_≡_}
 use mathlib.Core.List.{List, [], _∷_, _++_}
-use lib.ListN.{length, take, drop}
+use lib.ListN.{take, drop}
 use lib.IntN.{ℤ}
 use Rattle.state.specs.Answers.{Reply, replyOf}
 use Rattle.state.specs.declared.State.{State}
@@ -11,6 +12,7 @@ use Rattle.stamp_records.specs.declared.StampRecord.{StampRecord}
 use Rattle.tables.specs.Tables.{Tables}
 use Rattle.tables.specs.Calls.{After}
 use Rattle.load.specs.Load.{loadCall}
+use Rattle.call_lists.specs.Starts.{Start, startOn}
 use Rattle.propagate.specs.Propagate.{propagateCall}
 use Rattle.merge.specs.Merge.{mergeCall}
 use Rattle.stamp.specs.Stamp.{stampCall}
@@ -34,13 +36,6 @@ callerTables c l v s = record { clauses = c; literals = l; variables = v; stamps
 -- the tables that the definitions of the calls read in it: of the stamps, the columns of the first 2,048 records
 abbrev pub columned : CallerTables → Tables
 columned h = recorded (h .clauses) (h .literals) (h .variables) (h .stamps)
-
--- no table is shorter than stated
-pub record Enough (h : CallerTables) : Type 0 where
-  pub clauses : 12288 ≤ length (h .clauses)
-  pub literals : 16384 ≤ length (h .literals)
-  pub variables : 2048 ≤ length (h .variables)
-  pub stamps : 2048 ≤ length (h .stamps)
 
 -- what a call leaves: its reply, the state, and what its caller then holds
 pub record AfterCall : Type 0 where
@@ -71,6 +66,20 @@ callOnRecords (programme codes) h st = readingStamps (setCall codes (columned h)
 
 abbrev pub loadOnRecords : List ℕ → CallerTables → State → AfterCall
 loadOnRecords text h st = readingStamps (loadCall text (columned h) st) (h .stamps)
+
+-- a load or a join
+abbrev pub startOnRecords : Start → CallerTables → State → AfterCall
+startOnRecords s h st = readingStamps (startOn s (columned h) st) (h .stamps)
+
+-- one that was accepted, with the tables that were lent to it and the state that it was given
+pub record StartedOnRecords : Type 0 where
+  pub start : Start
+  pub held : CallerTables
+  pub state : State
+  pub accepted : startOnRecords start held state .reply .number ≡ 0
+
+abbrev pub begunOnRecords : StartedOnRecords → AfterCall
+begunOnRecords b = startOnRecords (b .start) (b .held) (b .state)
 
 -- Run writes the lent records and the other tables
 abbrev pub runOnRecords : ℕ → CallerTables → State → AfterCall

@@ -1,4 +1,4 @@
--- DEMAND 3, over the calls as their users see them. After an accepted load and any list of Propagate, Merge, Stamp, Failed and Sweep calls and of calls that set a programme, refused ones included, with any orders, step counts and codes and any parts of the tables lent,
+-- DEMAND 3, over the calls as their users see them. After an accepted load or join and any list of Propagate, Merge, Stamp, Failed and Sweep calls and of calls that set a programme, refused ones included, with any orders, step counts and codes and any parts of the tables lent,
 -- an assignment satisfies what stands exactly if it satisfies the loaded formula (`demand-3`), and every standing clause is the loaded one of its number with literals left out, class literals put in on both sides (`left-out`).
 -- Assumes nothing.
 use Prim.Native.Nat.{ℕ, suc, _+_, _*_, _≤_, _<_}
@@ -33,9 +33,7 @@ use Rattle.entry.specs.declared.Opening.{Opening}
 use Rattle.shape.proofs.Reading.{shaped}
 use Rattle.entry.proofs.Entering.{entry-misshapen, opening-misshapen}
 use Rattle.visits.proofs.Forming.{shape-formed, clause-fits}
-use Rattle.dimacs.specs.Text.{judgeText, textClauses}
-use Rattle.dimacs.specs.declared.Verdict.the-variants.{Fits}
-use Rattle.load.specs.Load.{loadCall}
+use Rattle.literal.specs.Ranged.{InClauses}
 use Rattle.propagate.specs.Propagate.{propagateBy, propagateCall}
 use Rattle.merge.specs.Merge.{mergeBy, mergeCall}
 use Rattle.stamp.specs.Stamp.{stampBy, stampCall}
@@ -43,6 +41,7 @@ use Rattle.failed.specs.Failed.{failedBy, failedCall}
 use Rattle.sweep.specs.Sweep.{sweepBy, sweepCall}
 use Rattle.set_programme.proofs.Setting.{set-misshapen}
 use Rattle.call_lists.specs.Lists.{Call, propagate, merge, stamp, failed, sweep, programme, Lent, lend, giveBack, callOn, Step, stepOn, stepsOn}
+use Rattle.call_lists.specs.Starts.{Started, formula, begun, after}
 use Rattle.sound.specs.Formula.{Clause, dropped, standing}
 use Rattle.moves.specs.Core.{Core}
 use Rattle.moves.specs.Moves.{Freshness}
@@ -59,7 +58,8 @@ use Rattle.refinement.proofs.HeldStamp.{stamp-held}
 use Rattle.refinement.proofs.HeldSweep.{sweep-held}
 use Rattle.refinement.proofs.HeldProgramme.{programme-held}
 use Rattle.refinement.proofs.HeldFailed.{failed-held}
-use Rattle.refinement.proofs.Loaded.{loadedClauses, loaded-at, loaded-below, loaded-length, for-standing, all-member, above, models-satisfies, satisfies-models, load-held, each}
+use Rattle.refinement.proofs.Loaded.{loadedClauses, loaded-at, loaded-below, loaded-length, for-standing, all-member, above, models-satisfies, satisfies-models}
+use Rattle.refinement.proofs.Starting.{started-laid, start-held}
 use Rattle.refinement.proofs.Fronts.{Fronts, held-same}
 
 -- ---- one call
@@ -156,21 +156,25 @@ all-members P (x ∷ C) h = (h x (List·Memᴰ·head refl), all-members P C (λ 
 
 -- ---- the theorem
 
-module _ (text : List ℕ) (v n body : ℕ) (accepted : judgeText text ≡ Fits v n body) (t : Tables) (L : Long t) (st : State) (ss : List Step) where
+module _ (b : Started) (ss : List Step) where
   abbrev t′ : Tables
-  t′ = stepsOn ss (loadCall text t st .tables) (loadCall text t st .state) .tables
+  t′ = after b ss .tables
 
   abbrev st′ : State
-  st′ = stepsOn ss (loadCall text t st .tables) (loadCall text t st .state) .state
+  st′ = after b ss .state
 
-  pub held : Held (loadedClauses (textClauses text)) t′ st′
-  held = steps-held ss (loadCall text t st .tables) (loadCall text t st .state) (load-held text v n body accepted t L st)
+  pub held : Held (loadedClauses (formula b)) t′ st′
+  held = steps-held ss (begun b .tables) (begun b .state) (start-held b)
 
-  pub demand-3 : (τ : Assignment) → Stands t′ st′ τ ↔ Satisfies τ (textClauses text)
+  -- the loaded literals are those of its variables
+  in-range : InClauses (started-laid b .v) (formula b)
+  in-range = started-laid b .within .each
+
+  pub demand-3 : (τ : Assignment) → Stands t′ st′ τ ↔ Satisfies τ (formula b)
   demand-3 τ =
       Iff·trans (tie st′ t′ (held .core) (settledTo (st′ .pass) (st′ .n)) (shape-formed (held .shape)) (held .shape .values) (held .tied) τ)
-      (Iff·trans (kept.demand-3 (loadedClauses (textClauses text)) (held .so .moves) τ)
-      (models-satisfies v τ (textClauses text) (each text v n body accepted t L st), satisfies-models v τ (textClauses text) (each text v n body accepted t L st)))
+      (Iff·trans (kept.demand-3 (loadedClauses (formula b)) (held .so .moves) τ)
+      (models-satisfies (started-laid b .v) τ (formula b) in-range, satisfies-models (started-laid b .v) τ (formula b) in-range))
 
   -- ---- literals left out
 
@@ -183,13 +187,13 @@ module _ (text : List ℕ) (v n body : ℕ) (accepted : judgeText text ≡ Fits 
   through-classes (l ∷ C) A = λ i. class-is (held .tied) (shape-formed (held .shape) .vars) l (A .0) i ∷ through-classes C (A .1) i
 
   pub left-out : (i : ℕ) → i < st′ .n → T.standing (t′ .clauses) i ≡ 1
-      → (tautology (nth (textClauses text) i) ≡ false) × Sublistᴰ (through (literalsOf (t′ .clauses) (t′ .literals) i)) (through (distinct (nth (textClauses text) i)))
+      → (tautology (nth (formula b) i) ≡ false) × Sublistᴰ (through (literalsOf (t′ .clauses) (t′ .literals) i)) (through (distinct (nth (formula b) i)))
   left-out i h stood =
       let D = literalsOf (t′ .clauses) (t′ .literals) i in
-      let r = only-left-out (loadedClauses (textClauses text)) (held .so .moves) .part i (map slotOf D) (held .tied .clauses i h ∙ stands-clause (t′ .clauses) (t′ .literals) i stood) in
-      let lt : i < length (textClauses text) = loaded-below (textClauses text) i (r .1) in
-      let q = for-standing (nth (textClauses text) i) (sym (loaded-at (textClauses text) i lt) ∙ r .1) in
-      (q .0, subst₂ Sublistᴰ (through-classes D ranged) (ap (map (held .core .class)) (sym (q .1)) ∙ through-classes (distinct (nth (textClauses text) i)) (loaded-ranged i lt (r .1) (q .1))) (r .2))
+      let r = only-left-out (loadedClauses (formula b)) (held .so .moves) .part i (map slotOf D) (held .tied .clauses i h ∙ stands-clause (t′ .clauses) (t′ .literals) i stood) in
+      let lt : i < length (formula b) = loaded-below (formula b) i (r .1) in
+      let q = for-standing (nth (formula b) i) (sym (loaded-at (formula b) i lt) ∙ r .1) in
+      (q .0, subst₂ Sublistᴰ (through-classes D ranged) (ap (map (held .core .class)) (sym (q .1)) ∙ through-classes (distinct (nth (formula b) i)) (loaded-ranged i lt (r .1) (q .1))) (r .2))
     where
       ranged : All (Literal (st′ .v)) (literalsOf (t′ .clauses) (t′ .literals) i)
       ranged = all-places (Literal (st′ .v)) (literalsOf (t′ .clauses) (t′ .literals) i) (clause-fits (shape-formed (held .shape)) i h .ranged)
@@ -198,10 +202,10 @@ module _ (text : List ℕ) (v n body : ℕ) (accepted : judgeText text ≡ Fits 
       literal-of : (l : ℤ) → 0 < natAbs l → slotOf l < 2 * st′ .v → Literal (st′ .v) l
       literal-of l a b = record { above = a; within = omega (arith, slot-variable l a, b) }
 
-      loaded-ranged : (j : ℕ) → j < length (textClauses text) → {C : List ℕ} → getD (loadedClauses (textClauses text)) j dropped ≡ standing C → map slotOf (distinct (nth (textClauses text) j)) ≡ C → All (Literal (st′ .v)) (distinct (nth (textClauses text) j))
+      loaded-ranged : (j : ℕ) → j < length (formula b) → {C : List ℕ} → getD (loadedClauses (formula b)) j dropped ≡ standing C → map slotOf (distinct (nth (formula b) j)) ≡ C → All (Literal (st′ .v)) (distinct (nth (formula b) j))
       loaded-ranged j lt {C} e q =
-          let c = nth (textClauses text) j in
-          let real = distinct-all (λ x. 0 < natAbs x) c (above v c (in-nth v (textClauses text) j (each text v n body accepted t L st) lt)) in
+          let c = nth (formula b) j in
+          let real = distinct-all (λ x. 0 < natAbs x) c (above (started-laid b .v) c (in-nth (started-laid b .v) (formula b) j in-range lt)) in
           all-members (Literal (st′ .v)) (distinct c)
           (λ l m. literal-of l (all-member (λ x. 0 < natAbs x) (distinct c) real l m)
-          (held .so .within C (subst (λ (x : Clause). List·Memᴰ x (loadedClauses (textClauses text))) e (getD-mem (loadedClauses (textClauses text)) j dropped (omega (arith, lt, loaded-length (textClauses text))))) (slotOf l) (subst (List·Memᴰ (slotOf l)) q (Memᴰ·map slotOf m))))
+          (held .so .within C (subst (λ (x : Clause). List·Memᴰ x (loadedClauses (formula b))) e (getD-mem (loadedClauses (formula b)) j dropped (omega (arith, lt, loaded-length (formula b))))) (slotOf l) (subst (List·Memᴰ (slotOf l)) q (Memᴰ·map slotOf m))))

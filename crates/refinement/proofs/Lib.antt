@@ -18,6 +18,7 @@ pub mod HeldFailed
 pub mod Laid
 pub mod LaidFormed
 pub mod Loaded
+pub mod Starting
 pub mod Fronts
 pub mod Demand3
 pub mod Made

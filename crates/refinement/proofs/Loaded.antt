@@ -1,4 +1,4 @@
--- An accepted load begins the invariant of a list of calls: what stands after it is the text's clauses without repeats, those with v and -v dropped; and the same assignments satisfy both. Assumes nothing.
+-- What an accepted load or join leaves begins the invariant of a list of calls: what stands is the clauses as written without repeats, those with v and -v dropped; and the same assignments satisfy both. Assumes nothing.
 use Prim.Native.Nat.{ℕ, zero, suc, _+_, _*_, _-_, _≤_, _<_}
 use native.Mathlib.Omega.{arith}
 use mathlib.Core.Path.{_≡_, refl, sym, ap, subst, _∙_}
@@ -16,21 +16,16 @@ use Rattle.literal.specs.Assignments.{Assignment, someTrue, Satisfies}
 use Rattle.literal.proofs.Laws.{slot-lit, slot-below}
 use Rattle.state.specs.States.{loadedState}
 use Rattle.programmes.proofs.Programmes.{constant-passes}
-use Rattle.state.specs.declared.State.{State}
 use Rattle.tables.specs.Tables.{Tables}
 use Rattle.tables.specs.Tables as T
 use Rattle.tables.specs.Long.{Long}
 use Rattle.tables.specs.Values.{ownTruth}
 use Rattle.tables.specs.Clauses.{literalsOf}
-use Rattle.tables.specs.Calls.{After}
 use Rattle.visits.specs.Formed.{Formed}
 use Rattle.visits.proofs.Forming.{formed-shape}
-use Rattle.dimacs.specs.Text.{judgeText, textClauses}
-use Rattle.dimacs.specs.declared.Verdict.the-variants.{Fits}
 use Rattle.literal.specs.Ranged.{InClause, InClauses, total}
-use Rattle.dimacs.proofs.Accepted.{text-within}
-use Rattle.roundtrip.proofs.Reread.{text-loads}
-use Rattle.load.specs.Load.{keptOf, literalPlaces, anyEmpty, laid, loadCall}
+use Rattle.dimacs.proofs.Accepted.{Within}
+use Rattle.load.specs.Load.{keptOf, literalPlaces, anyEmpty, laid, accept}
 use Rattle.merge.proofs.Truth.{some-distinct, tautology-true}
 use Rattle.repeats.proofs.Repeats.{All, distinct-all}
 use Rattle.sound.specs.Formula.{Clause, dropped, standing, Sat, Models}
@@ -222,21 +217,16 @@ empty-at (c ∷ cs) e = by c (eqb (length c) 0) refl e (empty-at cs)
     by (x ∷ d) true q e rest = absurd (omega (arith, eqb-true (suc (length d)) 0 q))
     by d false q e rest = let r = rest e in (suc (r .0), omega (arith, r .1), r .2)
 
-module _ (text : List ℕ) (v n body : ℕ) (accepted : judgeText text ≡ Fits v n body) (t : Tables) (L : Long t) (st : State) where
-  abbrev cs : List (List ℤ)
-  cs = textClauses text
-
-  few : v ≤ 1024
-  few = text-within text v n body accepted .0
-
+-- clauses within the limits, laid in the tables: what an accepted load or join leaves
+module _ (v n : ℕ) (cs : List (List ℤ)) (few : v ≤ 1024) (most : n ≤ 4096) (W : Within v n 16384 cs) (t : Tables) (L : Long t) where
   many : length cs ≤ 4096
-  many = let W = text-within text v n body accepted in omega (arith, W .1 .0, W .1 .1 .count)
+  many = omega (arith, most, W .count)
 
   fits : total cs ≤ 16384
-  fits = text-within text v n body accepted .1 .1 .size
+  fits = W .size
 
-  pub each : InClauses v cs
-  each = text-within text v n body accepted .1 .1 .each
+  each : InClauses v cs
+  each = W .each
 
   laid-held : (b : Bool) → anyEmpty cs ≡ b → Held (loadedClauses cs) (laid v cs t) (loadedState v (length cs) b)
   unfolding laid
@@ -259,5 +249,5 @@ module _ (text : List ℕ) (v n body : ℕ) (accepted : judgeText text ≡ Fits 
     stamps = stale refl;
   }
 
-  pub load-held : Held (loadedClauses cs) (loadCall text t st .tables) (loadCall text t st .state)
-  load-held = subst (λ (a : After). Held (loadedClauses cs) (a .tables) (a .state)) (sym (text-loads text v n body accepted t L st)) (laid-held (anyEmpty cs) refl)
+  pub accept-held : Held (loadedClauses cs) (accept v n cs t .tables) (accept v n cs t .state)
+  accept-held = subst (λ (m : ℕ). Held (loadedClauses cs) (laid v cs t) (loadedState v m (anyEmpty cs))) (W .count) (laid-held (anyEmpty cs) refl)

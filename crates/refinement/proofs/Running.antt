@@ -18,7 +18,6 @@ use Rattle.programmes.specs.Rules.{Rules}
 use Rattle.programmes.specs.Judging.{fitsBy, stampedBy}
 use Rattle.programmes.proofs.Programmes.{Follow, rules-follow}
 use Rattle.tables.specs.Tables.{Tables}
-use Rattle.tables.specs.Long.{Long}
 use Rattle.tables.specs.Stands.{Stands}
 use Rattle.tables.specs.Passes.{firstUnsettled}
 use Rattle.tables.specs.Calls.{After}
@@ -32,10 +31,6 @@ use Rattle.visits.proofs.Advancing.{advance-cases}
 use Rattle.merge.specs.Merge.{mergedClasses, mergeOpen}
 use Rattle.merge_visits.specs.Clause.{mergeClause}
 use Rattle.merge.proofs.Calling.{open-cases}
-use Rattle.dimacs.specs.Text.{judgeText, textClauses}
-use Rattle.dimacs.specs.declared.Verdict.the-variants.{Fits}
-use Rattle.load.specs.Load.{loadCall}
-use Rattle.roundtrip.proofs.Reread.{text-loads}
 use Rattle.failed.specs.Failed.{found, failedFrom, failedFresh, failedUnlessStale, failedBy, failedCall}
 use Rattle.sweep.specs.Sweep.{sweepUnlessStale, sweepBy, sweepCall}
 use Rattle.sweep_visits.specs.Clause.{sweepClause}
@@ -55,7 +50,8 @@ use Rattle.run.proofs.Taken.{Quiet, settle-leaves, stamp-taken}
 use Rattle.run.proofs.Calling.{granted-runs, call-granted}
 use Rattle.call_lists.specs.Lists.{propagate, merge, stamp, failed, sweep, Step, stepsOn}
 use Rattle.refinement.proofs.Made.{Made, left, joined, made-none, made-call, made-then}
-use Rattle.refinement.proofs.Loaded.{load-held}
+use Rattle.call_lists.specs.Starts.{Started, formula, begun}
+use Rattle.refinement.proofs.Starting.{started-laid, start-held}
 use Rattle.refinement.proofs.Demand3 as list
 
 few-clauses : {w : Standing} → Runs w → w .state .n ≤ 65535
@@ -227,30 +223,30 @@ run-calls count t st = by (openingOf t st) refl
     by (Denied r) e = made-none (standingIn t st)
     by Granted e = let R = granted-runs t st e in run-made (codesOf (st .programme)) (rules-follow (codesOf (st .programme)) (R .shape .programme .rules)) count 0 (standingIn t st) R
 
--- so demand 3 holds of it: an accepted load, any list of calls, programmes set among them, and a run
-module _ (text : List ℕ) (v n body : ℕ) (accepted : judgeText text ≡ Fits v n body) (t : Tables) (L : Long t) (st : State) where
+-- so demand 3 holds of it: an accepted load or join, any list of calls, programmes set among them, and a run
+module _ (b : Started) where
   abbrev loaded : Standing
-  loaded = between (loadCall text t st)
+  loaded = between (begun b)
 
   abbrev called-on : List Step → Standing
   called-on ss = left (stepsOn ss (loaded .tables) (loaded .state))
 
-  pub runs-keep : (ss : List Step) (count : ℕ) (τ : Assignment) → let w = called-on ss in Stands (runCall count (w .tables) (w .state) .tables) (runCall count (w .tables) (w .state) .state) τ ↔ Satisfies τ (textClauses text)
+  pub runs-keep : (ss : List Step) (count : ℕ) (τ : Assignment) → let w = called-on ss in Stands (runCall count (w .tables) (w .state) .tables) (runCall count (w .tables) (w .state) .state) τ ↔ Satisfies τ (formula b)
   runs-keep ss count τ =
       let w = called-on ss in
       let M = run-calls count (w .tables) (w .state) in
-      subst (λ (x : Standing). Stands (x .tables) (x .state) τ ↔ Satisfies τ (textClauses text)) (joined ss (M .calls) (loaded .tables) (loaded .state) ∙ M .ends) (list.demand-3 text v n body accepted t L st (ss ++ M .calls) τ)
+      subst (λ (x : Standing). Stands (x .tables) (x .state) τ ↔ Satisfies τ (formula b)) (joined ss (M .calls) (loaded .tables) (loaded .state) ∙ M .ends) (list.demand-3 b (ss ++ M .calls) τ)
 
   -- a run behind the load, by the constant programme
-  pub run-keeps : (count : ℕ) (τ : Assignment) → Stands (runCall count (loaded .tables) (loaded .state) .tables) (runCall count (loaded .tables) (loaded .state) .state) τ ↔ Satisfies τ (textClauses text)
+  pub run-keeps : (count : ℕ) (τ : Assignment) → Stands (runCall count (loaded .tables) (loaded .state) .tables) (runCall count (loaded .tables) (loaded .state) .state) τ ↔ Satisfies τ (formula b)
   unfolding stepsOn
   run-keeps count τ = runs-keep [] count τ
 
   -- it is not refused, unless the load has set the mark
   loaded-runs : loaded .state .mark ≡ false → Runs loaded
   loaded-runs clear =
-      let idle : loaded .state .pass ≡ Idle = ap (λ (a : After). a .state .pass) (text-loads text v n body accepted t L st) in
-      record { shape = load-held text v n body accepted t L st .shape; idle = idle; unmarked = clear }
+      let idle : loaded .state .pass ≡ Idle = ap (λ (a : After). a .state .pass) (started-laid b .is) in
+      record { shape = start-held b .shape; idle = idle; unmarked = clear }
 
   pub run-taken : loaded .state .mark ≡ false → openingOf (loaded .tables) (loaded .state) ≡ Granted
   run-taken clear = runs-granted (loaded-runs clear)
@@ -261,12 +257,12 @@ module _ (text : List ℕ) (v n body : ℕ) (accepted : judgeText text ≡ Fits 
     set = between (setCall codes (loaded .tables) (loaded .state))
 
     pub own-set : (setCall codes (loaded .tables) (loaded .state) .reply ≡ replyOf Set) × (set .tables ≡ loaded .tables)
-    own-set = (set-taken codes (loaded .tables) (loaded .state) (load-held text v n body accepted t L st .shape) R .0, set-tables codes (loaded .tables) (loaded .state))
+    own-set = (set-taken codes (loaded .tables) (loaded .state) (start-held b .shape) R .0, set-tables codes (loaded .tables) (loaded .state))
 
     pub own-run : loaded .state .mark ≡ false → (count : ℕ) → runCall count (set .tables) (set .state) ≡ runReply (runFrom codes count 0 set)
     own-run clear count =
         sym (call-granted count (set .tables) (set .state) (runs-granted runs))
-        ∙ ap (λ (l : List ℕ). runReply (runFrom l count 0 set)) (set-taken codes (loaded .tables) (loaded .state) (load-held text v n body accepted t L st .shape) R .1)
+        ∙ ap (λ (l : List ℕ). runReply (runFrom l count 0 set)) (set-taken codes (loaded .tables) (loaded .state) (start-held b .shape) R .1)
       where
         runs : Runs set
         runs =

@@ -1,26 +1,21 @@
 -- THE LAW of change request 4: "The value of v is that of its class literal, sign included, after every accepted call." For any tables, state, step count and order; a refused call changes nothing.
 --     call-values    Propagate, Merge, Stamp, Failed and Sweep, wherever they stop
 --     run-values     Run
---     load-values    a load
+--     start-values   a load, a join
 -- Assumes nothing.
 use Prim.Native.Nat.{ℕ}
 use native.Mathlib.Omega.{arith}
 use mathlib.Core.Path.{_≡_, refl, sym, ap, _∙_}
 use mathlib.Core.Bool.{Bool, true, false}
-use mathlib.Core.List.{List}
 use Rattle.state.specs.declared.State.{State}
 use Rattle.state.specs.declared.Refusal.the-variants as refusal
 use Rattle.tables.specs.Tables.{Tables}
-use Rattle.tables.specs.Long.{Long}
 use Rattle.tables.specs.Calls.{After, refuse}
 use Rattle.shape.specs.Shape.{Spread, Shape}
 use Rattle.shape.specs.Decision.{shapeOk}
 use Rattle.shape.proofs.Reading.{shaped}
 use Rattle.entry.specs.declared.Opening.{Opening}
 use Rattle.entry.proofs.Entering.{opening-misshapen}
-use Rattle.dimacs.specs.Text.{judgeText}
-use Rattle.dimacs.specs.declared.Verdict.the-variants.{Fits}
-use Rattle.load.specs.Load.{loadCall}
 use Rattle.propagate.proofs.Shaped.{propagate-shaped}
 use Rattle.merge.proofs.Shaped.{merge-shaped}
 use Rattle.stamp.proofs.Shaped.{stamp-shaped}
@@ -30,7 +25,8 @@ use Rattle.set_programme.proofs.Setting.{set-shaped}
 use Rattle.run.specs.Run.{runBy, runCall}
 use Rattle.run.proofs.Shaped.{run-shaped}
 use Rattle.call_lists.specs.Lists.{Call, propagate, merge, stamp, failed, sweep, programme, callOn}
-use Rattle.refinement.proofs.Loaded.{load-held}
+use Rattle.call_lists.specs.Starts.{Started, begun}
+use Rattle.refinement.proofs.Starting.{start-held}
 use Rattle.refinement.proofs.Demand3.{call-refused}
 
 -- no refusal: its number is 0
@@ -59,11 +55,11 @@ call-shaped (programme codes) t st S = set-shaped codes t st S
 pub call-values : (c : Call) (t : Tables) (st : State) → Accepted (callOn c t st) → Spread (callOn c t st .state .v) (callOn c t st .tables .variables)
 call-values c t st h = call-shaped c t st (accepted-shape t st (callOn c t st) (call-refused c t st) h) .values
 
--- ---- Run and a load
+-- ---- Run, a load and a join
 
 pub run-values : (count : ℕ) (t : Tables) (st : State) → Accepted (runCall count t st) → Spread (runCall count t st .state .v) (runCall count t st .tables .variables)
 unfolding runCall
 run-values count t st h = run-shaped count t st (accepted-shape t st (runCall count t st) (λ e. ap (λ (x : Opening). runBy x count t st) (opening-misshapen t st e)) h) .values
 
-pub load-values : (text : List ℕ) (v n body : ℕ) → judgeText text ≡ Fits v n body → (t : Tables) → Long t → (st : State) → Spread (loadCall text t st .state .v) (loadCall text t st .tables .variables)
-load-values text v n body accepted t L st = load-held text v n body accepted t L st .shape .values
+pub start-values : (b : Started) → Spread (begun b .state .v) (begun b .tables .variables)
+start-values b = start-held b .shape .values

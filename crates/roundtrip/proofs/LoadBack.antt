@@ -8,17 +8,17 @@ use lib.Seq.{take-at, drop-at}
 use lib.IntN.{ℤ, pos, negℤ}
 use lib.Dec.{eqb}
 use borrow.Author.Tests.{eq-eqb}
-use Rattle.base.specs.Decide.{says-yes, agrees}
 use Rattle.literal.specs.Literals.{eqZ}
 use Rattle.literal.specs.Clauses.{tautology}
 use Rattle.state.specs.States.{loadedState}
 use Rattle.state.specs.declared.State.{State}
 use Rattle.state.specs.declared.Answer.the-variants.{Loaded}
 use Rattle.tables.specs.Tables.{Tables, tables}
-use Rattle.tables.specs.Long.{Long, long?, longOk}
+use Rattle.tables.specs.Long.{Long}
 use Rattle.tables.specs.Calls.{After, answered}
-use Rattle.dimacs.specs.Text.{judgeText, bodyOf}
+use Rattle.dimacs.specs.Text.{judgeText, textClauses}
 use Rattle.load.specs.Load.{keptOf, clauseRecords, literalPlaces, variableRecords, anyEmpty, laid, loadBy, loadCall}
+use Rattle.load.proofs.Fill.{formula-lent}
 use Rattle.load.proofs.Sizes.{records-length, variables-length}
 use Rattle.printing.specs.Printing.{textOf}
 use Rattle.write.specs.Writable.{Writable}
@@ -118,18 +118,13 @@ laid-written v cs t = go (anyEmpty cs)
     go true = refl
     go false = λ i. (ap (unitsOf 1) (laid-variables v cs t) ∙ no-units 1 v) i ++ ((ap (classClauses 1) (laid-variables v cs t) ∙ no-classes 1 v) i ++ laid-standing v cs t i)
 
--- tables of the stated sizes are long enough
-pub long-enough : (t : Tables) → Long t → longOk t ≡ true
-unfolding longOk
-long-enough t L = sym (agrees (says-yes L) (long? t))
-
 module _ (v : ℕ) (cs : List (List ℤ)) (h : Writable v cs) (t : Tables) (L : Long t) (st : State) where
   -- the load is not refused; V, N and the mark are those of the formula, no pass is open, and the tables hold it
   pub loads : loadCall (textOf v cs) t st ≡ answered Loaded (loadedState v (length cs) (anyEmpty cs)) (laid v cs t)
   unfolding loadCall
   loads =
-      let q : bodyOf (textOf v cs) (judgeText (textOf v cs)) ≡ cs = read-back v cs h in
-      rw (long-enough t L, loadCall) (ap (λ (ds : List (List ℤ)). loadBy (judgeText (textOf v cs)) ds t st) q ∙ ap (λ x. loadBy x cs t st) (judged v cs h))
+      formula-lent (judgeText (textOf v cs)) (textClauses (textOf v cs)) t st L
+      ∙ ap (λ (ds : List (List ℤ)). loadBy (judgeText (textOf v cs)) ds t st) (read-back v cs h) ∙ ap (λ x. loadBy x cs t st) (judged v cs h)
 
   -- the clauses that stand after it are the formula's
   pub load-back : EachPlain cs

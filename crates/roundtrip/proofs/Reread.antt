@@ -1,4 +1,4 @@
--- Reading what was read gives the same formula. After an accepted load Write gives the text's clauses with repeats removed and those with v and -v left out, or the empty clause alone under the mark;
+-- Reading what was read gives the same formula. After an accepted load or join Write gives its clauses with repeats removed and those with v and -v left out, or the empty clause alone under the mark;
 -- and a load of that text gives just these clauses again. Assumes nothing.
 use Prim.Native.Nat.{ℕ, _*_, _≤_}
 use native.Mathlib.Omega.{arith}
@@ -17,7 +17,7 @@ use Rattle.tables.specs.Long.{Long}
 use Rattle.tables.specs.Calls.{After, answered}
 use Rattle.dimacs.specs.Text.{judgeText, textClauses}
 use Rattle.dimacs.specs.declared.Verdict.the-variants.{Fits}
-use Rattle.load.specs.Load.{anyEmpty, laid, loadBy, loadCall}
+use Rattle.load.specs.Load.{anyEmpty, laid, accept, loadCall}
 use Rattle.literal.proofs.Distinct.{from-sized, distinct-empty}
 use Rattle.printing.specs.Printing.{textOf}
 use Rattle.literal.specs.Ranged.{InClause, InClauses, total}
@@ -25,8 +25,9 @@ use Rattle.write.specs.Writable.{Writable}
 use Rattle.write.specs.Write.{standingClauses, writtenClauses, writeText}
 use Rattle.roundtrip.specs.Plain.{EachPlain, keptClauses, readClauses}
 use Rattle.roundtrip.proofs.Plain.{distinct-plain}
-use Rattle.roundtrip.proofs.LoadBack.{kept-plain, laid-standing, laid-written, long-enough, loads}
-use Rattle.dimacs.proofs.Accepted.{Within, in-snoc, text-within}
+use Rattle.roundtrip.proofs.ReadBack.{bodyAt, judged, read-back}
+use Rattle.roundtrip.proofs.LoadBack.{kept-plain, laid-standing, laid-written, loads}
+use Rattle.dimacs.proofs.Accepted.{Within, in-snoc}
 
 -- ---- what is kept of a clause
 
@@ -118,7 +119,7 @@ module _ (v : ℕ) (cs : List (List ℤ)) where
       go true e = ap readClauses (read-empty e) ∙ sym (read-empty e)
       go false e = rw (read-mark ∙ e, readClauses) (kept-plain (readClauses cs) (read-plain h))
 
--- ---- a text that is accepted
+-- ---- clauses that were accepted, by a load or by a join
 
 -- the clauses that Write gives after a call, and their text
 abbrev pub clausesAfter : After → List (List ℤ)
@@ -127,47 +128,45 @@ clausesAfter a = writtenClauses (a .tables) (a .state)
 abbrev pub textAfter : After → List ℕ
 textAfter a = writeText (a .tables) (a .state)
 
-module _ (text : List ℕ) (v n body : ℕ) (e : judgeText text ≡ Fits v n body) (t : Tables) (L : Long t) (st : State) where
-  within : Within v n 16384 (textClauses text)
-  within = text-within text v n body e .1 .1
+module _ (v n : ℕ) (cs : List (List ℤ)) (few : v ≤ 1024) (most : n ≤ 4096) (W : Within v n 16384 cs) (t : Tables) (made : After) (is : made ≡ accept v n cs t) where
+  -- V, N, the mark and the tables
+  pub accepted-laid : made ≡ answered Loaded (loadedState v (length cs) (anyEmpty cs)) (laid v cs t)
+  accepted-laid = is ∙ ap (λ (m : ℕ). answered Loaded (loadedState v m (anyEmpty cs)) (laid v cs t)) (sym (W .count))
 
-  -- the load of it: V, N, the mark and the tables
-  pub text-loads : loadCall text t st ≡ answered Loaded (loadedState v (length (textClauses text)) (anyEmpty (textClauses text))) (laid v (textClauses text) t)
-  unfolding loadCall
-  text-loads =
-      rw (long-enough t L, loadCall) (ap (λ x. loadBy x (textClauses text) t st) e)
-      ∙ ap (λ (m : ℕ). answered Loaded (loadedState v m (anyEmpty (textClauses text))) (laid v (textClauses text) t)) (sym (within .count))
-
-  -- the clauses that stand are the text's, with repeats removed and those with v and -v left out
-  pub text-stands : standingClauses (take (3 * n) (loadCall text t st .tables .clauses)) (loadCall text t st .tables .literals) ≡ keptClauses (textClauses text)
-  text-stands =
-      ap (λ (a : After). standingClauses (take (3 * n) (a .tables .clauses)) (a .tables .literals)) text-loads
-      ∙ ap (λ (m : ℕ). standingClauses (take (3 * m) (laid v (textClauses text) t .clauses)) (laid v (textClauses text) t .literals)) (sym (within .count)) ∙ laid-standing v (textClauses text) t
+  -- the clauses that stand are these, with repeats removed and those with v and -v left out
+  pub accepted-stand : standingClauses (take (3 * n) (made .tables .clauses)) (made .tables .literals) ≡ keptClauses cs
+  accepted-stand =
+      ap (λ (a : After). standingClauses (take (3 * n) (a .tables .clauses)) (a .tables .literals)) is
+      ∙ ap (λ (m : ℕ). standingClauses (take (3 * m) (laid v cs t .clauses)) (laid v cs t .literals)) (sym (W .count)) ∙ laid-standing v cs t
 
   -- what Write gives after it
-  pub text-written : clausesAfter (loadCall text t st) ≡ readClauses (textClauses text)
-  text-written = ap clausesAfter text-loads ∙ laid-written v (textClauses text) t
+  pub accepted-written : clausesAfter made ≡ readClauses cs
+  accepted-written = ap clausesAfter accepted-laid ∙ laid-written v cs t
 
-  text-is : textAfter (loadCall text t st) ≡ textOf v (readClauses (textClauses text))
+  text-is : textAfter made ≡ textOf v (readClauses cs)
   unfolding writeText
-  text-is = ap (λ (a : After). textOf (a .state .v) (writtenClauses (a .tables) (a .state))) text-loads ∙ ap (textOf v) (laid-written v (textClauses text) t)
+  text-is = ap (λ (a : After). textOf (a .state .v) (writtenClauses (a .tables) (a .state))) accepted-laid ∙ ap (textOf v) (laid-written v cs t)
 
-  read-fits : Writable v (readClauses (textClauses text))
-  read-fits = read-writable v (textClauses text) (text-within text v n body e .0) (omega (arith, within .count, text-within text v n body e .1 .0)) (within .size) (within .each)
+  read-fits : Writable v (readClauses cs)
+  read-fits = read-writable v cs few (omega (arith, W .count, most)) (W .size) (W .each)
+
+  -- that text is accepted, and has just these clauses
+  pub reread-judged : judgeText (textAfter made) ≡ Fits v (length (readClauses cs)) (bodyAt v (length (readClauses cs)))
+  reread-judged = ap judgeText text-is ∙ judged v (readClauses cs) read-fits
+
+  pub reread-clauses : textClauses (textAfter made) ≡ readClauses cs
+  reread-clauses = ap (λ (s : List ℕ). textClauses s) text-is ∙ read-back v (readClauses cs) read-fits
 
   module _ (t₂ : Tables) (L₂ : Long t₂) (st₂ : State) where
-    reloads : loadCall (textAfter (loadCall text t st)) t₂ st₂ ≡ answered Loaded (loadedState v (length (readClauses (textClauses text))) (anyEmpty (readClauses (textClauses text)))) (laid v (readClauses (textClauses text)) t₂)
-    reloads = ap (λ (s : List ℕ). loadCall s t₂ st₂) text-is ∙ loads v (readClauses (textClauses text)) read-fits t₂ L₂ st₂
+    reloads : loadCall (textAfter made) t₂ st₂ ≡ answered Loaded (loadedState v (length (readClauses cs)) (anyEmpty (readClauses cs))) (laid v (readClauses cs) t₂)
+    reloads = ap (λ (s : List ℕ). loadCall s t₂ st₂) text-is ∙ loads v (readClauses cs) read-fits t₂ L₂ st₂
 
     -- reading what was read: the same clauses stand, in the same order
-    pub reread-stands : standingClauses (take (3 * length (readClauses (textClauses text))) (loadCall (textAfter (loadCall text t st)) t₂ st₂ .tables .clauses))
-        (loadCall (textAfter (loadCall text t st)) t₂ st₂ .tables .literals) ≡ readClauses (textClauses text)
-    reread-stands =
-        ap (λ (a : After). standingClauses (take (3 * length (readClauses (textClauses text))) (a .tables .clauses)) (a .tables .literals)) reloads
-        ∙ laid-standing v (readClauses (textClauses text)) t₂ ∙ kept-plain (readClauses (textClauses text)) (read-plain v (textClauses text) (within .each))
+    pub reread-stand : standingClauses (take (3 * length (readClauses cs)) (loadCall (textAfter made) t₂ st₂ .tables .clauses)) (loadCall (textAfter made) t₂ st₂ .tables .literals) ≡ readClauses cs
+    reread-stand =
+        ap (λ (a : After). standingClauses (take (3 * length (readClauses cs)) (a .tables .clauses)) (a .tables .literals)) reloads
+        ∙ laid-standing v (readClauses cs) t₂ ∙ kept-plain (readClauses cs) (read-plain v cs (W .each))
 
     -- and they are written alike
-    pub reread-written : clausesAfter (loadCall (textAfter (loadCall text t st)) t₂ st₂) ≡ clausesAfter (loadCall text t st)
-    reread-written =
-        ap clausesAfter reloads ∙ laid-written v (readClauses (textClauses text)) t₂
-        ∙ read-twice v (textClauses text) (within .each) ∙ sym text-written
+    pub reread-written : clausesAfter (loadCall (textAfter made) t₂ st₂) ≡ clausesAfter made
+    reread-written = ap clausesAfter reloads ∙ laid-written v (readClauses cs) t₂ ∙ read-twice v cs (W .each) ∙ sym accepted-written

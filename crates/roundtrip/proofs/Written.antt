@@ -27,12 +27,13 @@ use Rattle.dimacs.specs.declared.Verdict.the-variants.{Fits}
 use Rattle.load.specs.Load.{anyEmpty, laid, loadCall}
 use Rattle.printing.specs.Printing.{textOf}
 use Rattle.literal.specs.Ranged.{InClauses, InClause, total}
+use Rattle.literal.proofs.Ranged.{in-append}
 use Rattle.write.specs.Writable.{Writable}
 use Rattle.write.specs.Write.{standingClauses, writtenClauses, writeText}
 use Rattle.write.specs.Gathered.{ownValue, unitFor, classFor, clauseFor, unitAt, classAt, writtenAt, formula}
 use Rattle.write.proofs.Gathering.{gathered-every}
 use Rattle.write.proofs.Records.{class-none, class-some}
-use Rattle.write.proofs.Bounds.{in-append, ready, units-in, classes-in, standing-in}
+use Rattle.write.proofs.Bounds.{ready, units-in, classes-in, standing-in}
 use Rattle.write.proofs.Text.{written-marked, written-unmarked}
 use Rattle.roundtrip.specs.Plain.{Plain, EachPlain, readClauses}
 use Rattle.roundtrip.proofs.Plain.{varied-plain, varied-one, varied-two, varied-part}

@@ -8,21 +8,21 @@ use lib.IntN.{pos, negℤ}
 use Rattle.state.specs.Answers.{refusalNumber, refusalPlace, verdictNumber, Reply, reply, replyOf, resultBy}
 use Rattle.state.specs.declared.Refusal.{Refusal}
 use Rattle.state.specs.declared.Answer.{Answer}
-use Rattle.state.specs.declared.Refusal.the-variants.{Shape, Grammar, Limit, OtherPass, Marked, Unsettled, Cyclic, Order, Stale, Short, Newcomer, Codes, NoClause}
+use Rattle.state.specs.declared.Refusal.the-variants.{Shape, Grammar, Limit, OtherPass, Marked, Unsettled, Cyclic, Order, Stale, Short, Newcomer, Codes, NoClause, Link}
 use Rattle.state.specs.declared.Counts.{Counts}
 use Rattle.state.specs.declared.Verdict.{Verdict}
 use Rattle.state.specs.declared.Verdict.the-variants.{Nothing, Drop, Shorten}
 use Rattle.state.specs.declared.Answer.the-variants.{Refused, Loaded, Open, Done, Stamped, Failed, Ran, Written, Set, KeptWhole, KeptShort, NotKept, Explained}
 
 pub refusal-numbers : (p : ℕ) → refusalNumber Shape ∷ refusalNumber (Grammar p) ∷ refusalNumber (Limit p) ∷ refusalNumber OtherPass ∷ refusalNumber Marked ∷ refusalNumber (Unsettled p)
-    ∷ refusalNumber Cyclic ∷ refusalNumber (Order p) ∷ refusalNumber Stale ∷ refusalNumber (Short p) ∷ refusalNumber Newcomer ∷ refusalNumber (Codes p) ∷ refusalNumber NoClause ∷ []
-    ≡ 1 ∷ 2 ∷ 3 ∷ 4 ∷ 5 ∷ 6 ∷ 7 ∷ 8 ∷ 9 ∷ 10 ∷ 11 ∷ 12 ∷ 13 ∷ []
+    ∷ refusalNumber Cyclic ∷ refusalNumber (Order p) ∷ refusalNumber Stale ∷ refusalNumber (Short p) ∷ refusalNumber Newcomer ∷ refusalNumber (Codes p) ∷ refusalNumber NoClause ∷ refusalNumber (Link p) ∷ []
+    ≡ 1 ∷ 2 ∷ 3 ∷ 4 ∷ 5 ∷ 6 ∷ 7 ∷ 8 ∷ 9 ∷ 10 ∷ 11 ∷ 12 ∷ 13 ∷ 15 ∷ []
 refusal-numbers p = refl
 
 -- 1, 4, 5, 7, 9, 11 and 13 name no place
 pub refusal-places : (p : ℕ) → refusalPlace Shape ∷ refusalPlace (Grammar p) ∷ refusalPlace (Limit p) ∷ refusalPlace OtherPass ∷ refusalPlace Marked ∷ refusalPlace (Unsettled p)
-    ∷ refusalPlace Cyclic ∷ refusalPlace (Order p) ∷ refusalPlace Stale ∷ refusalPlace (Short p) ∷ refusalPlace Newcomer ∷ refusalPlace (Codes p) ∷ refusalPlace NoClause ∷ []
-    ≡ 0 ∷ p ∷ p ∷ 0 ∷ 0 ∷ p ∷ 0 ∷ p ∷ 0 ∷ p ∷ 0 ∷ p ∷ 0 ∷ []
+    ∷ refusalPlace Cyclic ∷ refusalPlace (Order p) ∷ refusalPlace Stale ∷ refusalPlace (Short p) ∷ refusalPlace Newcomer ∷ refusalPlace (Codes p) ∷ refusalPlace NoClause ∷ refusalPlace (Link p) ∷ []
+    ≡ 0 ∷ p ∷ p ∷ 0 ∷ 0 ∷ p ∷ 0 ∷ p ∷ 0 ∷ p ∷ 0 ∷ p ∷ 0 ∷ p ∷ []
 refusal-places p = refl
 
 pub replies : (c : Counts) (p : ℕ) → (replyOf (Refused (Order p)) ≡ reply 0 8 (p ∷ [])) × (replyOf Loaded ≡ reply 1 0 []) × (replyOf (Open c) ≡ reply 2 0 (c .visits ∷ c .clauses ∷ c .literals ∷ []))
@@ -35,7 +35,7 @@ replies c p = (refl, refl, refl, refl, refl, refl, refl, refl, refl, refl, refl,
 
 -- the refusal of a number and a place
 abbrev refusalBy : ℕ → ℕ → Refusal
-refusalBy number place = getD (Shape ∷ Shape ∷ Grammar place ∷ Limit place ∷ OtherPass ∷ Marked ∷ Unsettled place ∷ Cyclic ∷ Order place ∷ Stale ∷ Short place ∷ Newcomer ∷ Codes place ∷ NoClause ∷ []) number Shape
+refusalBy number place = getD (Shape ∷ Shape ∷ Grammar place ∷ Limit place ∷ OtherPass ∷ Marked ∷ Unsettled place ∷ Cyclic ∷ Order place ∷ Stale ∷ Short place ∷ Newcomer ∷ Codes place ∷ NoClause ∷ Shape ∷ Link place ∷ []) number Shape
 
 refusal-back : (r : Refusal) → refusalBy (refusalNumber r) (refusalPlace r) ≡ r
 refusal-back Shape = refl
@@ -51,6 +51,7 @@ refusal-back (Short needed) = refl
 refusal-back Newcomer = refl
 refusal-back (Codes index) = refl
 refusal-back NoClause = refl
+refusal-back (Link index) = refl
 
 abbrev countsBy : List ℕ → Counts
 countsBy values = record { visits = getD values 0 0; clauses = getD values 1 0; literals = getD values 2 0 }
@@ -90,7 +91,7 @@ reply-tells a b e = sym (answer-back a) ∙ ap answerBy e ∙ answer-back b
 
 -- ---- a refusal's number, negative
 
-pub number-bounds : (r : Refusal) → (0 < refusalNumber r) × (refusalNumber r ≤ 13)
+pub number-bounds : (r : Refusal) → (0 < refusalNumber r) × (refusalNumber r ≤ 15)
 number-bounds Shape = (omega arith, omega arith)
 number-bounds (Grammar at) = (omega arith, omega arith)
 number-bounds (Limit at) = (omega arith, omega arith)
@@ -104,6 +105,7 @@ number-bounds (Short needed) = (omega arith, omega arith)
 number-bounds Newcomer = (omega arith, omega arith)
 number-bounds (Codes index) = (omega arith, omega arith)
 number-bounds NoClause = (omega arith, omega arith)
+number-bounds (Link index) = (omega arith, omega arith)
 
 pub result-negative : (n v : ℕ) → 0 < n → resultBy n v ≡ negℤ (pos n)
 result-negative zero v h = absurd (omega arith)

@@ -4,13 +4,13 @@ use Prim.Native.Nat.{ℕ, zero, suc}
 use mathlib.Core.List.{List, [], _∷_}
 use lib.IntN.{ℤ, pos, negsuc}
 use Rattle.state.specs.declared.Refusal.{Refusal}
-use Rattle.state.specs.declared.Refusal.the-variants.{Shape, Grammar, Limit, OtherPass, Marked, Unsettled, Cyclic, Order, Stale, Short, Newcomer, Codes, NoClause}
+use Rattle.state.specs.declared.Refusal.the-variants.{Shape, Grammar, Limit, OtherPass, Marked, Unsettled, Cyclic, Order, Stale, Short, Newcomer, Codes, NoClause, Link}
 use Rattle.state.specs.declared.Verdict.{Verdict}
 use Rattle.state.specs.declared.Verdict.the-variants.{Nothing, Drop, Shorten}
 use Rattle.state.specs.declared.Answer.{Answer}
 use Rattle.state.specs.declared.Answer.the-variants.{Refused, Loaded, Open, Done, Stamped, Failed, Ran, Written, Set, KeptWhole, KeptShort, NotKept, Explained}
 
--- the number that the documents give a refusal: 1 to 10 document 01, 11, 12 and 13 document 02's CR 1, CR 5 and CR 7
+-- the number that the documents give a refusal: 1 to 10 document 01, 11, 12, 13 and 15 document 02's CR 1, CR 5, CR 7 and CR 11
 abbrev pub refusalNumber : Refusal → ℕ
 refusalNumber Shape = 1
 refusalNumber (Grammar at) = 2
@@ -25,6 +25,7 @@ refusalNumber (Short needed) = 10
 refusalNumber Newcomer = 11
 refusalNumber (Codes index) = 12
 refusalNumber NoClause = 13
+refusalNumber (Link index) = 15
 
 -- its place: an offset, a clause number, an index, the length needed, or 0
 abbrev pub refusalPlace : Refusal → ℕ
@@ -41,6 +42,7 @@ refusalPlace (Short needed) = needed
 refusalPlace Newcomer = 0
 refusalPlace (Codes index) = index
 refusalPlace NoClause = 0
+refusalPlace (Link index) = index
 
 -- the number of a verdict
 abbrev pub verdictNumber : Verdict → ℕ

@@ -142,6 +142,8 @@ pub enum Refusal {
     Codes(usize),
     // no clause of this number stands
     NoClause,
+    // the index of the first link with a variable out of range or used before on its side
+    Link(usize),
 }
 
 impl Refusal {
@@ -162,6 +164,7 @@ impl Refusal {
             Refusal::Newcomer => 11,
             Refusal::Codes(_) => 12,
             Refusal::NoClause => 13,
+            Refusal::Link(_) => 15,
         }
     }
 
@@ -183,6 +186,7 @@ impl Refusal {
             Refusal::Newcomer => 0,
             Refusal::Codes(index) => index as u64,
             Refusal::NoClause => 0,
+            Refusal::Link(index) => index as u64,
         }
     }
 }
@@ -242,7 +246,7 @@ pub enum Answer {
 impl Answer {
     // The refusal's number, 0 where nothing is refused.
     pub fn number(self) -> u64
-        ensures { λ r. ⌜ (r ≡ replyOf self .number) × (r ≤ 13) ⌝ }
+        ensures { λ r. ⌜ (r ≡ replyOf self .number) × (r ≤ 15) ⌝ }
     {
         if let Answer::Refused(refusal) = self {
             return refusal.number();
@@ -280,7 +284,7 @@ pub struct Outcome {
 
 // What a function for C returns: a value, or the refusal's number, negative. Numbers of refusals are at most 13, and a length of text is below 2^63.
 pub fn result(number: u64, value: u64) -> i64
-    requires { ⌜ (number ≤ 13) × (number ≡ 0 → value ≤ 2 ^ 63 - 1) ⌝ }
+    requires { ⌜ (number ≤ 15) × (number ≡ 0 → value ≤ 2 ^ 63 - 1) ⌝ }
     ensures { λ r. ⌜ r ≡ resultBy number value ⌝ }
 {
     if number == 0 {

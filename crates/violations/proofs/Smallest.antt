@@ -27,7 +27,7 @@ use Rattle.tables.specs.Tables.{Tables}
 use Rattle.tables.specs.Long.{Long}
 use Rattle.tables.specs.Calls.{After}
 use Rattle.load.specs.Load.{loadBy, loadCall}
-use Rattle.roundtrip.proofs.LoadBack.{long-enough}
+use Rattle.load.proofs.Fill.{formula-lent}
 use Rattle.violations.specs.Body.{WordViolation, broken, beyond, tooMany, afterLast, EndViolation, unfinished, tooFew}
 use Rattle.violations.specs.Grammar.{HeaderViolation, wrongByte, largeV, largeN}
 use Rattle.violations.specs.Violations.{bodyWords, Violation, inHeader, atWord, atEnd, Wins}
@@ -201,7 +201,7 @@ module _ (text : List ℕ) where
 module _ (text : List ℕ) (t : Tables) (long : Long t) (st : State) where
   called : loadCall text t st ≡ loadBy (judgeText text) (textClauses text) t st
   unfolding loadCall
-  called = rw (long-enough t long, loadCall)
+  called = formula-lent (judgeText text) (textClauses text) t st long
 
   replied-no : (r : Refusal) → judgeText text ≡ Refused r → loadCall text t st .reply ≡ reply 0 (refusalNumber r) (refusalPlace r ∷ [])
   replied-no r e = ap (λ (a : After). a .reply) (called ∙ ap (λ x. loadBy x (textClauses text) t st) e)

@@ -20,6 +20,7 @@ use Rattle.shape.specs.Shape.{Parts, Shape}
 use Rattle.printing.specs.Printing.{literalText, clauseText, clausesText, headerText, digits}
 use Rattle.printing.proofs.Storing.{digits-within, header-length}
 use Rattle.literal.specs.Ranged.{InClause, InClauses, total}
+use Rattle.literal.proofs.Ranged.{in-append, total-append}
 use Rattle.write.specs.Gathered.{gathered, ownValue, unitFor, classFor, clauseFor, unitAt, classAt, writtenAt}
 use Rattle.write.specs.Printable.{Printable}
 use Rattle.write.proofs.Gathering.{gathered-every}
@@ -34,16 +35,6 @@ literal-short (pos n) h = omega (arith, digits-four n (omega arith))
 literal-short (negsuc n) h = omega (arith, digits-four (suc n) (omega arith))
 
 -- ---- lists of clauses
-
-pub in-append : (v : ℕ) (xs ys : List (List ℤ)) → InClauses v xs → InClauses v ys → InClauses v (xs ++ ys)
-unfolding InClauses
-in-append v [] ys a b = b
-in-append v (c ∷ xs) ys a b = (a .0, in-append v xs ys (a .1) b)
-
-pub total-append : (xs ys : List (List ℤ)) → total (xs ++ ys) ≡ total xs + total ys
-unfolding total
-total-append [] ys = omega arith
-total-append (c ∷ xs) ys = omega (arith, total-append xs ys)
 
 in-gathered : (v : ℕ) (f : ℕ → List (List ℤ)) (n : ℕ) → ((k : ℕ) → k < n → InClauses v (f k)) → InClauses v (gathered f n 0)
 unfolding InClauses

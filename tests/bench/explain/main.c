@@ -61,7 +61,7 @@ int main(int argc, char **argv) {
         explained[i] = time_explain();
         swept[i] = time_sweep();
     }
-    double one = median(explained), other = median(swept);
+    double one = median(explained, SAMPLES), other = median(swept, SAMPLES);
     printf("%-14s %8u %8u %8u %10u %12.0f %10.0f %8.2f\n", argv[1], count, dropped, shortened, longest, one, other, one / other);
     return refused || one / other > 1.2;
 }

@@ -10,12 +10,6 @@
 enum { NEWCOMERS = 256, MOST = UNHIDE_LEARNT_LITERALS };
 
 static int32_t newcomers[NEWCOMERS][MOST];
-static uint64_t seed = 1;
-
-static uint32_t draw(uint32_t below) {
-    seed = seed * 6364136223846793005u + 1442695040888963407u;
-    return (uint32_t)(seed >> 33) % below;
-}
 
 /* A random clause of different variables. */
 static void draw_clause(int32_t *clause, uint32_t size) {
@@ -60,7 +54,7 @@ static int measure(const char *kind, uint32_t size, double most) {
         learn[i] = time_learn(size);
         sweep[i] = time_sweep();
     }
-    double learned = median(learn), swept = median(sweep);
+    double learned = median(learn, SAMPLES), swept = median(sweep, SAMPLES);
     printf("%-14s %8u %10.0f %10.0f %8.2f\n", kind, size, learned, swept, learned / swept);
     return refused || learned / swept > most;
 }

@@ -1,13 +1,13 @@
 /* Measures unhide_load, the parser of plain.c and memcpy on the same texts of 65,535 bytes, in one run. Before that it compares
    the two parsers on those texts and on spoilt copies of them: result, place and tables. */
 #define _POSIX_C_SOURCE 200809L
+#include "../measure.h"
 #include "plain.h"
 #include "unhide.h"
 
 #include <stdio.h>
 #include <stdlib.h>
 #include <string.h>
-#include <time.h>
 
 enum { LENGTH = 65535, SAMPLES = 101, SPOILT = 2000, LIMIT_NS = 1000000 };
 
@@ -56,14 +56,6 @@ static int64_t run_copy(const uint8_t *text, size_t length)
 }
 
 /* ---- texts */
-
-static uint64_t seed = 1;
-
-static uint32_t draw(uint32_t below)
-{
-    seed = seed * 6364136223846793005u + 1442695040888963407u;
-    return (uint32_t)((seed >> 33) % below);
-}
 
 static uint8_t text[LENGTH + 64];
 static size_t used;
@@ -211,13 +203,6 @@ static void compare_spoilt(const char *kind)
 
 /* ---- measuring */
 
-static double now(void)
-{
-    struct timespec t;
-    clock_gettime(CLOCK_PROCESS_CPUTIME_ID, &t);
-    return (double)t.tv_sec * 1e9 + (double)t.tv_nsec;
-}
-
 /* Nanoseconds of processor time of one call, over `calls` calls. */
 static double sample(int64_t (*run)(const uint8_t *, size_t), int calls)
 {
@@ -227,18 +212,6 @@ static double sample(int64_t (*run)(const uint8_t *, size_t), int calls)
         __asm__ volatile("" ::: "memory");
     }
     return (now() - begin) / calls;
-}
-
-static int ascending(const void *a, const void *b)
-{
-    double x = *(const double *)a, y = *(const double *)b;
-    return (x > y) - (x < y);
-}
-
-static double median(double *xs)
-{
-    qsort(xs, SAMPLES, sizeof *xs, ascending);
-    return xs[SAMPLES / 2];
 }
 
 /* Nanoseconds of one load. */
@@ -258,10 +231,10 @@ static double measure(const char *kind, void (*make)(void))
         loads[i] = sample(run_load, 2);
         ones[i] = sample(run_load, 1);
     }
-    c = median(copies);
-    p = median(plains);
-    l = median(loads);
-    one = median(ones);
+    c = median(copies, SAMPLES);
+    p = median(plains, SAMPLES);
+    l = median(loads, SAMPLES);
+    one = median(ones, SAMPLES);
     printf("%s: %lld, %zu bytes and spaces behind\n", kind, (long long)run_load(text, LENGTH), bytes);
     printf("  memcpy  %7.3f bytes per ns\n", LENGTH / c);
     printf("  plain   %7.3f bytes per ns   memcpy takes %.4f of its time\n", LENGTH / p, c / p);

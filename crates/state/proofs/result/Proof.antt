@@ -12,7 +12,7 @@ use borrow.Author.Needs.{needs}
 use Rattle.state.proofs.result.Statement.{statement}
 use Rattle.state.proofs.result.Tie as tie
 
-negative-fits : (n : ℕ) → n ≤ 13 → SFits w64 (negℤ (pos n))
+negative-fits : (n : ℕ) → n ≤ 15 → SFits w64 (negℤ (pos n))
 negative-fits zero h = record { sfits = omega arith }
 negative-fits (suc n) h = record { sfits = omega arith }
 

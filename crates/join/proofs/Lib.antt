@@ -1,0 +1,9 @@
+pub mod Cases
+pub mod RightNumbers
+pub mod Within
+pub mod Linking
+pub mod Counting
+pub mod Numbering
+pub mod Appending
+pub mod Joining
+pub mod Judging

@@ -1,0 +1,3 @@
+pub mod Links
+pub mod Join
+pub mod Contracts

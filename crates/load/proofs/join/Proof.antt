@@ -1,0 +1,39 @@
+-- `load::join` meets its contract. Assumes nothing.
+use Rattle.load.specs.Load.{joinWith, joinCall}
+use borrow.Author.Needs.{needs}
+use Rattle.load.proofs.join.Statement.{statement}
+use Rattle.load.proofs.join.Tie as tie
+
+load-with-requires : tie.Need-load-with-requires
+load-with-requires c κs = search needs
+
+same-length : tie.Need-same-length
+same-length c = search needs
+
+same-length-2 : tie.Need-same-length-2
+same-length-2 c = search needs
+
+same-length-3 : tie.Need-same-length-3
+same-length-3 c = search needs
+
+same-length-4 : tie.Need-same-length-4
+same-length-4 c = search needs
+
+same-length-5 : tie.Need-same-length-5
+same-length-5 c = search needs
+
+returns : tie.Need-returns
+unfolding joinWith joinCall
+returns c = c .before .before .before .before .before .before .before .load-with .ensures
+
+pub join-spec : {M : Type 1} → statement M
+join-spec =
+    tie.close
+    (tie.spec
+    load-with-requires
+    same-length
+    same-length-2
+    same-length-3
+    same-length-4
+    same-length-5
+    returns)

@@ -1,0 +1,4 @@
+pub mod Numbers
+pub mod Shares
+pub mod Refusals
+pub mod Standing
