@@ -1,4 +1,4 @@
--- The loop that puts the renamed numbers behind the others: what is still to be put, from here on, gives the whole. Assumes nothing.
+-- The loop that puts the renumbered literals behind the others: what is still to be put, from here on, gives the whole. Assumes nothing.
 use Prim.Native.Nat.{ℕ, suc, _+_, _-_, _≤_, _<_}
 use native.Mathlib.Omega.{arith}
 use native.Mathlib.Numerals.{add-one}
@@ -13,7 +13,7 @@ use Rattle.literal.specs.Literals.{Small, signBy}
 use Rattle.literal.proofs.Signed.{small-neg}
 use Rattle.join.specs.Contracts.{numberedBy, Renumberable}
 
--- a renamed number has a complement
+-- a renumbered literal has a complement
 pub signed-small : (b : Bool) {z : ℤ} → Small z → Small (signBy b z)
 signed-small true h = h
 signed-small false h = small-neg h

@@ -1,11 +1,11 @@
--- The loop over the links: the pairs so far are good, their variables are marked, and each right one has its left one in the table of names. Assumes nothing.
-use Prim.Native.Nat.{ℕ, zero, suc, _+_, _*_, _-_, _≤_, _<_}
+-- The loop over the links: the pairs so far are good, their variables are marked, and each right one has its left one in the table of numbers. Assumes nothing.
+use Prim.Native.Nat.{ℕ, suc, _+_, _*_, _-_, _≤_, _<_}
 use native.Mathlib.Omega.{arith}
 use native.Mathlib.Numerals.{add-one}
 use mathlib.Core.Path.{_≡_, refl, sym, ap, _∙_}
 use mathlib.Core.Bool.{Bool, true, false, _||_}
 use mathlib.Core.Logic.{_⊎_, inl, inr}
-use mathlib.Core.List.{List, [], _∷_}
+use mathlib.Core.List.{List}
 use lib.ListN.{length, getD, set, replicate, length-replicate, length-set}
 use lib.Seq.{getD-set-same, getD-set-other}
 use lib.Dec.{eqb}
@@ -78,7 +78,7 @@ module _ {v w : ℕ} {links numbering : List ℕ} {lefts rights : List Bool} {i 
   pub stops-right : badSide v (leftOf links) i ≡ false → badSide w (rightOf links) i ≡ true → i ≡ firstBad v w links
   stops-right p e = stops (ap (λ (b : Bool). b || badSide w (rightOf links) i) p ∙ e)
 
-  -- no names are promised for links that are refused
+  -- no numbers are promised for links that are refused
   pub short : pairCount links ≤ i → LinksPut links numbering
   short h = absurd (omega (arith, h, lt))
 

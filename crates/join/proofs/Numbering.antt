@@ -1,4 +1,4 @@
--- The loop that names the right variables that are not linked: those up to i have their names, the others what the links gave them. Assumes nothing.
+-- The loop that numbers the right variables that are not linked: those up to i have their numbers, the others what the links gave them. Assumes nothing.
 use Prim.Native.Nat.{ℕ, zero, suc, _+_, _-_, _≤_, _<_}
 use native.Mathlib.Omega.{arith}
 use native.Mathlib.Numerals.{add-one}

@@ -1,4 +1,4 @@
--- The names of the right variables: where all links are right, a linked one is named by a variable of the left, and the others are named behind these, each by its own. Assumes nothing.
+-- The numbers of the right variables: where all links are good, a linked one has the number of a left variable, and the others have numbers behind these, each its own. Assumes nothing.
 use Prim.Native.Nat.{ℕ, zero, suc, _+_, _≤_, _<_}
 use native.Mathlib.Omega.{arith}
 use mathlib.Core.Path.{_≡_, refl, sym, ap, subst}
@@ -51,7 +51,7 @@ module _ (v w : ℕ) (links : List ℕ) where
     right = λ i lt. in-side w (rightOf links) i (or-right (badSide v (leftOf links) i) (badSide w (rightOf links) i) (fine h i lt));
   }
 
--- ---- names
+-- ---- the numbers
 
 module _ (links : List ℕ) where
   -- a variable that is linked is the right one of a pair
@@ -122,7 +122,7 @@ module _ (links : List ℕ) where
     unfolding rightNumber
     number-unlinked x e = rw (e, rightNumber)
 
-    -- a name is a variable of the join
+    -- a number is a variable of the join
     pub number-above : (x : ℕ) → 0 < x → 0 < rightNumber v links x
     number-above x a = go (linkOf links x) refl
       where

@@ -18,7 +18,7 @@ abbrev pub variablesBy : Verdict → ℕ
 variablesBy (Refused r) = 0
 variablesBy (Fits v n _) = v
 
--- the left clauses as written, then the right ones renamed
+-- the left clauses as written, then the right ones renumbered
 unfoldable pub joinClauses : List ℕ → List ℕ → List ℕ → List (List ℤ)
 joinClauses left right links = textClauses left ++ renumberedClauses (variablesBy (judgeText left)) links (textClauses right)
 

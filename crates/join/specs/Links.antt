@@ -38,7 +38,7 @@ badLink v w links i = badSide v (leftOf links) i || badSide w (rightOf links) i
 unfoldable pub firstBad : ℕ → ℕ → List ℕ → ℕ
 firstBad v w links = first (badLink v w links) (pairCount links) 0
 
--- ---- the names of the right variables
+-- ---- the numbers of the right variables
 
 -- the left variable that k pairs link the right variable x to; 0 if none does
 unfoldable pub linkIn : List ℕ → ℕ → ℕ → ℕ
@@ -63,7 +63,7 @@ joinedVariables v w links = v + unlinked links w
 
 -- ---- the right clauses
 
--- a literal's variable renamed, its sign kept
+-- a literal's variable renumbered, its sign kept
 unfoldable pub renumbered : ℕ → List ℕ → ℤ → ℤ
 renumbered v links l = signBy (nonNeg l) (pos (rightNumber v links (natAbs l)))
 

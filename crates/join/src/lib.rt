@@ -8,7 +8,7 @@ ghost use Prim.Native.Nat.{ℕ, _+_, _*_, _≤_, _<_};
 ghost use lib.ListN.{length, take, getD};
 ghost use lib.Dec.{leb};
 ghost use lib.Seq.{sets};
-ghost use lib.IntN.{ℤ, pos, natAbs};
+ghost use lib.IntN.{natAbs};
 ghost use Rattle.literal.specs.Ranged.{total};
 ghost use Rattle.dimacs.specs.Numbers.{clausesIn, Judged};
 ghost use Rattle.join.specs.Links.{pairCount, outside, firstBad, joinedVariables};

@@ -1,10 +1,9 @@
--- CHANGE REQUEST 1, over the calls as their users see them. After an accepted load, which leaves the window empty (`window-empty`), and any list of demand 3's calls and of learnt clauses, refused ones included, any parts of the tables and of the window lent:
+-- CHANGE REQUEST 1, over the calls as their users see them. After an accepted load or join, which leaves the window empty (`window-empty`), and any list of demand 3's calls and of learnt clauses, refused ones included, any parts of the tables and of the window lent:
 -- what a further call makes of a newcomer is right, any parts of the tables and any window lent (`learnt-right`), and so it is of every newcomer of a run (`run-learnt`).
 -- Demand 3 holds of these lists too (`demand-3-learns`): learnt clauses can be left out of a list of calls (`learns-apart`).
 -- Assumes nothing.
 use Prim.Native.Nat.{ℕ}
 use mathlib.Core.Path.{_≡_, refl, sym, ap, subst, subst₂, _∙_}
-use mathlib.Core.Bool.{Bool, true, false}
 use mathlib.Core.Logic.{_↔_}
 use mathlib.Core.List.{List, [], _∷_}
 use lib.IntN.{ℤ}
@@ -14,7 +13,7 @@ use Rattle.state.specs.declared.State.{State}
 use Rattle.tables.specs.Tables.{Tables, tables}
 use Rattle.tables.specs.Stands.{Stands}
 use Rattle.tables.specs.Calls.{After}
-use Rattle.window.specs.Window.{Places, clausesOf, AfterWindow, afterWindow}
+use Rattle.window.specs.Window.{Places, clausesOf, AfterWindow}
 use Rattle.window.specs.Rule.{LongWindow}
 use Rattle.window.proofs.Kept.{emptied-clauses}
 use Rattle.load.specs.Load.{loadCall, joinCall, emptiedBy, emptying, loadWith, joinWith}

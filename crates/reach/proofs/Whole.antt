@@ -1,9 +1,9 @@
 -- A clause that a sweep has not shortened in the tables is as it was over slots, or dropped. Assumes nothing.
 use Prim.Native.Nat.{ℕ, zero, suc, _≤_, _<_}
 use native.Mathlib.Omega.{arith}
-use mathlib.Core.Path.{_≡_, refl, sym, ap, _∙_}
+use mathlib.Core.Path.{_≡_, sym, ap, _∙_}
 use mathlib.Core.Logic.{_⊎_, inl, inr, ⊎-elim}
-use mathlib.Core.List.{List, [], _∷_, map}
+use mathlib.Core.List.{List, map}
 use lib.ListN.{length, getD, length-map}
 use Rattle.base.specs.Decide.{same-or, le-or}
 use Rattle.base.proofs.Lists.{getD-beyond, sub-full}

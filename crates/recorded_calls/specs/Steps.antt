@@ -67,7 +67,7 @@ callOnRecords (programme codes) h st = readingStamps (setCall codes (columned h)
 abbrev pub loadOnRecords : List ℕ → CallerTables → State → AfterCall
 loadOnRecords text h st = readingStamps (loadCall text (columned h) st) (h .stamps)
 
--- a load or a join
+-- a load, or a join, which crate `calls` does not have: it is made on the records' columns and leaves the records
 abbrev pub startOnRecords : Start → CallerTables → State → AfterCall
 startOnRecords s h st = readingStamps (startOn s (columned h) st) (h .stamps)
 

@@ -11,7 +11,7 @@ use Rattle.dimacs.specs.declared.Verdict.the-variants.{Fits}
 use Rattle.join.specs.Links.{pairCount, leftOf, rightOf, linkOf, unlinked, rightNumber, joinedVariables}
 use Rattle.join.specs.Join.{variablesBy, judgeJoin}
 use Rattle.join.proofs.RightNumbers.{Linked, link-pair, pair-link, unlinked-more, unlinked-same, unlinked-counts, number-linked, number-unlinked, number-within}
-use Rattle.join.proofs.Within.{Joined, join-joined}
+use Rattle.join.proofs.Within.{join-joined}
 use Rattle.shares.specs.Numbers.{Unlinked, RightNumbers}
 
 module _ (v w : ℕ) (links : List ℕ) (L : Linked v w links) where

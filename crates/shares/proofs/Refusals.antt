@@ -4,7 +4,7 @@ use native.Mathlib.Omega.{arith}
 use mathlib.Core.Path.{_≡_, refl, sym, ap, _∙_}
 use mathlib.Core.Bool.{Bool, true, false, _&&_, _||_}
 use mathlib.Core.Logic.{_⊎_, inl, inr, ⊎-elim}
-use mathlib.Core.List.{List, _++_}
+use mathlib.Core.List.{List}
 use lib.Dec.{leb, ltb, eqb}
 use lib.IntN.{ℤ}
 use borrow.Author.Tests.{eqb-true, eq-eqb, ltb-true, lt-ltb, le-ltb, le-leb, lt-leb}
@@ -15,7 +15,6 @@ use Rattle.base.proofs.Searches.{anyBelow-out, anyBelow-in, first-found, first-
 use Rattle.literal.specs.Ranged.{total}
 use Rattle.literal.proofs.Ranged.{total-append}
 use Rattle.state.specs.declared.State.{State}
-use Rattle.state.specs.declared.Refusal.{Refusal}
 use Rattle.state.specs.declared.Refusal.the-variants.{Shape, Limit, Link}
 use Rattle.tables.specs.Tables.{Tables}
 use Rattle.tables.specs.Long.{Long}

@@ -282,7 +282,7 @@ pub struct Outcome {
     pub state: State,
 }
 
-// What a function for C returns: a value, or the refusal's number, negative. Numbers of refusals are at most 13, and a length of text is below 2^63.
+// What a function for C returns: a value, or the refusal's number, negative. Numbers of refusals are at most 15, and a length of text is below 2^63.
 pub fn result(number: u64, value: u64) -> i64
     requires { ⌜ (number ≤ 15) × (number ≡ 0 → value ≤ 2 ^ 63 - 1) ⌝ }
     ensures { λ r. ⌜ r ≡ resultBy number value ⌝ }

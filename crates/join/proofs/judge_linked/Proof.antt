@@ -1,5 +1,5 @@
 -- `join::judge_linked` meets its contract: the tests as they come, and the numbers of both texts. Assumes nothing.
-use Prim.Native.Nat.{ℕ, _+_, _≤_}
+use Prim.Native.Nat.{_+_, _≤_}
 use native.Mathlib.Omega.{arith}
 use mathlib.Core.Bool.{true}
 use mathlib.Core.Path.{_≡_, sym, _∙_}
@@ -9,7 +9,7 @@ use lib.IntN.{ℤ}
 use borrow.Author.Tests.{not-true, not-false}
 use Rattle.join.specs.Links.{pairCount, firstBad, joinedVariables}
 use Rattle.join.specs.Join.{withinLimits}
-use Rattle.join.specs.Contracts.{LinksPut, Numbered, bothIn}
+use Rattle.join.specs.Contracts.{LinksPut, bothIn}
 use Rattle.join.proofs.RightNumbers.{links-right}
 use Rattle.join.proofs.Numbering.{unnumbered}
 use Rattle.join.proofs.Joining.{Both, limits-are, renumberable, clauses-joined}

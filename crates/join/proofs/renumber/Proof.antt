@@ -42,7 +42,7 @@ cast-number c = small-fits (numbered c)
 signed-by-requires : tie.Need-signed-by-requires
 signed-by-requires c κs = subst Small (sym (back (numbered c))) (numbered c)
 
--- what is returned, by the name that was read
+-- what is returned, by the number that was read
 signed : (c : tie.After-signed-by) → c .signed-by .result ≡ signBy (nonNeg (c .before .before .before .before .args .x)) (pos (getD (c .before .before .before .before .args .numbering .now) (c .before .before .var-of .result) 0))
 signed c = c .signed-by .ensures ∙ (λ i. signBy (nonNeg (back (small (c .before .before .before .before)) i)) (back (numbered (c .before)) i))
 
