@@ -1,4 +1,6 @@
 // Decisions and list functions that every crate's definitions use: definitions and laws, in specs/ and proofs/. The code is what is about no table and no literal.
+#![tactic(auto)]
+
 ghost use Rattle.std.specs.Prelude.{◌≡◌, ◌||◌};
 
 // One of two, or both.

@@ -1,4 +1,6 @@
 // The calls for C. Each function reads the state from its numbers (crate c_numbers), makes the call of the same name, and puts the state and the answer into theirs; the last two have no state.
+#![tactic(auto)]
+
 ghost use Rattle.std.specs.Prelude.{◌≡◌};
 ghost use Rattle.tables.specs.Lent.{lent, returned};
 ghost use Rattle.load.specs.Load.{load_with, join_with};

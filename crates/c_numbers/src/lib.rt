@@ -1,4 +1,6 @@
 // The state and the answer as numbers, for C, which has no type for either: it lends forty numbers for the one and four for the other, and two for the window.
+#![tactic(auto)]
+
 ghost use Rattle.std.specs.Prelude.{◌≡◌, ◌≤◌, [], ◌∷◌, length};
 ghost use Rattle.state.specs.Answers.{reply_of, result_by};
 ghost use Rattle.tables.specs.Tables.{Tables};

@@ -1,5 +1,7 @@
 // The calls over a lent slice of stamp records. Each copies the records into columns and hands these, by value, to a function that makes the call on columns:
 // refusal 1 where they hold fewer than 2,048 records, and else what the call's own crate does with them.
+#![tactic(auto)]
+
 ghost use Rattle.std.specs.Prelude.{◌≡◌, List, ℕ, ℤ};
 ghost use Rattle.tables.specs.Tables.{Tables};
 ghost use Rattle.tables.specs.Calls.{after, refuse};
@@ -228,7 +230,7 @@ pub fn merge(
 }
 
 // What Stamp and Run make: the columns, and the outcome.
-#[derive(Drop)]
+#[derive(Clone, Copy)]
 struct Stamped {
     columns: Columns,
     outcome: Outcome,

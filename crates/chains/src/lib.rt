@@ -1,4 +1,6 @@
 // Chains of literals along the parents (document 02, CR 7), and their text.
+#![tactic(auto)]
+
 ghost use Rattle.std.specs.Prelude.{◌≡◌, ◌+◌, ◌≤◌, ◌<◌, ◌^◌, length, drop};
 ghost use Rattle.literal.specs.Literals.{slot_of};
 ghost use Rattle.stamps.specs.Fresh.{parent_in};
@@ -9,7 +11,7 @@ ghost use Rattle.chains.specs.Chains.{ends, chain_of, chain_at};
 ghost use Rattle.chains.specs.Climbing.{Climbable, Parented, Chained};
 
 // The two ends of a chain: the interval of `top` holds that of `bottom`.
-#[derive(Drop)]
+#[derive(Clone, Copy)]
 pub struct Ends {
     pub top: i32,
     pub bottom: i32,

@@ -1,4 +1,6 @@
 // The slots of the literals of one clause, and of their complements.
+#![tactic(auto)]
+
 ghost use Rattle.std.specs.Prelude.{◌≡◌, map, ℕ, ◌<◌, length, get_or};
 ghost use Rattle.literal.specs.Literals.{slot_of, twin};
 ghost use Rattle.clause_slots.specs.Stamped.{Lits};

@@ -1,4 +1,6 @@
 // The viewer's call: how the intervals of two literals lie (document 02, CR 6).
+#![tactic(auto)]
+
 ghost use Rattle.std.specs.Prelude.{◌≡◌};
 ghost use Rattle.compare.specs.Compare.{has_record, compare_call, comparison_result};
 
@@ -6,7 +8,7 @@ use intervals::Relation;
 use state::Refusal;
 
 // What the call answers.
-#[derive(Drop)]
+#[derive(Clone, Copy)]
 pub enum Comparison {
     Refused(Refusal),
     // how the interval of the first literal lies to that of the second

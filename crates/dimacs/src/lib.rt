@@ -1,5 +1,7 @@
 // DIMACS text: bytes, words, tokens, the header, and the judgement of a whole text. Each function is tied to its
 // definition in specs/ by one equation.
+#![tactic(auto)]
+
 ghost use Rattle.std.specs.Prelude.{◌≡◌, true, false, ◌&&◌, ◌+◌, ◌*◌, ◌-◌, ◌<◌, ◌≤◌, min, length, drop, leb, ltb, eqb};
 ghost use Rattle.dimacs.specs.Words.{is_sep, is_word_byte, is_line_byte, is_digit, span, front, words_at};
 ghost use Rattle.dimacs.specs.Tokens.{decimal, unsigned, token_by, token_of};
@@ -11,7 +13,7 @@ use state::Refusal;
 
 // What stands at an offset of the text's body: `start` is its first byte, `next` the byte after it. A magnitude above 65,535
 // is given as 65,535.
-#[derive(Drop)]
+#[derive(Clone, Copy)]
 enum Token {
     End,
     Zero {
@@ -28,20 +30,20 @@ enum Token {
 }
 
 // A piece of the header: its value (0 where it has none) and the offset after it.
-#[derive(Drop)]
+#[derive(Clone, Copy)]
 pub enum Piece {
     Wrong(Refusal),
     Got { value: u32, next: usize },
 }
 
-#[derive(Drop)]
+#[derive(Clone, Copy)]
 pub enum Header {
     NoHeader(Refusal),
     Fields { v: u32, n: u32, next: usize },
 }
 
 // The judgement of a text: refused, or what its header says.
-#[derive(Drop)]
+#[derive(Clone, Copy)]
 pub enum Verdict {
     Refused(Refusal),
     Fits { v: u32, n: u32, body: usize },
@@ -153,7 +155,7 @@ fn with_digit(n: u32, b: u8) -> u32
 }
 
 // Some digits from an offset on: their value, or 65,535 if it is larger, and the offset after them.
-#[derive(Drop)]
+#[derive(Clone, Copy)]
 struct Digits {
     value: u32,
     next: usize,
@@ -226,7 +228,7 @@ fn token_at(text: &[u8], at: usize) -> Token
 // ---- the reader
 
 // It stands on a text at an offset.
-#[derive(Drop)]
+#[derive(Clone, Copy)]
 struct Reader<'a> {
     text: &'a [u8],
     at: usize,

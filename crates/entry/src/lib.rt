@@ -1,4 +1,6 @@
 // The refusals that the five passes and Run share (1, 4 and 5), and what they leave to a call.
+#![tactic(auto)]
+
 ghost use Rattle.std.specs.Prelude.{◌≡◌};
 ghost use Rattle.tables.specs.Lent.{lent};
 ghost use Rattle.entry.specs.Entry.{unless_marked, entry_by, entry_of, opening_by, opening_of};
@@ -6,7 +8,7 @@ ghost use Rattle.entry.specs.Entry.{unless_marked, entry_by, entry_of, opening_b
 use state::{Pass, Refusal, State};
 
 // The passes that can be left open, by which a call names the one that it resumes.
-#[derive(Drop)]
+#[derive(Clone, Copy)]
 pub enum PassName {
     Propagate,
     Merge,
@@ -14,7 +16,7 @@ pub enum PassName {
 }
 
 // What is left to a call of such a pass: a refusal, or it opens the pass, or it resumes it, with the cursor and Propagate's change flag.
-#[derive(Drop)]
+#[derive(Clone, Copy)]
 pub enum Entry {
     No(Refusal),
     Opens,
@@ -22,7 +24,7 @@ pub enum Entry {
 }
 
 // What is left to a call that resumes nothing.
-#[derive(Drop)]
+#[derive(Clone, Copy)]
 pub enum Opening {
     Denied(Refusal),
     Granted,

@@ -1,4 +1,6 @@
 // The call that tells why (document 02, CR 7): what a Sweep would do to a clause, and the chains of literals that show it. It opens no pass, and changes neither tables nor state.
+#![tactic(auto)]
+
 ghost use Rattle.std.specs.Prelude.{◌≡◌, List, [], ◌∷◌, map, ℕ, ◌+◌, ◌*◌, ◌≤◌, ◌<◌, length, take, drop, set, ℤ};
 ghost use Rattle.literal.specs.Literals.{Literal, slot_of};
 ghost use Rattle.stamp_columns.specs.Columns.{columns};
@@ -192,7 +194,7 @@ fn gather_ends(part: &[i32], left: &[i32], rest: &[i32], times: &[u32], ends: &m
 // ---- what a Sweep would do
 
 // The verdict, how many literals are taken out, and how many chains show it.
-#[derive(Drop)]
+#[derive(Clone, Copy)]
 pub struct Found {
     pub verdict: Verdict,
     pub out: u32,

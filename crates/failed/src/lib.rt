@@ -1,4 +1,6 @@
 // Failed: by fresh stamps, the literals that imply their own complement, whose complements become true.
+#![tactic(auto)]
+
 ghost use Rattle.std.specs.Prelude.{◌≡◌, false, List, ℕ, ◌+◌, ◌*◌, ◌≤◌, ◌<◌, ℤ};
 ghost use Rattle.literal.specs.Literals.{twin};
 ghost use Rattle.stamp_columns.specs.Columns.{columns};
@@ -13,7 +15,7 @@ use entry::Opening;
 use state::{Answer, Outcome, Refusal, State};
 
 // How many values were set, and whether the opposite value was met.
-#[derive(Drop)]
+#[derive(Clone, Copy)]
 pub struct Tally {
     pub set: u32,
     pub opposite: bool,

@@ -1,4 +1,6 @@
 // The groups of clauses that chains join (document 02, CR 10), by union-find, and their numbers.
+#![tactic(auto)]
+
 ghost use Rattle.std.specs.Prelude.{◌≡◌, ◌+◌, ◌-◌, ◌≤◌, ◌<◌, length, get_or, replicate};
 ghost use Rattle.write.specs.Gathered.{gathered, written_at};
 ghost use Rattle.group_numbers.specs.Labels.{enter, join_clause, join_clauses};

@@ -1,4 +1,6 @@
 // Hidden tautologies, hidden literals and failed literals, by time stamps (source document 000, figures 5 and 6; document 02, CR 2): definitions and laws in specs/ and proofs/, and the test that all of them rest on.
+#![tactic(auto)]
+
 ghost use Rattle.std.specs.Prelude.{◌≡◌, List, ◌+◌, ◌*◌, ◌<◌, length, ℤ};
 ghost use Rattle.stamp_columns.specs.Columns.{columns};
 ghost use Rattle.hidden.specs.Hidden.{holds};

@@ -1,4 +1,6 @@
 // Hidden literals: figure 5 of 000 over the slots of one clause.
+#![tactic(auto)]
+
 ghost use Rattle.std.specs.Prelude.{◌≡◌, List, [], ◌++◌, map, ◌+◌, ◌*◌, ◌-◌, ◌<◌, ◌≤◌, length, drop, take, replicate, ℤ, pos};
 ghost use Rattle.literal.specs.Literals.{slot_of, twin};
 ghost use Rattle.stamp_columns.specs.Columns.{columns};

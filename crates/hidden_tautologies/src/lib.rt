@@ -1,4 +1,6 @@
 // Hidden tautologies: the rule for two literals and figure 6 of 000 for more, over the slots of one clause.
+#![tactic(auto)]
+
 ghost use Rattle.std.specs.Prelude.{◌≡◌, List, [], map, ◌≤◌, length, ℤ};
 ghost use Rattle.literal.specs.Literals.{slot_of, twin};
 ghost use Rattle.stamp_columns.specs.Columns.{columns};

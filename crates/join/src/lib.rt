@@ -1,6 +1,8 @@
 // Two texts joined by a table of links, judged as one formula: the left text, the right text, the links, the limits. The right text's
 // numbers, renumbered, go behind the left's, so that the formula is laid in the tables as that of a single text is (crate `load`). The time
 // is linear in the texts and the links.
+#![tactic(auto)]
+
 ghost use Rattle.std.specs.Prelude.{◌≡◌, false, ◌&&◌, ◌||◌, List, map, ℕ, ◌+◌, ◌*◌, ◌≤◌, ◌<◌, length, take, get_or, leb, nat_abs};
 ghost use Rattle.std.proofs.lemmas.List.Edits.{sets};
 ghost use Rattle.literal.specs.Ranged.{total};

@@ -1,4 +1,6 @@
 // The call of a learnt clause (document 02, CR 1): judged by Sweep's rule against fresh stamps, then kept in the window or dropped. It opens no pass, and changes neither tables nor state.
+#![tactic(auto)]
+
 ghost use Rattle.std.specs.Prelude.{◌≡◌, List, ℕ, ◌≤◌, length, replicate, ℤ, pos};
 ghost use Rattle.stamp_columns.specs.Columns.{columns};
 ghost use Rattle.hidden_tautologies.specs.Judged.{Judged};

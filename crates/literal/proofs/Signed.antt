@@ -157,7 +157,7 @@ eqb_bits {w} {y} {z} f g = go (eq_z y z) refl
 
 -- an element of an i32 slice that was read into a local, read back: `read xs i c.l.given`, with `let l = xs[i];`
 pub read : (xs : List ℤ) (i : ℕ) → mag (get_or xs i (pos 0)) < 2147483648 → to_z w32 (of_z w32 (get_or xs i (pos 0))) ≡ get_or xs i (pos 0)
-read xs i h = to_z-of_z (record { sfits = h })
+read xs i h = to_z-of_z {w = w32} (record { sfits = h })
 
 -- for `search signed`: what `search rules` does, and the complement, the tests and the casts of an i32
 pub ruleset signed = (rules, neg_fits, neg_is, back, small_fits, small_neg, abs_neg, tested_neg, tested_pos, cast_neg, cast_pos)

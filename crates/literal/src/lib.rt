@@ -1,4 +1,6 @@
 // Literals: a variable v or its complement -v, and their slots 2v - 2 and 2v - 1.
+#![tactic(auto)]
+
 ghost use Rattle.std.specs.Prelude.{◌≡◌, ◌++◌, ◌<◌, ◌≤◌, ◌-◌, length, take, replicate, nat_abs, neg_ℤ, pos};
 ghost use Rattle.std.specs.Int.Signed.{non_neg};
 ghost use Rattle.literal.specs.Literals.{Small, in_range, sign_by, slot_of, lit_at, twin};

@@ -1,6 +1,8 @@
 // A load, of a text or of two that are joined: the formula is judged as a whole, each token being read once and kept as a number, and only
 // then are its clauses laid in the tables, so that a refused load changes nothing. A clause is collected as it is written, and then its repeats are removed. The time is
 // linear in the texts.
+#![tactic(auto)]
+
 ghost use Rattle.std.specs.Prelude.{◌≡◌, List, ℕ, ◌+◌, ◌*◌, ◌≤◌, length, drop, ℤ, pos};
 ghost use Rattle.std.proofs.lemmas.List.Edits.{sets};
 ghost use Rattle.literal.specs.Clauses.{distinct};
@@ -21,7 +23,7 @@ use state::{Answer, Outcome, Refusal, State};
 use window::{Window, Windowed};
 
 // A clause that was laid: how many literals it has as written, how many of them are kept, and whether it has v and -v.
-#[derive(Drop)]
+#[derive(Clone, Copy)]
 struct Written {
     size: usize,
     kept: usize,
@@ -30,7 +32,7 @@ struct Written {
 
 // What is laid so far: the number of clauses, where the literals of the next clause start, where its numbers begin, and whether
 // one of the laid clauses is empty.
-#[derive(Drop)]
+#[derive(Clone, Copy)]
 struct Progress {
     clauses: usize,
     start: usize,

@@ -1,5 +1,7 @@
 // Merge, resumable. Its opening makes the strongly connected components of the implication graph classes, unless one has a variable with both signs;
 // its visits put class literals into the clauses.
+#![tactic(auto)]
+
 ghost use Rattle.std.specs.Prelude.{◌≡◌, false, List, ℕ, ◌*◌, length, ℤ};
 ghost use Rattle.tables.specs.Lent.{lent, returned, unlent};
 ghost use Rattle.tables.specs.Calls.{after};

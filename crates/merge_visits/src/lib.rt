@@ -1,4 +1,6 @@
 // The visits of Merge: class literals are put into a clause, repeats go, and a clause with both signs of a variable is dropped.
+#![tactic(auto)]
+
 ghost use Rattle.std.specs.Prelude.{◌≡◌, List, map, ℕ, ◌-◌, ◌≤◌, length, ℤ};
 ghost use Rattle.repeats.specs.Marks.{no_marks};
 ghost use Rattle.tables.specs.Lent.{lent, returned, unlent};

@@ -1,4 +1,6 @@
 // Where each variable occurs, and which clauses are pending: still to be visited. The places of a variable are a chain, from its last place to its first; pending clauses are searched by blocks of 64.
+#![tactic(auto)]
+
 ghost use Rattle.std.specs.Prelude.{◌≡◌, false, ◌+◌, ◌*◌, ◌/◌, ◌≤◌, ◌<◌, length, get_or, set};
 ghost use Rattle.occurrences.specs.Chains.{Linkable, Linking, ChainRoom};
 ghost use Rattle.occurrences.specs.Pending.{Covered, Skippable, HasChain, PendingAll};

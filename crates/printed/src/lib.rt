@@ -1,4 +1,6 @@
 // What the program `unhide` prints for an input.
+#![tactic(auto)]
+
 ghost use Rattle.std.specs.Prelude.{◌≡◌, ◌≤◌, take, replicate};
 ghost use Rattle.simplify.specs.Texts.{unhide_text};
 

@@ -1,5 +1,7 @@
 // The text of literals, clauses, the header and a refusal. A function here stores its bytes from `at` on, as far as `out` reaches, and gives the
 // place behind them; on an empty `out` it only measures.
+#![tactic(auto)]
+
 ghost use Rattle.std.specs.Prelude.{◌≡◌, ◌+◌, ◌<◌, ◌^◌, length, set};
 ghost use Rattle.std.proofs.lemmas.List.Edits.{sets};
 ghost use Rattle.literal.specs.Literals.{Small, EachSmall};

@@ -1,4 +1,6 @@
 // The rules that a programme keeps (document 02, CR 5), checked in one walk over its codes, and a programme made of codes that are lent.
+#![tactic(auto)]
+
 ghost use Rattle.std.specs.Prelude.{◌≡◌, ◌≤◌, length};
 ghost use Rattle.base.specs.Decide.{Decides};
 ghost use Rattle.state.specs.Programmes.{programme_of};
@@ -8,7 +10,7 @@ ghost use Rattle.programmes.specs.Judging.{fits_by, stamped_by, first_offending,
 use state::{FAILED, Programme, SETTLE, STAMP, SWEEP};
 
 // What is said of a list of codes: it keeps the rules, or the index of the first code that breaks them, 0 for a wrong length.
-#[derive(Drop)]
+#[derive(Clone, Copy)]
 pub enum Judgement {
     Passes,
     Offends(usize),

@@ -1,4 +1,6 @@
 // Propagate: unit propagation over the clauses in the tables, resumable. The visits that change nothing are skipped.
+#![tactic(auto)]
+
 ghost use Rattle.std.specs.Prelude.{◌≡◌, false, ℕ, ◌<◌, List, ℤ};
 ghost use Rattle.visits.specs.Formed.{Formed};
 ghost use Rattle.visits.specs.Visited.{visit_of, visit_at};

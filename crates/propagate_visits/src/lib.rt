@@ -1,4 +1,6 @@
 // The visits of Propagate: unit propagation over one clause in the tables, and where the pass then stands.
+#![tactic(auto)]
+
 ghost use Rattle.std.specs.Prelude.{◌≡◌, false, ℕ, ◌+◌, ◌≤◌, ◌<◌, length, List, ℤ};
 ghost use Rattle.base.specs.Lists.{any};
 ghost use Rattle.tables.specs.Values.{is_true};
@@ -13,7 +15,7 @@ ghost use Rattle.tables.specs.Lent.{lent, returned, unlent};
 use visits::Visited;
 
 // Where the pass stands: before a clause, with the change flag; it has gone through the clauses with no change; it has met the empty clause.
-#[derive(Drop)]
+#[derive(Clone, Copy)]
 pub enum Stand {
     Going(u32, bool),
     Settled,
@@ -21,7 +23,7 @@ pub enum Stand {
 }
 
 // The visits made, and where the pass then stands.
-#[derive(Drop)]
+#[derive(Clone, Copy)]
 pub struct Reach {
     pub visits: u32,
     pub stand: Stand,

@@ -2,6 +2,8 @@
 // one less, and between the two calls a newcomer judged by the stamps, and what the Sweep will do to clause 3 explained. All records are filled with 7s
 // before, so that those that stayed are seen. The records are passed by value, with the number of them that is lent: only `stamp_lent`, `learn_lent`,
 // `explain_lent` and `sweep_lent` make a loan of records, and each of them makes one call.
+#![tactic(auto)]
+
 ghost use Rattle.std.specs.Prelude.{◌≤◌};
 
 mod words;
@@ -15,7 +17,7 @@ use words::{end_line, print, print_answer, print_number};
 // ---- the calls, with the first records lent
 
 // What Stamp leaves: all records, and the outcome.
-#[derive(Drop)]
+#[derive(Clone, Copy)]
 struct Recorded {
     records: [StampRecord; 2049],
     outcome: Outcome,

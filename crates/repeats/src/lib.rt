@@ -1,4 +1,6 @@
 // Repeated literals of one clause removed, in time linear in the clause: each literal has a mark, which tells whether it was kept.
+#![tactic(auto)]
+
 ghost use Rattle.std.specs.Prelude.{◌≡◌, length};
 ghost use Rattle.literal.specs.Literals.{Literal};
 ghost use Rattle.literal.specs.Clauses.{distinct, tautology};
@@ -6,7 +8,7 @@ ghost use Rattle.literal.specs.Holding.{holding};
 ghost use Rattle.repeats.specs.Marks.{mark_of, Markable, Unmarkable, with_mark, FirstsKept};
 
 // What is left of a clause without repeats: how many literals, and whether some variable stands in it with both signs.
-#[derive(Drop)]
+#[derive(Clone, Copy)]
 pub struct Distinct {
     pub count: usize,
     pub both: bool,

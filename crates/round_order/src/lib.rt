@@ -1,4 +1,6 @@
 // The order in which a round of Run stamps.
+#![tactic(auto)]
+
 ghost use Rattle.std.specs.Prelude.{◌≡◌, map, ◌+◌, ◌*◌, ◌%◌, ◌≤◌, ◌<◌, length};
 ghost use Rattle.base.specs.Lists.{numbers};
 ghost use Rattle.literal.specs.Literals.{lit_at};

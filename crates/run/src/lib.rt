@@ -1,4 +1,6 @@
 // Run: rounds of the passes that the state's programme names.
+#![tactic(auto)]
+
 ghost use Rattle.std.specs.Prelude.{◌≡◌, true, ◌||◌, List, ℕ, ◌+◌, ◌*◌, ◌≤◌, ◌<◌, length, ℤ};
 ghost use Rattle.base.specs.Lists.{all_below, same_list};
 ghost use Rattle.literal.specs.Literals.{eq_z};
@@ -23,14 +25,14 @@ use stamp::Ruling;
 use state::{Answer, FAILED, Outcome, Programme, SETTLE, STAMP, SWEEP, State};
 
 // What a round leaves, and whether the run stops after it.
-#[derive(Drop)]
+#[derive(Clone, Copy)]
 pub struct Turn {
     pub state: State,
     pub stop: bool,
 }
 
 // The rounds made, and the state after them.
-#[derive(Drop)]
+#[derive(Clone, Copy)]
 pub struct Made {
     pub made: u32,
     pub state: State,

@@ -1,4 +1,6 @@
 // The call that replaces the programme which Run follows (document 02, CR 5). An open pass and the mark do not matter to it, and it changes no table.
+#![tactic(auto)]
+
 ghost use Rattle.std.specs.Prelude.{◌≡◌};
 ghost use Rattle.tables.specs.Lent.{lent, returned};
 ghost use Rattle.tables.specs.Calls.{after};

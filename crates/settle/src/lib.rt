@@ -1,4 +1,6 @@
 // Settle: whole Propagate and Merge passes until a Merge finds only groups of one.
+#![tactic(auto)]
+
 ghost use Rattle.std.specs.Prelude.{◌≡◌, false, List, ℕ, ℤ};
 ghost use Rattle.tables.specs.Lent.{lent, returned, unlent};
 ghost use Rattle.visits.specs.Formed.{Variables, Formed};
@@ -10,7 +12,7 @@ ghost use Rattle.settle.specs.Steps.{standing_in, passed, both_passes};
 use state::State;
 
 // The state after a Propagate and a Merge, and whether they are to be repeated.
-#[derive(Drop)]
+#[derive(Clone, Copy)]
 pub struct Step {
     pub state: State,
     pub again: bool,

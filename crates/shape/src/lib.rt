@@ -1,4 +1,6 @@
 // The shape rule of specs/Shape.antt, checked in linear time.
+#![tactic(auto)]
+
 ghost use Rattle.std.specs.Prelude.{◌≡◌, true, false, ℕ, ◌+◌, ◌*◌, ◌≤◌, ◌<◌, length, replicate, pos};
 ghost use Rattle.base.specs.Decide.{Decides};
 ghost use Rattle.tables.specs.Tables.{class_of};

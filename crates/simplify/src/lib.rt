@@ -1,4 +1,6 @@
 // The call on texts: a formula is loaded, simplified and written in one call, on tables of its own.
+#![tactic(auto)]
+
 ghost use Rattle.std.specs.Prelude.{◌≡◌, length};
 ghost use Rattle.state.specs.Answers.{reply_of};
 ghost use Rattle.tables.specs.Lent.{lent, returned};

@@ -1,4 +1,6 @@
 // Slices copied and compared, element by element.
+#![tactic(auto)]
+
 ghost use Rattle.std.specs.Prelude.{◌≡◌, ◌≤◌, length, take, eqb};
 ghost use Rattle.base.specs.Lists.{same_list};
 ghost use Rattle.literal.specs.Literals.{eq_z};

@@ -1,4 +1,6 @@
 // The value in every variable's record: behind a pass, each variable gets the value of its class literal.
+#![tactic(auto)]
+
 ghost use Rattle.std.specs.Prelude.{◌≡◌, pos};
 ghost use Rattle.visits.specs.Formed.{Variables, Known};
 ghost use Rattle.spread.specs.Spread.{spread_at, spread};

@@ -1,4 +1,6 @@
 // Stamp: whole in one call, over an order of all literals.
+#![tactic(auto)]
+
 ghost use Rattle.std.specs.Prelude.{◌≡◌, false, List, map, ℕ, ◌*◌, ◌≤◌, ℤ};
 ghost use Rattle.literal.specs.Literals.{slot_of};
 ghost use Rattle.implications.specs.Clauses.{implications};
@@ -15,7 +17,7 @@ use entry::Opening;
 use state::{Answer, Outcome, Refusal, State};
 
 // Whether the call is refused before the graph is walked, or is fit.
-#[derive(Drop)]
+#[derive(Clone, Copy)]
 pub enum Ruling {
     No(Refusal),
     Fit,

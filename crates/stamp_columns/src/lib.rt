@@ -1,4 +1,6 @@
 // The stamps of a slot, as the walk's columns have them, and how the intervals of two slots lie.
+#![tactic(auto)]
+
 ghost use Rattle.std.specs.Prelude.{◌≡◌, [], ◌+◌, ◌*◌, ◌<◌, length};
 ghost use Rattle.walk.specs.Forest.{discovery_at, finish_at, parent_at};
 ghost use Rattle.stamp_columns.specs.Columns.{columns};

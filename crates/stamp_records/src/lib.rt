@@ -1,10 +1,12 @@
 // A stamp record for each literal in a slice that the caller lends, and the two columns of numbers that the passes work on: the copies between them.
+#![tactic(auto)]
+
 ghost use Rattle.std.specs.Prelude.{◌≡◌, ◌+◌, ◌*◌, ◌<◌, ◌≤◌, min, length, take};
 ghost use Rattle.stamp_records.specs.Records.{record_at, times_put, links_put, times_in, links_in, records_in, over, times_of, links_of, packed, held_times, held_links};
 
 // The stamps of one literal.
 #[repr(C)]
-#[derive(Drop)]
+#[derive(Clone, Copy)]
 pub struct StampRecord {
     pub discovery: u32,
     pub finish: u32,
@@ -13,7 +15,7 @@ pub struct StampRecord {
 }
 
 // The columns by value, with the numbers of `count` records; the places after those are 0. A function that takes them so needs no loan of records.
-#[derive(Drop)]
+#[derive(Clone, Copy)]
 pub struct Columns {
     pub times: [u32; 4096],
     pub links: [i32; 4096],

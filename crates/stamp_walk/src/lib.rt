@@ -1,4 +1,6 @@
 // Stamp's core: the walk of the implication graph from an order of its slots, the test for a cycle, and the stamp records.
+#![tactic(auto)]
+
 ghost use Rattle.std.specs.Prelude.{◌≡◌, not, false, List, ◌++◌, map, ℕ, ◌+◌, ◌*◌, ◌<◌, ◌≤◌, length, get_or, drop, replicate};
 ghost use Rattle.base.specs.Lists.{absent, interleave};
 ghost use Rattle.literal.specs.Literals.{slot_of, lit_at};

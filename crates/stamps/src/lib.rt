@@ -1,4 +1,6 @@
 // Fresh stamps: a check in linear time of the rule that specs/Fresh.antt states.
+#![tactic(auto)]
+
 ghost use Rattle.std.specs.Prelude.{◌≡◌, true, false, List, ℕ, ◌+◌, ◌*◌, ◌≤◌, ◌<◌, length, replicate};
 ghost use Rattle.base.specs.Decide.{Decides};
 ghost use Rattle.stamps.specs.Fresh.{Times, FreshStamps};

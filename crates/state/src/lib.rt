@@ -1,11 +1,13 @@
 // The types that all calls share: the state that goes with the tables, the refusals, and the answers.
+#![tactic(auto)]
+
 ghost use Rattle.std.specs.Prelude.{◌≡◌, ◌-◌, ◌^◌, ◌≤◌};
 ghost use Rattle.state.specs.Answers.{refusal_number, refusal_place, verdict_number, reply_of, first_value, result_by};
 ghost use Rattle.state.specs.Programmes.{constant_programme};
 ghost use Rattle.state.specs.States.{state, loaded_state, empty_state, opened, closed, marked, programmed};
 
 // The pass that is open, with its cursor: the number of clauses visited in this time through. Propagate has a change flag besides.
-#[derive(Drop)]
+#[derive(Clone, Copy)]
 pub enum Pass {
     Idle,
     Propagate(u32, bool),
@@ -26,7 +28,7 @@ pub const SWEEP: u32 = 4;
 const PROGRAMME: [u32; 4] = [SETTLE, STAMP, FAILED, SWEEP];
 
 // The pass codes that each round of Run follows: the first `length` of them. What stands behind is not looked at.
-#[derive(Drop)]
+#[derive(Clone, Copy)]
 pub struct Programme {
     pub codes: [u32; 32],
     pub length: u32,
@@ -47,7 +49,7 @@ impl Programme {
 }
 
 // The small state of document 01: V, N, the open pass, whether stamps are fresh, and the mark (no assignment is left); and the programme of document 02.
-#[derive(Drop)]
+#[derive(Clone, Copy)]
 pub struct State {
     pub v: u32,
     pub n: u32,
@@ -117,7 +119,7 @@ impl State {
 }
 
 // The refusals, with their places; `refusal_number` of specs/Answers.antt gives the documents' numbers.
-#[derive(Drop)]
+#[derive(Clone, Copy)]
 pub enum Refusal {
     // a table is shorter than stated, or the shape rule fails
     Shape,
@@ -199,7 +201,7 @@ impl Refusal {
 }
 
 // What a call of a resumable pass did: visits made, clauses gone and literals gone.
-#[derive(Drop)]
+#[derive(Clone, Copy)]
 pub struct Counts {
     pub visits: u32,
     pub clauses: u32,
@@ -207,7 +209,7 @@ pub struct Counts {
 }
 
 // What a Sweep would do to a clause: nothing, drop it, or take literals out.
-#[derive(Drop)]
+#[derive(Clone, Copy)]
 pub enum Verdict {
     Nothing,
     Drop,
@@ -227,7 +229,7 @@ impl Verdict {
 }
 
 // What the calls answer.
-#[derive(Drop)]
+#[derive(Clone, Copy)]
 pub enum Answer {
     Refused(Refusal),
     // load
@@ -290,7 +292,7 @@ impl Answer {
 }
 
 // An answer and the state after it.
-#[derive(Drop)]
+#[derive(Clone, Copy)]
 pub struct Outcome {
     pub answer: Answer,
     pub state: State,

@@ -1,4 +1,6 @@
 // Sweep: hidden tautologies are dropped and hidden literals removed, by fresh stamps, clause by clause, resumable.
+#![tactic(auto)]
+
 ghost use Rattle.std.specs.Prelude.{◌≡◌, true, List, ◌≤◌, ℤ};
 ghost use Rattle.tables.specs.Lent.{lent, returned, unlent};
 ghost use Rattle.tables.specs.Calls.{after};

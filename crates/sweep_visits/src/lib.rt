@@ -1,4 +1,6 @@
 // The visits of Sweep: hidden tautologies are dropped and hidden literals removed, by fresh stamps, clause by clause.
+#![tactic(auto)]
+
 ghost use Rattle.std.specs.Prelude.{◌≡◌, List, ℕ, ◌+◌, ◌≤◌, length, ℤ};
 ghost use Rattle.stamp_columns.specs.Columns.{columns};
 ghost use Rattle.tables.specs.Lent.{lent, returned, unlent};

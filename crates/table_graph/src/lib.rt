@@ -1,4 +1,6 @@
 // The implication graph of the tables: the list of edges of the two-literal clauses, in clause order, and its compressed form.
+#![tactic(auto)]
+
 ghost use Rattle.std.specs.Prelude.{◌≡◌, [], ◌∷◌, ◌+◌, ◌*◌, ◌<◌, ◌≤◌, ℕ, length, get_or};
 ghost use Rattle.std.proofs.lemmas.List.Edits.{sets};
 ghost use Rattle.literal.specs.Literals.{twin};

@@ -1,4 +1,6 @@
 // The tables that a caller lends: their stated lengths.
+#![tactic(auto)]
+
 ghost use Rattle.base.specs.Decide.{Decides};
 ghost use Rattle.tables.specs.Lent.{lent};
 ghost use Rattle.tables.specs.Long.{Long};

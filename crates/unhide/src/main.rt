@@ -1,4 +1,6 @@
 // Reads a formula as DIMACS text from standard input, simplifies it in one round, and prints what is left, or the refusal. A read or a write that fails is said on standard error.
+#![tactic(auto)]
+
 use libc::{STDERR_FILENO, STDIN_FILENO, STDOUT_FILENO};
 
 // Whether the next read does not fail. `io::read_full` takes a read that fails for the end of the input; at the end a read gives no bytes, and one that failed fails again.

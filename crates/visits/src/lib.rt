@@ -1,4 +1,6 @@
 // Classes and values of literals, and the clauses in the tables: what the passes that visit clauses share.
+#![tactic(auto)]
+
 ghost use Rattle.std.specs.Prelude.{◌≡◌, ◌*◌, ◌-◌, ◌≤◌, min, ℕ, ◌+◌, ◌<◌, take, length, set, List, ℤ};
 ghost use Rattle.tables.specs.Values.{class_literal, own_truth, truth, is_true, is_false, set_true};
 ghost use Rattle.tables.specs.Clauses.{standing_count, literal_count};
@@ -110,7 +112,7 @@ fn drop_record(clauses: &mut [u32], k: usize)
 }
 
 // What a visit makes of a clause: nothing changes; so many literals are left; it is dropped; it is dropped and its last literal, of this variable, made true; it stands empty.
-#[derive(Drop)]
+#[derive(Clone, Copy)]
 pub enum Visited {
     Kept,
     Left(u32),
@@ -136,7 +138,7 @@ pub fn put_record(clauses: &mut [u32], k: usize, seen: Visited)
 // ---- counts
 
 // How many clauses stand, and how many literals stand in them.
-#[derive(Drop)]
+#[derive(Clone, Copy)]
 pub struct Totals {
     pub clauses: u32,
     pub literals: u32,

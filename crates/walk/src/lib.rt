@@ -1,4 +1,6 @@
 // Stamp: a depth-first walk of a graph in compressed form, as two functions in a cycle.
+#![tactic(auto)]
+
 ghost use Rattle.std.specs.Prelude.{◌≡◌, ℕ, ◌+◌, ◌<◌, ◌≤◌, length, get_or, replicate};
 ghost use Rattle.walk.specs.Walk.{enters, start_walk, edge, edges, fresh};
 ghost use Rattle.walk.specs.Compressed.{adj_of, stamps, Graph, Columns};

@@ -1,4 +1,6 @@
 // The window of learnt clauses (document 02, CR 1): its rule checked in linear time, a clause kept, and the eldest leaving.
+#![tactic(auto)]
+
 ghost use Rattle.std.specs.Prelude.{◌≡◌, List, ℕ, ◌+◌, ◌*◌, ◌≤◌, ◌<◌, length, replicate, set, ℤ};
 ghost use Rattle.std.proofs.lemmas.List.Edits.{sets};
 ghost use Rattle.base.specs.Decide.{Decides};
@@ -10,14 +12,14 @@ ghost use Rattle.window.specs.Rule.{Learnable, Newcomer, LongWindow, WindowRule,
 use state::Outcome;
 
 // What goes with the two tables that are lent: the number of clauses in the window, and their literals together.
-#[derive(Drop)]
+#[derive(Clone, Copy)]
 pub struct Window {
     pub clauses: u32,
     pub literals: u32,
 }
 
 // What a call that takes the window gives back.
-#[derive(Drop)]
+#[derive(Clone, Copy)]
 pub struct Windowed {
     pub outcome: Outcome,
     pub window: Window,

@@ -1,5 +1,7 @@
 // Writing what stands as text. A function `put_..` stores its bytes from `at` on, as far as `out` reaches, and gives the place behind
 // them; on an empty `out` it only measures. So the text is measured and written by the same functions.
+#![tactic(auto)]
+
 ghost use Rattle.std.specs.Prelude.{◌≡◌, ℕ, ◌+◌, ◌*◌, ◌≤◌, ◌<◌, ◌^◌, List, length, take, drop, ℤ};
 ghost use Rattle.std.specs.Int.Signed.{non_neg};
 ghost use Rattle.literal.specs.Literals.{Literal, lit_by, EachSmall};

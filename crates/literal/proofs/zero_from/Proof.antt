@@ -34,37 +34,47 @@ step {p₀} {p} {k} {i} f h = record {
 end : {p₀ p : List ℤ} {k i : ℕ} → Filled p₀ k p i → length p ≤ i → p ≡ take k p₀ ++ replicate (length p₀ - k) (pos 0)
 end {p₀} {p} {k} {i} f h = let q : length p₀ ≡ i = omega arith in rw (q, ← f.front) (sym (take_all i p h))
 
-abbrev invariant-loop : tie.invariant-loop
+abbrev invariant-loop : tie.invariant-loop-i
 invariant-loop part₀ from i₀ part i = Filled part₀ from part i
 
-abbrev decreases-loop : tie.decreases-loop
+abbrev decreases-loop : tie.decreases-loop-i
 decreases-loop part₀ from i₀ part i = length part - i
 
-loop-holds : tie.Need-loop-init invariant-loop decreases-loop
+loop-holds : tie.Need-loop-i-init invariant-loop decreases-loop
 loop-holds c = start c.requires
 
-mul-part : tie.Need-overflow-mul-part invariant-loop decreases-loop
+mul-part : tie.Need-offset_bounds-part-i invariant-loop decreases-loop
 mul-part c = search rules
 
-slice-set-of-part : tie.Need-slice-set-of-part invariant-loop decreases-loop
+slice-set-of-part : tie.Need-slice_set_of-part invariant-loop decreases-loop
 slice-set-of-part c = search rules
 
-add-i : tie.Need-overflow-add-i invariant-loop decreases-loop
+add-i : tie.Need-overflow_add-i invariant-loop decreases-loop
 add-i c = search rules
 
-loop-less : tie.Need-loop-smaller invariant-loop decreases-loop
+loop-less : tie.Need-loop-i-smaller invariant-loop decreases-loop
 loop-less c = simp length-set (omega arith)
 
-loop-again : tie.Need-loop-preserved invariant-loop decreases-loop
-loop-again c = step c.before.loop.invariant c.loop-test.true
+loop-again : tie.Need-loop-i-preserved invariant-loop decreases-loop
+loop-again c = step c.loop-i.invariant c.loop-i-test.true
 
-same_length : tie.Need-same-length invariant-loop decreases-loop
-same_length c = c.before.loop.invariant.same
+same_length : tie.Need-shape_of-part invariant-loop decreases-loop
+same_length c = c.loop-i.invariant.same
 
 returns : tie.Need-returns invariant-loop decreases-loop
-returns c = end c.before.loop.invariant c.loop-test.false
+returns c = end c.loop-i.invariant c.loop-i-test.false
 
-pub zero-from-spec : {M : Type 1} → statement M
-zero-from-spec =
+pub zero_from_spec : {M : Type 1} → statement M
+zero_from_spec =
     tie.close
-    (tie.spec invariant-loop decreases-loop loop-holds mul-part slice-set-of-part add-i loop-less loop-again same_length returns)
+    (tie.spec
+    invariant-loop
+    decreases-loop
+    loop-holds
+    mul-part
+    slice-set-of-part
+    add-i
+    loop-less
+    loop-again
+    same_length
+    returns)

@@ -8,44 +8,44 @@ use borrow.Author.Rules.{rules}
 use Rattle.slices.proofs.copy_literals.Statement.{statement}
 use Rattle.slices.proofs.copy_literals.Tie as tie
 
-abbrev invariant-loop : tie.invariant-loop
+abbrev invariant-loop : tie.invariant-loop-i
 invariant-loop from to₀ i₀ to i = Copying from to₀ to i
 
-abbrev decreases-loop : tie.decreases-loop
+abbrev decreases-loop : tie.decreases-loop-i
 decreases-loop from to₀ i₀ to i = length to₀ - i
 
-loop-holds : tie.Need-loop-init invariant-loop decreases-loop
+loop-holds : tie.Need-loop-i-init invariant-loop decreases-loop
 loop-holds c = copying_none _ _
 
-mul-to : tie.Need-overflow-mul-to invariant-loop decreases-loop
+mul-to : tie.Need-offset_bounds-from-i invariant-loop decreases-loop
 mul-to c = search rules
 
-shared-slice-copy-out-to : tie.Need-shared-slice-copy-out-to invariant-loop decreases-loop
+shared-slice-copy-out-to : tie.Need-bounds-from-i invariant-loop decreases-loop
 shared-slice-copy-out-to c = search rules
 
-mul-t8 : tie.Need-overflow-mul-t8 invariant-loop decreases-loop
+mul-t8 : tie.Need-offset_bounds-to-i invariant-loop decreases-loop
 mul-t8 c = search rules
 
-slice-set-from-to : tie.Need-slice-set-from-to invariant-loop decreases-loop
+slice-set-from-to : tie.Need-bounds-to-i invariant-loop decreases-loop
 slice-set-from-to c = search rules
 
-add-i : tie.Need-overflow-add-i invariant-loop decreases-loop
+add-i : tie.Need-overflow_add-i invariant-loop decreases-loop
 add-i c = search rules
 
-loop-less : tie.Need-loop-smaller invariant-loop decreases-loop
+loop-less : tie.Need-loop-i-smaller invariant-loop decreases-loop
 loop-less c = search rules
 
-loop-again : tie.Need-loop-preserved invariant-loop decreases-loop
-loop-again c = copying_more c.before.before.loop.invariant (pos 0) _ c.before.before.before.requires c.before.loop-test.true (read c.before.before.before.args.from.now c.before.before.loop.i c.to.given)
+loop-again : tie.Need-loop-i-preserved invariant-loop decreases-loop
+loop-again c = copying_more c.before.before.loop-i.invariant (pos 0) _ c.before.before.before.requires c.before.loop-i-test.true (read c.before.before.before.args.from.now c.before.before.loop-i.i c.to-1.given)
 
-same_length : tie.Need-same-length invariant-loop decreases-loop
+same_length : tie.Need-shape_of-to invariant-loop decreases-loop
 same_length c = search rules
 
 returns : tie.Need-returns invariant-loop decreases-loop
-returns c = copying_all c.before.loop.invariant c.loop-test.false
+returns c = copying_all c.before.loop-i.invariant c.loop-i-test.false
 
-pub copy-literals-spec : {M : Type 1} → statement M
-copy-literals-spec =
+pub copy_literals_spec : {M : Type 1} → statement M
+copy_literals_spec =
     tie.close
     (tie.spec
     invariant-loop
