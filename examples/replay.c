@@ -10,8 +10,6 @@
  *     learn L L ..                a learnt clause, at most 4,096 literals
  *     write K                     into an output of K bytes, at most 131,072
  *     explain I K                 what a Sweep would do to clause I, and why, into an output of K bytes, at most 131,072
- *     groups K                    how many groups the standing clauses have, and each variable's group, into an output of K numbers, at most 1,040
- *     group G K                   the clauses of group G by themselves, into an output of K bytes, at most 131,072
  *     state, codes, clauses, literals, variables, stamps, window
  *     compare P Q                 how the intervals of two literals lie, by the stamps as they stand
  *     lend TABLE K                from now on the calls are lent the first K records of a table
@@ -81,9 +79,6 @@ static struct table tables[TABLES] = {
     {"sizes", UNHIDE_LEARNT, UNHIDE_LEARNT},
     {"learnt", UNHIDE_LEARNT * UNHIDE_LEARNT_LITERALS, UNHIDE_LEARNT * UNHIDE_LEARNT_LITERALS},
 };
-
-/* As the tables, an output of numbers can be lent longer than any formula needs. */
-enum { MOST_NUMBERS = UNHIDE_VARIABLES + EXTRA };
 
 /* ---- lending */
 
@@ -464,13 +459,6 @@ static int take_programme(const struct line *line) {
 /* The outputs of the calls that write text. */
 static uint8_t room[MOST_ROOM];
 
-/* The answer of a call that has written its value in bytes, and these. */
-static void print_written(int64_t result) {
-    print_answer(result, "written", 1);
-    if (result == 0)
-        fwrite(room, 1, (size_t)answer[0], stdout);
-}
-
 static int take_write(const struct line *line) {
     int64_t length;
     if (!read_number(line->words[1], 0, MOST_ROOM, &length))
@@ -481,7 +469,9 @@ static int take_write(const struct line *line) {
     int64_t result = unhide_write(LENT(loan), out, size);
     take_back(room, out, size);
     take_all_back(loan);
-    print_written(result);
+    print_answer(result, "written", 1);
+    if (result == 0)
+        fwrite(room, 1, (size_t)answer[0], stdout);
     return 1;
 }
 
@@ -501,44 +491,6 @@ static int take_explain(const struct line *line) {
     }
     printf("explained %" PRIu64 " %" PRIu64 " %" PRIu64 "\n", answer[0], answer[1], answer[2]);
     fwrite(room, 1, (size_t)answer[2], stdout);
-    return 1;
-}
-
-/* The numbers of all variables on a line, which is empty where there are none. */
-static void print_numbers(const uint32_t *numbers) {
-    for (uint32_t i = 0; i < state[V]; i++)
-        printf(i == 0 ? "%" PRIu32 : " %" PRIu32, numbers[i]);
-    printf("\n");
-}
-
-static int take_groups(const struct line *line) {
-    static uint32_t numbers[MOST_NUMBERS];
-    int64_t length;
-    if (!read_number(line->words[1], 0, MOST_NUMBERS, &length))
-        return 0;
-    size_t count = (size_t)length;
-    struct loan loan = lend_all();
-    uint32_t *out = lend(numbers, count * sizeof numbers[0]);
-    int64_t result = unhide_groups(LENT(loan), out, count);
-    take_back(numbers, out, count * sizeof numbers[0]);
-    take_all_back(loan);
-    print_answer(result, "groups", 1);
-    if (result == 0)
-        print_numbers(numbers);
-    return 1;
-}
-
-static int take_group(const struct line *line) {
-    int64_t number, length;
-    if (!read_number(line->words[1], 0, UINT32_MAX, &number) || !read_number(line->words[2], 0, MOST_ROOM, &length))
-        return 0;
-    size_t size = (size_t)length;
-    struct loan loan = lend_all();
-    uint8_t *out = lend(room, size);
-    int64_t result = unhide_group(LENT(loan), (uint32_t)number, out, size);
-    take_back(room, out, size);
-    take_all_back(loan);
-    print_written(result);
     return 1;
 }
 
@@ -750,8 +702,6 @@ static const struct form forms[] = {
     {"programme", 1, MOST_CODES + 1, take_programme},
     {"write", 2, 2, take_write},
     {"explain", 3, 3, take_explain},
-    {"groups", 2, 2, take_groups},
-    {"group", 3, 3, take_group},
     {"state", 1, 1, take_state},
     {"codes", 1, 1, take_codes},
     {"clauses", 1, 1, take_clauses},

@@ -25,9 +25,9 @@ extern "C" {
  *    -3   the formula is larger than the limits above, names a variable that its header does not have,
  *         or has more or fewer clauses than its header says
  *   -10   the output is shorter than the text to write
- * The other refusals of the library, -1, -4 to -9, -11 to -13, -15 and -17, are about tables, passes, stamps, learnt clauses, programmes,
- * clause numbers, linked variables and group numbers that a caller gives; here none of these is given, and the rounds are those of the
- * constant programme. The same law says that nothing else is returned.
+ * The other refusals of the library, -1, -4 to -9, -11 to -13 and -15, are about tables, passes, stamps, learnt clauses, programmes, clause
+ * numbers and linked variables that a caller gives; here none of these is given, and the rounds are those of the constant programme.
+ * The same law says that nothing else is returned.
  *
  * A formula that has an empty clause is written without a round, as `p cnf V 1` and the clause `0`; a formula that turns out
  * to have no satisfying assignment is written alike.
@@ -58,15 +58,12 @@ int64_t unhide_text(const uint8_t *text, size_t text_len, uint16_t rounds, uint8
  *   unhide_write           writes what stands as DIMACS text; changes neither tables nor state
  *   unhide_explain         says what a Sweep would do to a clause, under fresh stamps, and writes the chains of literals that show why;
  *                          changes neither tables nor state
- *   unhide_groups          finds the groups of the standing clauses and gives for each variable the number of its group; changes neither
- *                          tables nor state
- *   unhide_group           writes one group's clauses as DIMACS text, to be loaded and simplified by itself; changes neither tables nor state
  *   unhide_compare         says how the intervals of two literals lie, by the stamps as they stand; needs no state and changes nothing
  *
  * A call of Propagate, Merge or Sweep opens its pass, or resumes it where it is open, and makes at most n visits to clauses; Propagate goes
  * through the clauses again until one time through changes nothing. Where the answer says open, visits are left, and another call
- * goes on where this one stopped. While a pass is open the other passes, Learn, Explain, Groups, Group and Run are refused; Load, Join,
- * Write and Set programme are not.
+ * goes on where this one stopped. While a pass is open the other passes, Learn, Explain and Run are refused; Load, Join, Write and
+ * Set programme are not.
  * Opening Propagate or Merge, the end of Sweep, the mark, a load and a join spend the stamps: they are fresh no more.
  *
  * Most callers use unhide_tables_load and so on, further below, with one `struct unhide_tables`. The calls that these make take a pointer
@@ -103,9 +100,9 @@ enum unhide_refusal {
      * call keeps: then nothing was loaded, or the caller has written into them; Learn: the window breaks its rules (struct unhide_window).
      * Compare looks at no rules: it refuses fewer times than stated and literals that are not of the variables */
     UNHIDE_SHAPE = -1,
-    /* the passes, Learn, Explain, Groups, Group and Run: a pass is open, other than the one that this call resumes */
+    /* the passes, Learn, Explain and Run: a pass is open, other than the one that this call resumes */
     UNHIDE_OTHER_PASS = -4,
-    /* the passes, Learn, Explain, Groups, Group and Run: the mark is set, no assignment satisfies the formula */
+    /* the passes, Learn, Explain and Run: the mark is set, no assignment satisfies the formula */
     UNHIDE_MARKED = -5,
     /* Stamp: the list is not all 2V literals, each once. Place: the index of the first wrong entry, 0 for a wrong length */
     UNHIDE_ORDER = -8,
@@ -125,10 +122,7 @@ enum unhide_refusal {
     UNHIDE_LINK = -15,
     /* Explain: no clause has this number, or the clause was dropped */
     UNHIDE_NO_CLAUSE = -13,
-    /* Group: there is no group of this number: it is 0, or above the count */
-    UNHIDE_NO_GROUP = -17,
-    /* Write, Explain, Groups, Group: the output is too short. Place: the length that is needed, for Write at most 135,184; for Groups it
-     * counts numbers, one for each variable */
+    /* Write, Explain: the output is too short. Place: the length that is needed, for Write at most 135,184 */
     UNHIDE_OUTPUT = -10,
     /* Learn: the clause has more than 64 literals, or one that is 0, not of the variables or of a variable already in it */
     UNHIDE_NEWCOMER = -11,
@@ -251,8 +245,8 @@ struct unhide_tables {
 };
 
 /* What a call answers where it was made, 0 where it has nothing to say:
- *   `value`   Propagate, Merge, Sweep: visits made; Failed: values set; Run: rounds made; Write, Group: bytes written;
- *             Groups: the count of groups; Learn: a number of enum unhide_verdict; Explain: a number of enum unhide_explanation
+ *   `value`   Propagate, Merge, Sweep: visits made; Failed: values set; Run: rounds made; Write: bytes written;
+ *             Learn: a number of enum unhide_verdict; Explain: a number of enum unhide_explanation
  *   the rest  Propagate, Merge, Sweep: standing clauses and literals that are gone by this call, and 1 if the pass is still open;
  *             Learn: the literals that are left, in `clauses_gone` (unhide_left reads it);
  *             Explain: the literals that would be taken out, in `clauses_gone`, and the bytes written, in `literals_gone`
@@ -391,36 +385,6 @@ int64_t unhide_explain(const uint32_t *clauses, size_t clauses_len, const int32_
                        const uint32_t *state, size_t state_len, uint64_t *answer, size_t answer_len,
                        uint32_t number, uint8_t *out, size_t out_len);
 
-/* The groups of the standing clauses. Two variables are in one group exactly where a chain of standing clauses joins them, neighbours in the
- * chain sharing a variable. `out` gets for each variable v the number of its group, at place v - 1, or 0 where no standing clause has v.
- * The groups are numbered from 1 by their smallest variable, without a gap, and the answer's value is their count. Later places of `out` stay.
- *
- * Clauses of one literal and of variables with a value may stand. Refused with UNHIDE_SHAPE, UNHIDE_OTHER_PASS (whichever pass is open),
- * UNHIDE_MARKED, UNHIDE_OUTPUT, in this order. An output of 1,024 numbers is never too short. */
-int64_t unhide_groups(const uint32_t *clauses, size_t clauses_len, const int32_t *literals, size_t literals_len,
-                      const int32_t *variables, size_t variables_len,
-                      const uint32_t *times, size_t times_len, const int32_t *links, size_t links_len,
-                      const uint32_t *state, size_t state_len, uint64_t *answer, size_t answer_len, uint32_t *out, size_t out_len);
-
-/* The clauses of group `number`, from 1 to the count that unhide_groups answers, as DIMACS text: the standing clauses that have its variables,
- * in their order and as Write writes them. The variables are renumbered from 1 in rising order, so that the k-th variable of the group is k
- * in the text. Values and classes are not written. Later bytes of `out` stay. The text can be loaded into tables of its own and simplified
- * by itself.
- *
- * The share of an assignment for a group is the truth of the group's variables, read by these numbers: an assignment satisfies the whole
- * exactly when its share of each group satisfies that group's part and it agrees with the values and classes that stand (proved: law
- * `shares-stand`, crate `group_shares`). Where unhide_stamp takes the whole under an order, one Stamp and one Sweep on each group, under the order with
- * the other literals left out, leave the clauses that Stamp and Sweep on the whole leave (law `group-alone`, crate `group_sweeps`). There too literals
- * of a group are read by its numbers.
- *
- * Refused with UNHIDE_SHAPE, UNHIDE_OTHER_PASS (whichever pass is open), UNHIDE_MARKED, UNHIDE_NO_GROUP, UNHIDE_OUTPUT, in this order. A call
- * with an output of no bytes tells the length that is needed. */
-int64_t unhide_group(const uint32_t *clauses, size_t clauses_len, const int32_t *literals, size_t literals_len,
-                     const int32_t *variables, size_t variables_len,
-                     const uint32_t *times, size_t times_len, const int32_t *links, size_t links_len,
-                     const uint32_t *state, size_t state_len, uint64_t *answer, size_t answer_len,
-                     uint32_t number, uint8_t *out, size_t out_len);
-
 /* How the interval of literal p lies to that of literal q: a number of enum unhide_relation. Refused with UNHIDE_SHAPE where fewer than
  * 4,096 times are lent, or where p or q is not v or -v with v from 1 to `variables`, at the most 1,024. It looks at the times alone, whether
  * they are fresh or not.
@@ -541,24 +505,6 @@ static inline int64_t unhide_tables_explain(const struct unhide_tables *tables, 
                           UNHIDE_LENT(const int32_t, tables->variables), UNHIDE_LENT(const uint32_t, tables->times),
                           UNHIDE_LENT(const int32_t, tables->links), UNHIDE_LENT(const uint32_t, tables->state),
                           UNHIDE_LENT(uint64_t, *answer), number, out, out_len);
-}
-
-/* `out_len` counts numbers. */
-static inline int64_t unhide_tables_groups(const struct unhide_tables *tables, uint32_t *out, size_t out_len, struct unhide_answer *answer)
-{
-    return unhide_groups(UNHIDE_LENT(const uint32_t, tables->clauses), UNHIDE_LENT(const int32_t, tables->literals),
-                         UNHIDE_LENT(const int32_t, tables->variables), UNHIDE_LENT(const uint32_t, tables->times),
-                         UNHIDE_LENT(const int32_t, tables->links), UNHIDE_LENT(const uint32_t, tables->state),
-                         UNHIDE_LENT(uint64_t, *answer), out, out_len);
-}
-
-static inline int64_t unhide_tables_group(const struct unhide_tables *tables, uint32_t number, uint8_t *out, size_t out_len,
-                                          struct unhide_answer *answer)
-{
-    return unhide_group(UNHIDE_LENT(const uint32_t, tables->clauses), UNHIDE_LENT(const int32_t, tables->literals),
-                        UNHIDE_LENT(const int32_t, tables->variables), UNHIDE_LENT(const uint32_t, tables->times),
-                        UNHIDE_LENT(const int32_t, tables->links), UNHIDE_LENT(const uint32_t, tables->state),
-                        UNHIDE_LENT(uint64_t, *answer), number, out, out_len);
 }
 
 static inline int64_t unhide_tables_compare(const struct unhide_tables *tables, int32_t p, int32_t q)

@@ -2,8 +2,7 @@
  * and no number that they should not touch is touched. Then programmes: those that no call but Load and Join takes, and those that are set or refused.
  * Then the window: slices of other lengths, with numbers behind them, and windows that Learn refuses and Load and Join do not.
  * Then explanations: each verdict by each rule with its chains, outputs of other lengths with bytes behind them, and every refusal.
- * Then joins: the numbers that a load of the same clauses leaves, slices of other lengths, lists of links, the limits, and every refusal.
- * Last groups: each variable's number and each group's text, outputs of other lengths with places behind them, the limits, and every refusal.
+ * Last joins: the numbers that a load of the same clauses leaves, slices of other lengths, lists of links, the limits, and every refusal.
  * What differs is printed, and the exit status is then 1. */
 #include <stdio.h>
 #include <string.h>
@@ -31,7 +30,6 @@ static int32_t links[2 * UNHIDE_SLOTS + 2];
 static uint32_t state[LENT];
 static uint64_t answer[6];
 static uint8_t out[64];
-static uint32_t numbers[UNHIDE_VARIABLES + 2];
 
 /* The window, with two numbers more than stated behind each slice. */
 enum { SIZES = UNHIDE_LEARNT, PLACES = UNHIDE_LEARNT * UNHIDE_LEARNT_LITERALS };
@@ -62,10 +60,10 @@ enum { TABLE_SLICES = 5, SLICES = 8 };
 static const size_t lengths[SLICES] = {3 * UNHIDE_CLAUSES, UNHIDE_LITERALS, 2 * UNHIDE_VARIABLES, 2 * UNHIDE_SLOTS, 2 * UNHIDE_SLOTS, SIZES, PLACES, 2};
 
 /* Load and Join take any programme and any tables, the calls from Propagate on do not. */
-enum { LOAD, JOIN, PROPAGATE, MERGE, STAMP, FAILED, SWEEP, LEARN, RUN, SET_PROGRAMME, WRITE, EXPLAIN, GROUPS, GROUP, CALLS };
+enum { LOAD, JOIN, PROPAGATE, MERGE, STAMP, FAILED, SWEEP, LEARN, RUN, SET_PROGRAMME, WRITE, EXPLAIN, CALLS };
 
-static const char *const names[CALLS] = {"load",  "join", "propagate",     "merge", "stamp",   "failed", "sweep",
-                                         "learn", "run",  "set programme", "write", "explain", "groups", "group"};
+static const char *const names[CALLS] = {"load",  "join",  "propagate", "merge",         "stamp", "failed",
+                                         "sweep", "learn", "run",       "set programme", "write", "explain"};
 
 static int64_t call(int which, size_t state_len, size_t answer_len) {
     switch (which) {
@@ -91,12 +89,8 @@ static int64_t call(int which, size_t state_len, size_t answer_len) {
         return unhide_set_programme(TABLES, state, state_len, answer, answer_len, other, 3);
     case WRITE:
         return unhide_write(TABLES, state, state_len, answer, answer_len, out, sizeof out);
-    case EXPLAIN:
-        return unhide_explain(TABLES, state, state_len, answer, answer_len, 1, out, sizeof out);
-    case GROUPS:
-        return unhide_groups(TABLES, state, state_len, answer, answer_len, numbers, UNHIDE_VARIABLES);
     default:
-        return unhide_group(TABLES, state, state_len, answer, answer_len, 1, out, sizeof out);
+        return unhide_explain(TABLES, state, state_len, answer, answer_len, 1, out, sizeof out);
     }
 }
 
@@ -159,19 +153,8 @@ static void compare_states(void) {
     compare_refused("mark 2", MARK, 0, 2, LENT, 6);
 }
 
-/* What a call returns on the state of an empty formula: its stamps are not fresh, and it has no group. */
-static int64_t result_on_empty(int which) {
-    switch (which) {
-    case FAILED:
-    case SWEEP:
-    case LEARN:
-    case EXPLAIN:
-        return UNHIDE_STALE;
-    case GROUP:
-        return UNHIDE_NO_GROUP;
-    default:
-        return 0;
-    }
+static int needs_stamps(int which) {
+    return which == FAILED || which == SWEEP || which == LEARN || which == EXPLAIN;
 }
 
 /* With longer slices a call is made, and what is behind stays. */
@@ -181,8 +164,10 @@ static void compare_longer(void) {
         prepare();
         int64_t result = call(which, LENT, 6);
         int kept = state[STATED] == 7 && state[STATED + 1] == 7 && answer[4] == 7 && answer[5] == 7;
+        /* the stamps are not fresh */
+        int64_t expected = needs_stamps(which) ? UNHIDE_STALE : 0;
         sprintf(name, "%s, longer slices", names[which]);
-        compare(name, (long)result_on_empty(which), (long)result);
+        compare(name, expected, result);
         compare(name, 1, kept);
         compare(name, result == 0 ? 0 : 7, (long)(answer[1] | answer[2] | answer[3]));
         compare(name, which == SET_PROGRAMME ? 3 : 4, (long)state[LENGTH]);
@@ -315,8 +300,9 @@ static void compare_behind(void) {
         char name[64];
         prepare();
         state[CODES + 4] = 9;
+        int64_t expected = needs_stamps(which) ? UNHIDE_STALE : 0;
         sprintf(name, "%s, code behind the length", names[which]);
-        compare(name, (long)result_on_empty(which), (long)call(which, LENT, 6));
+        compare(name, expected, (long)call(which, LENT, 6));
         compare(name, which < PROPAGATE || which == SET_PROGRAMME ? 0 : 9, (long)state[CODES + 4]);
     }
 }
@@ -705,207 +691,6 @@ static void compare_refused_joins(void) {
     compare_unjoined("join, 1025 variables", UNHIDE_LIMIT, 0, most, more, used, 2, lengths);
 }
 
-/* ---- groups */
-
-/* Loads a text, and puts 7s into the answer. */
-static void load_text(const char *loaded) {
-    prepare();
-    unhide_load((const uint8_t *)loaded, strlen(loaded), TABLES, state, LENT, answer, 6, WINDOW);
-    for (int i = 0; i < 6; i++)
-        answer[i] = 7;
-}
-
-/* Into an output of so many numbers, all of them 9 before. */
-static int64_t find_groups(size_t count) {
-    for (int i = 0; i < UNHIDE_VARIABLES + 2; i++)
-        numbers[i] = 9;
-    for (int i = 0; i < 6; i++)
-        answer[i] = 7;
-    keep_all_before();
-    return unhide_groups(TABLES, state, LENT, answer, 6, numbers, count);
-}
-
-/* Whether the output has 9s from this place on. */
-static int nines_from(size_t place) {
-    for (size_t i = place; i < UNHIDE_VARIABLES + 2; i++)
-        if (numbers[i] != 9)
-            return 0;
-    return 1;
-}
-
-/* Refused, and nothing changes but the place. */
-static void compare_ungrouped(const char *name, long result, long place, size_t count) {
-    compare(name, result, (long)find_groups(count));
-    compare(name, place, (long)answer[0]);
-    compare(name, 1, rest_kept() && nines_from(0) && all_kept());
-}
-
-/* The groups of the tables as they are: into outputs of just the length, one more and all places, and refused where a number or all are missing. */
-static void compare_grouped(const char *name, long groups, const uint32_t *expected) {
-    const size_t v = state[0], longer[] = {v, v + 1, UNHIDE_VARIABLES + 2};
-    for (int i = 0; i < 3; i++) {
-        compare(name, 0, (long)find_groups(longer[i]));
-        compare(name, groups, (long)answer[0]);
-        compare(name, 1, (answer[1] | answer[2] | answer[3]) == 0 && answer[4] == 7 && answer[5] == 7);
-        compare(name, 1, memcmp(numbers, expected, v * sizeof numbers[0]) == 0 && nines_from(v) && all_kept());
-    }
-    if (v == 0)
-        return;
-    compare_ungrouped(name, UNHIDE_OUTPUT, (long)v, v - 1);
-    compare_ungrouped(name, UNHIDE_OUTPUT, (long)v, 0);
-}
-
-/* The text of a group that is refused: nothing changes but the place. */
-static void compare_unparted(const char *name, long result, long place, uint32_t number, size_t out_len) {
-    memset(out, '.', sizeof out);
-    for (int i = 0; i < 6; i++)
-        answer[i] = 7;
-    keep_all_before();
-    compare(name, result, (long)unhide_group(TABLES, state, LENT, answer, 6, number, out, out_len));
-    compare(name, place, (long)answer[0]);
-    compare(name, 1, rest_kept() && has_text("") && all_kept());
-}
-
-/* The text of a group: into an output of just the length and into one of all bytes, and refused where one byte or all are missing. */
-static void compare_parted(const char *name, uint32_t number, const char *expected) {
-    const size_t length = strlen(expected), longer[] = {length, sizeof out};
-    for (int i = 0; i < 2; i++) {
-        memset(out, '.', sizeof out);
-        answer[4] = 7;
-        keep_all_before();
-        compare(name, 0, (long)unhide_group(TABLES, state, LENT, answer, 6, number, out, longer[i]));
-        compare(name, 1, answer[0] == length && (answer[1] | answer[2] | answer[3]) == 0 && answer[4] == 7);
-        compare(name, 1, has_text(expected) && all_kept());
-    }
-    compare_unparted(name, UNHIDE_OUTPUT, (long)length, number, length - 1);
-    compare_unparted(name, UNHIDE_OUTPUT, (long)length, number, 0);
-}
-
-/* Two groups that take turns, then a group of a clause of one literal; 6 is in no clause. */
-static const char turns[] = "p cnf 7 5\n-5 1 0\n-2 4 0\n7 0\n1 -3 0\n4 2 0\n";
-
-static void compare_groups(void) {
-    static const uint32_t of_turns[] = {1, 2, 1, 2, 1, 0, 3};
-    load_text(turns);
-    compare_grouped("groups", 3, of_turns);
-    compare_parted("group 1", 1, "p cnf 3 2\n-3 1 0\n1 -2 0\n");
-    compare_parted("group 2", 2, "p cnf 2 2\n-1 2 0\n2 1 0\n");
-    compare_parted("group 3", 3, "p cnf 1 1\n1 0\n");
-    load_text("p cnf 4 2\n4 3 0\n2 -3 1 0\n");
-    compare_grouped("groups, one", 1, (const uint32_t[]){1, 1, 1, 1});
-    compare_parted("group, all that stands", 1, "p cnf 4 2\n4 3 0\n2 -3 1 0\n");
-    load_text("p cnf 3 0\n");
-    compare_grouped("groups, no clause", 0, (const uint32_t[]){0, 0, 0});
-    load_text("p cnf 0 0\n");
-    compare_grouped("groups, no variable", 0, numbers);
-}
-
-/* Groups that a later clause joins, at variables that are not their smallest: one clause of two literals, and one of three. */
-static void compare_late_groups(void) {
-    load_text("p cnf 6 4\n5 6 0\n1 2 0\n3 4 0\n6 4 0\n");
-    compare_grouped("groups, two joined late", 2, (const uint32_t[]){1, 1, 2, 2, 2, 2});
-    compare_parted("group, two joined late", 2, "p cnf 4 3\n3 4 0\n1 2 0\n4 2 0\n");
-    load_text("p cnf 6 4\n5 6 0\n1 2 0\n3 4 0\n4 6 -2 0\n");
-    compare_grouped("groups, three joined late", 1, (const uint32_t[]){1, 1, 1, 1, 1, 1});
-}
-
-/* What does not stand joins nothing: a clause with 1 and -1, dropped by the load, and clauses that a pass drops. Classes join nothing either. */
-static void compare_standing_groups(void) {
-    load_text("p cnf 4 3\n1 2 -1 0\n2 3 0\n4 -3 0\n");
-    compare_grouped("groups, a clause dropped by the load", 1, (const uint32_t[]){0, 1, 1, 1});
-    compare_parted("group, a clause dropped by the load", 1, "p cnf 3 2\n1 2 0\n3 -2 0\n");
-    load_text("p cnf 4 4\n1 2 0\n3 0\n-3 2 4 0\n-1 4 0\n");
-    unhide_propagate(TABLES, state, LENT, answer, 6, 65535);
-    compare_grouped("groups behind a value", 1, (const uint32_t[]){1, 1, 0, 1});
-    load_text("p cnf 4 3\n-1 2 0\n-2 1 0\n2 3 4 0\n");
-    unhide_merge(TABLES, state, LENT, answer, 6, 65535);
-    compare_grouped("groups behind a class", 1, (const uint32_t[]){1, 0, 1, 1});
-    compare_parted("group behind a class", 1, "p cnf 3 1\n1 2 3 0\n");
-}
-
-/* Values do not matter: a clause stands until a pass drops it. */
-static void compare_valued_groups(void) {
-    load_text("p cnf 3 2\n-1 2 0\n3 1 0\n");
-    variables[1] = 1;
-    variables[3] = -1;
-    compare_grouped("groups, valued variables", 1, (const uint32_t[]){1, 1, 1});
-    compare_parted("group, valued variables", 1, "p cnf 3 2\n-1 2 0\n3 1 0\n");
-}
-
-/* The most variables: one group by a chain from the largest variable down, and as many groups as variables. */
-static void compare_most_groups(void) {
-    static char many[20000];
-    static uint32_t expected[UNHIDE_VARIABLES];
-    char *at = many + sprintf(many, "p cnf 1024 1023\n");
-    for (int v = UNHIDE_VARIABLES; v > 1; v--)
-        at += sprintf(at, "%d -%d 0\n", v, v - 1);
-    for (int v = 0; v < UNHIDE_VARIABLES; v++)
-        expected[v] = 1;
-    load_text(many);
-    compare_grouped("groups, a chain of 1024", 1, expected);
-    compare_unparted("group 1 of a chain", UNHIDE_OUTPUT, (long)strlen(many), 1, sizeof out);
-    compare_unparted("group 2 of a chain", UNHIDE_NO_GROUP, 0, 2, sizeof out);
-    at = many + sprintf(many, "p cnf 1024 1024\n");
-    for (int v = UNHIDE_VARIABLES; v > 0; v--) {
-        at += sprintf(at, "-%d 0\n", v);
-        expected[v - 1] = (uint32_t)v;
-    }
-    load_text(many);
-    compare_grouped("groups, 1024", 1024, expected);
-    compare_parted("group 1024", 1024, "p cnf 1 1\n-1 0\n");
-    compare_unparted("group 1025", UNHIDE_NO_GROUP, 0, 1025, sizeof out);
-}
-
-/* Tables of which one has a number less than stated, or none. */
-static void compare_short_groups(void) {
-    load_text(turns);
-    memset(out, '.', sizeof out);
-    find_groups(0);
-    for (int table = 0; table < 2 * TABLE_SLICES; table++) {
-        size_t lent[SLICES];
-        memcpy(lent, lengths, sizeof lengths);
-        lent[table / 2] = table % 2 == 0 ? lent[table / 2] - 1 : 0;
-        answer[0] = 7;
-        compare("groups, a short table", UNHIDE_SHAPE,
-                (long)unhide_groups(clauses, lent[0], literals, lent[1], variables, lent[2], times, lent[3], links, lent[4], state, LENT, answer,
-                                    6, numbers, UNHIDE_VARIABLES));
-        compare("groups, a short table", 1, answer[0] == 0 && rest_kept() && nines_from(0) && all_kept());
-        answer[0] = 7;
-        compare("group, a short table", UNHIDE_SHAPE,
-                (long)unhide_group(clauses, lent[0], literals, lent[1], variables, lent[2], times, lent[3], links, lent[4], state, LENT, answer,
-                                   6, 1, out, sizeof out));
-        compare("group, a short table", 1, answer[0] == 0 && rest_kept() && has_text("") && all_kept());
-    }
-}
-
-/* Both calls, with a number that is no group's and no output: refused with what comes before these. */
-static void compare_both_refused(const char *name, long result) {
-    compare_ungrouped(name, result, 0, 0);
-    compare_unparted(name, result, 0, 0, 0);
-}
-
-/* The refusals, each with those below it: 1, 4, 5, for a group 17, and 10. */
-static void compare_refused_groups(void) {
-    load_text(turns);
-    compare_unparted("group 0", UNHIDE_NO_GROUP, 0, 0, 0);
-    compare_unparted("group 4 of 3", UNHIDE_NO_GROUP, 0, 4, sizeof out);
-    compare_unparted("group 4294967295", UNHIDE_NO_GROUP, 0, 4294967295u, 0);
-    unhide_propagate(TABLES, state, LENT, answer, 6, 1);
-    compare_both_refused("groups, Propagate open", UNHIDE_OTHER_PASS);
-    load_text(chained);
-    unhide_merge(TABLES, state, LENT, answer, 6, 1);
-    compare_both_refused("groups, Merge open", UNHIDE_OTHER_PASS);
-    stamp_text(chained, rising);
-    unhide_sweep(TABLES, state, LENT, answer, 6, 1);
-    compare_both_refused("groups, Sweep open", UNHIDE_OTHER_PASS);
-    state[CODES] = 0;
-    compare_both_refused("groups, Sweep open and a wrong programme", UNHIDE_SHAPE);
-    load_text("p cnf 2 2\n1 2 0\n0\n");
-    compare_both_refused("groups, the mark", UNHIDE_MARKED);
-    variables[0] = 2;
-    compare_both_refused("groups, the mark and a wrong class", UNHIDE_SHAPE);
-}
-
 int main(void) {
     compare_compare();
     compare_states();
@@ -928,13 +713,6 @@ int main(void) {
     compare_links();
     compare_limits();
     compare_refused_joins();
-    compare_groups();
-    compare_late_groups();
-    compare_standing_groups();
-    compare_valued_groups();
-    compare_most_groups();
-    compare_short_groups();
-    compare_refused_groups();
     if (!differs)
         printf("ok slices\n");
     return differs;

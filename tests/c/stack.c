@@ -1,9 +1,8 @@
 /* The stack that `unhide_text` and `unhide_run` take, on the formula with the deepest walk and on one whose propagation goes through the clauses many times,
- * the stack that `unhide_join` takes, which keeps the numbers of both formulas at once, and the stack that `unhide_groups` and `unhide_group` take.
+ * and the stack that `unhide_join` takes, which keeps the numbers of both formulas at once.
  *
- *     stack TEXT RUN    makes the calls in threads with stacks of so many bytes, RUN for all but the first: a call that needs more ends the program
- *                       with a signal
- *     stack             prints for each of the four the least size, in steps of a page, with which it returns
+ *     stack TEXT RUN    makes the calls in threads with stacks of so many bytes, a join with RUN: a call that needs more ends the program with a signal
+ *     stack             prints for each of the three the least size, in steps of a page, with which it returns
  */
 #define _XOPEN_SOURCE 700
 #include <pthread.h>
@@ -58,14 +57,6 @@ static int join_returns(void) {
     return unhide_tables_join(&tables, (const uint8_t *)deep, strlen(deep), (const uint8_t *)far, strlen(far), pairs, VARIABLES, &answer) == 0;
 }
 
-/* The groups of a formula, and the text of the first. */
-static int groups_return(const char *text) {
-    static uint32_t numbers[VARIABLES];
-    struct unhide_answer answer;
-    return unhide_tables_load(&tables, (const uint8_t *)text, strlen(text), &answer) == 0 &&
-           unhide_tables_groups(&tables, numbers, VARIABLES, &answer) == 0 && unhide_tables_group(&tables, 1, out, sizeof out, &answer) == 0;
-}
-
 static void *texts(void *result) {
     *(int *)result = text_returns(deep) && text_returns(far);
     return NULL;
@@ -78,11 +69,6 @@ static void *runs(void *result) {
 
 static void *joins(void *result) {
     *(int *)result = join_returns();
-    return NULL;
-}
-
-static void *groups(void *result) {
-    *(int *)result = groups_return(deep) && groups_return(far);
     return NULL;
 }
 
@@ -124,11 +110,10 @@ int main(int argc, char **argv) {
     write_far();
     if (argc == 3) {
         size_t text = strtoul(argv[1], NULL, 10), run = strtoul(argv[2], NULL, 10);
-        return returns_in(texts, text) && returns_in(runs, run) && returns_in(joins, run) && returns_in(groups, run) ? 0 : 1;
+        return returns_in(texts, text) && returns_in(runs, run) && returns_in(joins, run) ? 0 : 1;
     }
     printf("unhide_text %lu\n", (unsigned long)least(texts));
     printf("unhide_run %lu\n", (unsigned long)least(runs));
     printf("unhide_join %lu\n", (unsigned long)least(joins));
-    printf("unhide_groups and unhide_group %lu\n", (unsigned long)least(groups));
     return 0;
 }

@@ -54,18 +54,9 @@ static int64_t explain(uint32_t number, uint8_t *out, size_t length) {
     return unhide_tables_explain(&tables, number, out, length, &answer);
 }
 
-static int64_t find_groups(uint32_t *numbers, size_t count) {
-    return unhide_tables_groups(&tables, numbers, count, &answer);
-}
-
-static int64_t write_group(uint32_t number, uint8_t *out, size_t length) {
-    return unhide_tables_group(&tables, number, out, length, &answer);
-}
-
 /* Tables and a state of zeros, before the first load: every call but that, and a join, is refused. */
 static void compare_zeros(void) {
     uint8_t out[64];
-    uint32_t numbers[1];
     compare("bytes", 172456, (long)sizeof tables);
     compare_call("propagate on zeros", UNHIDE_SHAPE, 0, unhide_tables_propagate(&tables, 1, &answer));
     compare_call("merge on zeros", UNHIDE_SHAPE, 0, unhide_tables_merge(&tables, 1, &answer));
@@ -77,8 +68,6 @@ static void compare_zeros(void) {
     compare_call("set programme on zeros", UNHIDE_SHAPE, 0, unhide_tables_set_programme(&tables, settle, 1, &answer));
     compare_call("write on zeros", UNHIDE_SHAPE, 0, write_out(out, 64));
     compare_call("explain on zeros", UNHIDE_SHAPE, 0, explain(1, out, 64));
-    compare_call("groups on zeros", UNHIDE_SHAPE, 0, find_groups(numbers, 1));
-    compare_call("group on zeros", UNHIDE_SHAPE, 0, write_group(1, out, 64));
 }
 
 static void compare_passes(void) {
@@ -416,110 +405,6 @@ static void compare_limits(void) {
     compare("most joined variables", 1024, (long)tables.state.variables);
 }
 
-/* ---- groups */
-
-/* The groups of the odd and of the even variables; 6 is in no clause. */
-static const char turns[] = "p cnf 7 5\n-5 1 0\n-2 4 0\n7 3 0\n1 -3 0\n4 2 0\n";
-static const uint32_t of_turns[] = {1, 2, 1, 2, 1, 0, 1, 9};
-
-static const char first_part[] = "p cnf 4 3\n-3 1 0\n4 2 0\n1 -2 0\n";
-static const char second_part[] = "p cnf 2 2\n-1 2 0\n2 1 0\n";
-
-/* Each variable's group, and the place behind them, which stays, as do the tables. */
-static void compare_numbers(const char *name, size_t count) {
-    static struct unhide_tables before;
-    uint32_t numbers[8] = {9, 9, 9, 9, 9, 9, 9, 9};
-    char named[64];
-    before = tables;
-    compare_call(name, 0, 2, find_groups(numbers, count));
-    compare_rest(name, 0, 0, 0);
-    sprintf(named, "%s, numbers", name);
-    compare(named, 0, memcmp(numbers, of_turns, sizeof numbers));
-    compare(named, 0, memcmp(&before, &tables, sizeof tables));
-}
-
-/* The text of a group, and the byte behind it, which stays, as do the tables. */
-static void compare_part(const char *name, uint32_t number, const char *text) {
-    static struct unhide_tables before;
-    uint8_t out[64];
-    size_t length = strlen(text);
-    char named[64];
-    before = tables;
-    memset(out, 7, sizeof out);
-    compare_call(name, 0, (long)length, write_group(number, out, 64));
-    compare_rest(name, 0, 0, 0);
-    sprintf(named, "%s, text", name);
-    compare(named, 0, memcmp(out, text, length));
-    compare(named, 7, (long)out[length]);
-    compare(named, 0, memcmp(&before, &tables, sizeof tables));
-}
-
-/* Refused calls change neither output nor tables. */
-static void compare_ungrouped(const char *name, long result, long place, size_t count) {
-    static struct unhide_tables before;
-    uint32_t numbers[8] = {9, 9, 9, 9, 9, 9, 9, 9};
-    char named[64];
-    before = tables;
-    compare_call(name, result, place, find_groups(numbers, count));
-    sprintf(named, "%s, kept", name);
-    compare(named, 1, numbers[0] == 9 && numbers[7] == 9 && memcmp(&before, &tables, sizeof tables) == 0);
-}
-
-static void compare_unparted(const char *name, long result, long place, uint32_t number, size_t length) {
-    static struct unhide_tables before;
-    uint8_t out[64];
-    char named[64];
-    before = tables;
-    memset(out, 7, sizeof out);
-    compare_call(name, result, place, write_group(number, out, length));
-    sprintf(named, "%s, kept", name);
-    compare(named, 1, out[0] == 7 && out[63] == 7 && memcmp(&before, &tables, sizeof tables) == 0);
-}
-
-static void compare_groups(void) {
-    load(turns);
-    compare_numbers("groups", 7);
-    compare_numbers("groups, a place more", 8);
-    compare_part("group 1", 1, first_part);
-    compare_part("group 2", 2, second_part);
-    compare_ungrouped("groups, a number too few", UNHIDE_OUTPUT, 7, 6);
-    compare_unparted("group 1, a byte too few", UNHIDE_OUTPUT, (long)sizeof first_part - 1, 1, sizeof first_part - 2);
-    compare_unparted("group 0", UNHIDE_NO_GROUP, 0, 0, 64);
-    compare_unparted("group 3 of 2", UNHIDE_NO_GROUP, 0, 3, 0);
-    unhide_tables_merge(&tables, 1, &answer);
-    compare_ungrouped("groups in a pass", UNHIDE_OTHER_PASS, 0, 0);
-    compare_unparted("group in a pass", UNHIDE_OTHER_PASS, 0, 0, 0);
-    load("p cnf 1 1\n0\n");
-    compare_ungrouped("groups, marked", UNHIDE_MARKED, 0, 0);
-    compare_unparted("group, marked", UNHIDE_MARKED, 0, 0, 0);
-}
-
-/* Loads a text, stamps it under this order, sweeps it, and compares what is left. */
-static void compare_swept(const char *name, const char *text, const int32_t *literals, size_t count, const char *expected) {
-    uint8_t out[64];
-    size_t length = strlen(expected);
-    load(text);
-    compare_call(name, 0, 0, unhide_tables_stamp(&tables, literals, count, &answer));
-    unhide_tables_sweep(&tables, 65535, &answer);
-    compare_call(name, 0, (long)length, write_out(out, 64));
-    compare(name, 0, memcmp(out, expected, length));
-}
-
-/* A group's text is loaded, stamped under its share of the order and swept: what is left of it is its part of what is left of the whole. The order
- * decides: where 6 and 8, in the part 4 and 5, come first, 5 is entered from 6 and -1 from 8, and the last clause stays; where 1 comes first, it goes. */
-static void compare_parts(void) {
-    static const char whole[] = "p cnf 8 6\n-6 5 0\n-8 -1 0\n2 4 0\n-1 3 0\n-3 5 0\n-1 5 0\n";
-    static const char part[] = "p cnf 5 5\n-4 3 0\n-5 -1 0\n-1 2 0\n-2 3 0\n-1 3 0\n";
-    static const int32_t late[] = {6, 2, 8, -2, -6, 7, -8, 1, -7, -1, 3, 4, -3, 5, -4, -5}, late_share[] = {4, 5, -4, -5, 1, -1, 2, -2, 3, -3};
-    static const int32_t early[] = {2, 1, 6, -2, 8, -6, 7, -8, -7, -1, 3, 4, -3, 5, -4, -5}, early_share[] = {1, 4, 5, -4, -5, -1, 2, -2, 3, -3};
-    load(whole);
-    compare_part("part of the whole", 1, part);
-    compare_swept("the whole, 1 late", whole, late, 16, whole);
-    compare_swept("the part, 1 late", part, late_share, 10, part);
-    compare_swept("the whole, 1 early", whole, early, 16, "p cnf 8 5\n-6 5 0\n-8 -1 0\n2 4 0\n-1 3 0\n-3 5 0\n");
-    compare_swept("the part, 1 early", part, early_share, 10, "p cnf 5 4\n-4 3 0\n-5 -1 0\n-1 2 0\n-2 3 0\n");
-}
-
 int main(void) {
     compare_zeros();
     compare_passes();
@@ -537,8 +422,6 @@ int main(void) {
     compare_wrong_texts();
     compare_wrong_links();
     compare_limits();
-    compare_groups();
-    compare_parts();
     if (!differs)
         printf("ok tables\n");
     return differs;

@@ -1,6 +1,5 @@
 //! Which formula is loaded next.
 
-use crate::apart;
 use crate::chained;
 use crate::far;
 use crate::formulas::{draft, Draft};
@@ -10,9 +9,6 @@ use crate::valued;
 
 /// A formula, mostly a small one.
 pub fn any(random: &mut Random) -> Draft {
-    if random.once_in(5) {
-        return that_falls_apart(random);
-    }
     if random.once_in(4) {
         return far::draft(random);
     }
@@ -49,13 +45,4 @@ pub fn any(random: &mut Random) -> Draft {
         _ => random.between(2, 8),
     };
     draft(random, variables)
-}
-
-fn that_falls_apart(random: &mut Random) -> Draft {
-    let variables = match random.below(40) {
-        0 => random.between(60, 200),
-        1..=3 => random.between(13, 60),
-        _ => random.between(3, 12),
-    };
-    apart::draft(random, variables)
 }

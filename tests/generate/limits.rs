@@ -1,7 +1,6 @@
 //! Texts at the limits: 1,024 variables, 4,096 clauses, 16,384 literals, and
 //! one more of each.
 
-use crate::apart;
 use crate::formulas::{clause, plain_text, Draft};
 use crate::random::Random;
 use crate::repeats::{add_complement, drawn};
@@ -14,7 +13,7 @@ pub fn text(random: &mut Random) -> Vec<u8> {
         variables: V,
         clauses: Vec::new(),
     };
-    match random.below(14) {
+    match random.below(13) {
         0 => four_literals_each(random, &mut draft),
         1 => {
             four_literals_each(random, &mut draft);
@@ -40,10 +39,6 @@ pub fn text(random: &mut Random) -> Vec<u8> {
         9 => repeated(random, &mut draft),
         10 => widest(random, &mut draft),
         11 => many_repeats(random, &mut draft),
-        12 => {
-            draft = apart::draft(random, V);
-            draft.clauses.truncate(N);
-        }
         _ => two_sided_ring(&mut draft),
     }
     plain_text(&draft)

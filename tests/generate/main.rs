@@ -2,7 +2,6 @@
 //! calls. It follows the script with the second implementation, so that most
 //! calls are accepted.
 
-mod apart;
 mod calls;
 mod chained;
 mod class_values;
@@ -14,8 +13,6 @@ mod explains;
 mod far;
 mod forest;
 mod formulas;
-mod group_calls;
-mod group_lines;
 mod implied;
 mod join_lines;
 mod joins;
@@ -45,8 +42,6 @@ mod explain;
 mod failed;
 #[path = "../second/graph.rs"]
 mod graph;
-#[path = "../second/groups.rs"]
-mod groups;
 #[path = "../second/join.rs"]
 mod join;
 #[path = "../second/learn.rs"]

@@ -7,8 +7,6 @@ use crate::drafts;
 use crate::explain_lines;
 use crate::explains;
 use crate::formulas::{odd_text, plain_text};
-use crate::group_calls;
-use crate::group_lines;
 use crate::join_lines;
 use crate::joins::{self, Join};
 use crate::learn_lines;
@@ -136,18 +134,21 @@ impl Script {
             self.say_bytes(&lines);
             return;
         }
-        let random = &mut self.random;
-        let line = match random.below(6) {
-            0 => programme_lines::wrong(random),
-            1 => explain_lines::wrong(random),
-            2 => group_lines::wrong(random),
-            3 | 4 => learn_lines::wrong(random, &self.replay.formula),
-            _ => return self.wrong_comparison(),
-        };
-        self.say(&line);
-    }
-
-    fn wrong_comparison(&mut self) {
+        if self.random.once_in(3) {
+            let line = programme_lines::wrong(&mut self.random);
+            self.say(&line);
+            return;
+        }
+        if self.random.once_in(3) {
+            let line = explain_lines::wrong(&mut self.random);
+            self.say(&line);
+            return;
+        }
+        if self.random.once_in(2) {
+            let line = learn_lines::wrong(&mut self.random, &self.replay.formula);
+            self.say(&line);
+            return;
+        }
         if self.random.once_in(4) {
             // Of so many variables only 1,024 have records.
             let variables = self.random.pick(&[1_025, u32::MAX]);
@@ -168,7 +169,6 @@ impl Script {
         }
         self.learn_sometimes();
         self.explain_sometimes();
-        self.groups_sometimes();
         self.join_sometimes();
         let formula = &self.replay.formula;
         if tables_are_lent(formula).is_err() || self.replay.window.is_lent().is_err() {
@@ -277,32 +277,6 @@ impl Script {
         } else {
             let count = self.random.pick(&[1, 1, 2, 3]);
             self.explain(count);
-        }
-        if sets_unused {
-            self.say("state");
-        }
-    }
-
-    /// Often where the clauses fall apart, seldom where the calls are refused.
-    fn groups_sometimes(&mut self) {
-        let formula = &self.replay.formula;
-        let seldom = match group_calls::count(formula) {
-            Some(2..) => 4,
-            Some(1) => 20,
-            Some(_) => 50,
-            None if formula.state.mark => 15,
-            None => 25,
-        };
-        if !self.random.once_in(seldom) {
-            return;
-        }
-        let sets_unused = self.random.once_in(20);
-        if sets_unused {
-            self.set_unused();
-        }
-        for line in group_calls::lines(&mut self.random, &self.replay.formula) {
-            self.calls += 1;
-            self.say(&line);
         }
         if sets_unused {
             self.say("state");
@@ -508,15 +482,11 @@ impl Script {
     }
 
     fn any_call(&mut self) {
-        match self.random.below(11) {
+        match self.random.below(10) {
             0 => self.write(),
             1 => self.load(),
             2 => self.learn(1),
             3 => self.explain(1),
-            4 => {
-                let line = group_calls::line(&mut self.random, &self.replay.formula);
-                self.call(&line);
-            }
             _ => {
                 let call = any(&mut self.random, &self.replay.formula);
                 self.call(&line(&call));
@@ -598,16 +568,9 @@ impl Script {
         }
     }
 
-    /// Now and then that of a group of what stands.
     fn text(&mut self) -> Vec<u8> {
         if self.random.once_in(400) {
             return limits::text(&mut self.random);
-        }
-        if self.random.once_in(12) {
-            let text = group_calls::text(&mut self.random, &self.replay.formula);
-            if let Some(text) = text {
-                return text;
-            }
         }
         let draft = drafts::any(&mut self.random);
         if self.random.once_in(3) {

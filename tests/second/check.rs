@@ -6,7 +6,6 @@ use crate::calls::{any, fitting, line, Call};
 use crate::compare_calls::{in_two_calls, run_by_passes};
 use crate::compare_explain::{self, clauses_agree};
 use crate::compare_figures::figures_agree;
-use crate::compare_groups::{self, groups_agree, large_agree};
 use crate::compare_intervals::{comparisons_agree, numbers_agree};
 use crate::compare_join::{self, joins_agree};
 use crate::compare_learn::{self, forest_agrees, Learning};
@@ -15,7 +14,7 @@ use crate::compare_reach::{Counts, Stamped};
 use crate::compare_repeats::{loaded_agrees, merged_agrees};
 use crate::compare_shares::Pair;
 use crate::compare_values::{own_values, values_agree, values_stay, written_clauses};
-use crate::compare_walks::{is_subsequence, literal_groups_agree, stamps_agree};
+use crate::compare_walks::{groups_agree, is_subsequence, stamps_agree};
 use crate::failed::failed;
 use crate::forest::forest;
 use crate::formulas::{odd_text, plain_text, Draft};
@@ -46,75 +45,49 @@ use crate::write::write;
 pub fn check(seed: u64, count: usize) -> i32 {
     let mut random = Random::new(seed);
     let mut joins = compare_join::Counts::default();
-    let mut large = compare_groups::Counts::default();
     let alone = rules_agree()
         .and_then(|()| numbers_agree(&mut random, count))
-        .and_then(|()| joins_agree(&mut random, count / 4, &mut joins))
-        .and_then(|()| large_agree(&mut random, count / 10, &mut large));
+        .and_then(|()| joins_agree(&mut random, count / 4, &mut joins));
     if let Err(difference) = alone {
         println!("differs: {difference}");
         return 1;
     }
     let truth = Truth::new();
-    let mut totals = Totals::default();
-    while totals.calls < count {
+    let mut calls = 0;
+    let mut accepted = 0;
+    let mut other_runs = 0;
+    let mut joined = 0;
+    let mut reach = Counts::default();
+    let mut learnt = compare_learn::Counts::default();
+    let mut explained = compare_explain::Counts::default();
+    let mut in_forests = compare_explain::Counts::default();
+    while calls < count {
         let mut one = Check::start(&mut random, &truth);
         let outcome = one.calls(&mut random);
-        totals.add(&one);
+        calls += one.calls;
+        accepted += one.accepted;
+        other_runs += one.other_runs;
+        joined += one.pair.is_some() as usize;
+        reach.add(&one.reach);
+        learnt.add(&one.learning.counts);
+        explained.add(&one.explained);
+        in_forests.add(&one.in_forests);
         if let Err(difference) = outcome {
             println!("differs: {difference}");
             print!("{}", String::from_utf8_lossy(&one.script));
             return 1;
         }
     }
-    totals.tell();
-    println!("in large formulas {}", large.told());
-    println!("{}, {} with calls behind them", joins.told(), totals.joined);
+    println!(
+        "checked {calls} calls, {accepted} of them accepted, \
+         {other_runs} runs under other programmes than the constant one"
+    );
+    println!("{}", reach.told());
+    println!("{}", learnt.told());
+    println!("{}", explained.told());
+    println!("in forests {}", in_forests.told());
+    println!("{}, {joined} with calls behind them", joins.told());
     0
-}
-
-/// What was done on all formulas together.
-#[derive(Default)]
-struct Totals {
-    calls: usize,
-    accepted: usize,
-    other_runs: usize,
-    joined: usize,
-    reach: Counts,
-    learnt: compare_learn::Counts,
-    explained: compare_explain::Counts,
-    in_forests: compare_explain::Counts,
-    grouped: compare_groups::Counts,
-    in_damaged: compare_groups::Counts,
-}
-
-impl Totals {
-    fn add(&mut self, one: &Check) {
-        self.calls += one.calls;
-        self.accepted += one.accepted;
-        self.other_runs += one.other_runs;
-        self.joined += one.pair.is_some() as usize;
-        self.reach.add(&one.reach);
-        self.learnt.add(&one.learning.counts);
-        self.explained.add(&one.explained);
-        self.in_forests.add(&one.in_forests);
-        self.grouped.add(&one.grouped);
-        self.in_damaged.add(&one.in_damaged);
-    }
-
-    fn tell(&self) {
-        println!(
-            "checked {} calls, {} of them accepted, \
-             {} runs under other programmes than the constant one",
-            self.calls, self.accepted, self.other_runs
-        );
-        println!("{}", self.reach.told());
-        println!("{}", self.learnt.told());
-        println!("{}", self.explained.told());
-        println!("in forests {}", self.in_forests.told());
-        println!("{}", self.grouped.told());
-        println!("in damaged tables {}", self.in_damaged.told());
-    }
 }
 
 #[derive(PartialEq, Eq, Debug)]
@@ -148,9 +121,6 @@ struct Check<'a> {
     explained: compare_explain::Counts,
     /// Under the stamps of random forests.
     in_forests: compare_explain::Counts,
-    grouped: compare_groups::Counts,
-    /// With one number of the tables or the state changed, or a table lent short.
-    in_damaged: compare_groups::Counts,
 }
 
 /// What the tables and the programme hold before the load.
@@ -237,8 +207,6 @@ impl<'a> Check<'a> {
             learning: Learning::before_load(),
             explained: compare_explain::Counts::default(),
             in_forests: compare_explain::Counts::default(),
-            grouped: compare_groups::Counts::default(),
-            in_damaged: compare_groups::Counts::default(),
         }
     }
 
@@ -265,7 +233,6 @@ impl<'a> Check<'a> {
         loaded_agrees(&self.formula, &self.loaded)?;
         self.learn_sometimes(random)?;
         self.explain_sometimes(random)?;
-        self.groups_sometimes(random)?;
         for _ in 0..random.between(1, 24) {
             let call = if random.once_in(12) {
                 any(random, &self.formula)
@@ -279,7 +246,6 @@ impl<'a> Check<'a> {
             self.reach_agrees(&call)?;
             self.learn_sometimes(random)?;
             self.explain_sometimes(random)?;
-            self.groups_sometimes(random)?;
             if self.formula.state.mark && random.once_in(2) {
                 break;
             }
@@ -359,21 +325,6 @@ impl<'a> Check<'a> {
             told.map_err(|e| format!("in a forest: {e}"))?;
         }
         Ok(())
-    }
-
-    /// The groups of what stands, often where they are not refused, and those of
-    /// damaged tables.
-    fn groups_sometimes(&mut self, random: &mut Random) -> Result<(), String> {
-        let state = self.formula.state;
-        let is_ready = state.pass == Pass::None && !state.mark;
-        if !random.once_in(if is_ready { 2 } else { 12 }) {
-            return Ok(());
-        }
-        let truth = Some(self.truth);
-        groups_agree(random, &self.formula, truth, &mut self.grouped)?;
-        let other = compare_groups::damaged(random, &self.formula);
-        let told = groups_agree(random, &other, truth, &mut self.in_damaged);
-        told.map_err(|e| format!("in damaged tables: {e}"))
     }
 
     fn call(&mut self, random: &mut Random, call: &Call) -> Result<(), String> {
@@ -539,7 +490,7 @@ impl<'a> Check<'a> {
             }
             (Call::Merge(steps), Outcome::Steps(answer)) => {
                 self.steps_agree(random, before, merge, *steps, *answer)?;
-                literal_groups_agree(before)?;
+                groups_agree(before)?;
                 merged_agrees(before, after, answer.visits as usize)?;
             }
             (Call::Sweep(steps), Outcome::Steps(answer)) => {
@@ -555,7 +506,7 @@ impl<'a> Check<'a> {
                 comparisons_agree(&other)?;
             }
             (Call::Stamp(list), Outcome::Stamped) => {
-                literal_groups_agree(before)?;
+                groups_agree(before)?;
                 stamps_agree(after, list)?;
             }
             (Call::Failed, Outcome::Failed(count)) => {

@@ -46,7 +46,7 @@ pub fn steps_up(formula: &Formula, q: i32, p: i32) -> Option<usize> {
 }
 
 /// The groups are those of literals that reach each other.
-pub fn literal_groups_agree(formula: &Formula) -> Result<(), String> {
+pub fn groups_agree(formula: &Formula) -> Result<(), String> {
     let reaches = reachability(formula);
     let mut group_of = vec![0; 2 * formula.v()];
     for (number, group) in Graph::of(formula).groups().iter().enumerate() {

@@ -21,7 +21,6 @@ mod comparison;
 mod explain;
 mod failed;
 mod graph;
-mod groups;
 mod learn;
 mod merge;
 mod programme;
@@ -39,11 +38,9 @@ mod check;
 mod compare_calls;
 mod compare_explain;
 mod compare_figures;
-mod compare_groups;
 mod compare_intervals;
 mod compare_join;
 mod compare_learn;
-mod compare_parts;
 mod compare_programmes;
 mod compare_reach;
 mod compare_repeats;
@@ -53,9 +50,6 @@ mod compare_walks;
 mod named;
 mod named_explain;
 mod named_explain_refusals;
-mod named_groups;
-mod named_groups_limits;
-mod named_groups_refusals;
 mod named_join;
 mod named_join_limits;
 mod named_join_refusals;
@@ -67,8 +61,6 @@ mod small;
 mod transitive;
 mod truth;
 
-#[path = "../generate/apart.rs"]
-mod apart;
 #[path = "../generate/calls.rs"]
 mod calls;
 #[path = "../generate/chained.rs"]

@@ -5,14 +5,11 @@
 //! programme stand in `named_programmes.rs`, those of the reach in
 //! `named_reach.rs`, those of learn in `named_learn.rs` and `named_window.rs`,
 //! those of explain in `named_explain.rs` and `named_explain_refusals.rs`, those of
-//! joins in `named_join.rs`, `named_join_refusals.rs` and `named_join_limits.rs`,
-//! those of groups in `named_groups.rs`, `named_groups_refusals.rs` and
-//! `named_groups_limits.rs`.
+//! joins in `named_join.rs`, `named_join_refusals.rs` and `named_join_limits.rs`.
 
 use crate::{
-    named_explain, named_explain_refusals, named_groups, named_groups_limits,
-    named_groups_refusals, named_join, named_join_limits, named_join_refusals, named_learn,
-    named_programmes, named_reach, named_window,
+    named_explain, named_explain_refusals, named_join, named_join_limits, named_join_refusals,
+    named_learn, named_programmes, named_reach, named_window,
 };
 
 /// The bytes of a load, the calls behind it, a line each, and what a replay of
@@ -63,8 +60,7 @@ fn all_large() -> Vec<Case> {
     let explains = named_explain::large();
     let others = windows.into_iter().chain(explains);
     let joins = named_join_limits::cases();
-    let others = others.chain(joins).chain(named_groups_limits::cases());
-    large().into_iter().chain(others).collect()
+    large().into_iter().chain(others).chain(joins).collect()
 }
 
 /// Cases on small formulas.
@@ -94,11 +90,8 @@ fn short() -> Vec<Case> {
     let joins = named_join::cases()
         .into_iter()
         .chain(named_join_refusals::cases());
-    let groups = named_groups::cases()
-        .into_iter()
-        .chain(named_groups_refusals::cases());
     let passes = passes.chain(programmes).chain(reach);
-    let others = learns.chain(explains).chain(joins).chain(groups);
+    let others = learns.chain(explains).chain(joins);
     texts.chain(passes).chain(others).collect()
 }
 
@@ -115,7 +108,6 @@ fn wrong_lines() -> Vec<Case> {
         .map(with_calls)
         .chain(too_long)
         .chain(named_join_refusals::wrong_lines())
-        .chain(named_groups_refusals::wrong_lines())
         .collect()
 }
 

@@ -3,7 +3,6 @@
 use crate::comparison::compare;
 use crate::explain::explain;
 use crate::failed::failed;
-use crate::groups::{group, groups};
 use crate::join::join;
 use crate::learn::{learn, Learnt};
 use crate::load::load;
@@ -26,7 +25,6 @@ const MOST_STEPS: i64 = 65_535;
 const MOST_LIST: usize = 4_096;
 const MOST_CODES_IN_LINE: usize = 64;
 const MOST_ROOM: i64 = 131_072;
-const MOST_NUMBERS: i64 = (MOST_VARIABLES + EXTRA) as i64;
 
 pub struct Replay {
     pub formula: Formula,
@@ -97,17 +95,53 @@ impl Replay {
 
     fn take_words(&mut self, words: &[&str]) -> Result<(), WrongLine> {
         match words {
-            ["propagate", steps] => self.pass(propagate, steps)?,
-            ["merge", steps] => self.pass(merge, steps)?,
-            ["sweep", steps] => self.pass(sweep, steps)?,
+            ["propagate", steps] => {
+                let steps = number(steps, 0, MOST_STEPS)? as u32;
+                self.clear_unused();
+                let answer = propagate(&mut self.formula, steps);
+                self.print_answer(answer);
+            }
+            ["merge", steps] => {
+                let steps = number(steps, 0, MOST_STEPS)? as u32;
+                self.clear_unused();
+                let answer = merge(&mut self.formula, steps);
+                self.print_answer(answer);
+            }
+            ["sweep", steps] => {
+                let steps = number(steps, 0, MOST_STEPS)? as u32;
+                self.clear_unused();
+                let answer = sweep(&mut self.formula, steps);
+                self.print_answer(answer);
+            }
             ["stamp", list @ ..] => self.stamp(list)?,
             ["learn", newcomer @ ..] => self.learn(newcomer)?,
-            ["failed"] => self.failed(),
-            ["run", rounds] => self.run(rounds)?,
-            ["write", room] => self.write(room)?,
+            ["failed"] => {
+                self.clear_unused();
+                match failed(&mut self.formula) {
+                    Ok(count) => self.print(format!("failed {count}")),
+                    Err(refusal) => self.print_refusal(refusal),
+                }
+            }
+            ["run", rounds] => {
+                let rounds = number(rounds, 0, MOST_STEPS)? as u32;
+                self.clear_unused();
+                match run(&mut self.formula, rounds) {
+                    Ok(made) => self.print(format!("ran {made}")),
+                    Err(refusal) => self.print_refusal(refusal),
+                }
+            }
+            ["write", room] => {
+                let room = number(room, 0, MOST_ROOM)? as usize;
+                self.clear_unused();
+                match write(&self.formula, room) {
+                    Ok(text) => {
+                        self.print(format!("written {}", text.len()));
+                        self.output.extend_from_slice(&text);
+                    }
+                    Err(refusal) => self.print_refusal(refusal),
+                }
+            }
             ["explain", clause, room] => self.explain(clause, room)?,
-            ["groups", room] => self.groups(room)?,
-            ["group", number, room] => self.group(number, room)?,
             ["programme", codes @ ..] => self.programme(codes)?,
             ["compare", first, second] => self.compare(first, second)?,
             ["state"] => self.print_state(),
@@ -151,37 +185,6 @@ impl Replay {
         self.print_loaded(answer);
     }
 
-    /// A pass that makes visits.
-    fn pass(
-        &mut self,
-        pass: fn(&mut Formula, u32) -> Result<Answer, Refusal>,
-        steps: &str,
-    ) -> Result<(), WrongLine> {
-        let steps = number(steps, 0, MOST_STEPS)? as u32;
-        self.clear_unused();
-        let answer = pass(&mut self.formula, steps);
-        self.print_answer(answer);
-        Ok(())
-    }
-
-    fn failed(&mut self) {
-        self.clear_unused();
-        match failed(&mut self.formula) {
-            Ok(count) => self.print(format!("failed {count}")),
-            Err(refusal) => self.print_refusal(refusal),
-        }
-    }
-
-    fn run(&mut self, rounds: &str) -> Result<(), WrongLine> {
-        let rounds = number(rounds, 0, MOST_STEPS)? as u32;
-        self.clear_unused();
-        match run(&mut self.formula, rounds) {
-            Ok(made) => self.print(format!("ran {made}")),
-            Err(refusal) => self.print_refusal(refusal),
-        }
-        Ok(())
-    }
-
     fn stamp(&mut self, words: &[&str]) -> Result<(), WrongLine> {
         let list = list_of(words)?;
         self.clear_unused();
@@ -204,16 +207,6 @@ impl Replay {
         Ok(())
     }
 
-    fn write(&mut self, room: &str) -> Result<(), WrongLine> {
-        let room = number(room, 0, MOST_ROOM)? as usize;
-        self.clear_unused();
-        match write(&self.formula, room) {
-            Ok(text) => self.print_written(&text),
-            Err(refusal) => self.print_refusal(refusal),
-        }
-        Ok(())
-    }
-
     fn explain(&mut self, clause: &str, room: &str) -> Result<(), WrongLine> {
         let clause = any_u32(clause)?;
         let mut output = vec![0; number(room, 0, MOST_ROOM)? as usize];
@@ -226,33 +219,6 @@ impl Replay {
                 ));
                 self.output.extend_from_slice(&output[..answer.length]);
             }
-            Err(refusal) => self.print_refusal(refusal),
-        }
-        Ok(())
-    }
-
-    /// An output of so many numbers.
-    fn groups(&mut self, room: &str) -> Result<(), WrongLine> {
-        let mut output = vec![0; number(room, 0, MOST_NUMBERS)? as usize];
-        self.clear_unused();
-        match groups(&self.formula, &mut output) {
-            Ok(count) => {
-                self.print(format!("groups {count}"));
-                let numbers = output[..self.formula.v()].iter().map(u32::to_string);
-                let line = numbers.collect::<Vec<String>>().join(" ");
-                self.print(line);
-            }
-            Err(refusal) => self.print_refusal(refusal),
-        }
-        Ok(())
-    }
-
-    fn group(&mut self, group_number: &str, room: &str) -> Result<(), WrongLine> {
-        let group_number = any_u32(group_number)?;
-        let mut output = vec![0; number(room, 0, MOST_ROOM)? as usize];
-        self.clear_unused();
-        match group(&self.formula, group_number, &mut output) {
-            Ok(length) => self.print_written(&output[..length]),
             Err(refusal) => self.print_refusal(refusal),
         }
         Ok(())
@@ -402,11 +368,6 @@ impl Replay {
 
     fn print_refusal(&mut self, refusal: Refusal) {
         self.print(format!("refused {} {}", refusal.number, refusal.place));
-    }
-
-    fn print_written(&mut self, text: &[u8]) {
-        self.print(format!("written {}", text.len()));
-        self.output.extend_from_slice(text);
     }
 
     fn print_loaded(&mut self, answer: Result<(), Refusal>) {

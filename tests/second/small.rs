@@ -1,7 +1,6 @@
 //! Random formulas of few variables, of any kind, for the comparison with all
 //! assignments.
 
-use crate::apart;
 use crate::chained;
 use crate::formulas::{draft, Draft};
 use crate::implied;
@@ -12,9 +11,6 @@ use crate::valued;
 /// A formula of at most so many variables, which are 3 or more.
 pub fn any(random: &mut Random, most: usize) -> Draft {
     if random.once_in(4) {
-        let variables = random.between(3, most);
-        apart::draft(random, variables)
-    } else if random.once_in(4) {
         let variables = random.between(3, most);
         transitive::draft(random, variables)
     } else if random.once_in(3) {

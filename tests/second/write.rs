@@ -14,12 +14,8 @@ pub fn write(formula: &Formula, room: usize) -> Result<Vec<u8>, Refusal> {
 }
 
 fn text_of(formula: &Formula) -> Vec<u8> {
-    formula_text(formula.v(), &clauses_of(formula))
-}
-
-/// The header and the clauses.
-pub fn formula_text(variables: usize, clauses: &[Vec<i32>]) -> Vec<u8> {
-    let mut text = format!("p cnf {variables} {}\n", clauses.len());
+    let clauses = clauses_of(formula);
+    let mut text = format!("p cnf {} {}\n", formula.v(), clauses.len());
     for clause in clauses {
         for literal in clause {
             text.push_str(&format!("{literal} "));

@@ -2,4 +2,3 @@ pub mod Cases
 pub mod Booleans
 pub mod Lists
 pub mod Searches
-pub mod Counting

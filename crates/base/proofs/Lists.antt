@@ -80,16 +80,6 @@ in_filter {A} p (y ∷ ys) {x} m h = go (λ t. in_filter p ys t h) (p y) refl (M
     go rest false e (inl k) = clash (sym (ap p k) ∙ h) e
     go rest false e (inr t) = rest t
 
--- what is left of a list passes the test
-pub filter_test : {A : Type 0} (p : A → Bool) (xs : List A) {x : A} → Memᴰ x (filter p xs) → p x ≡ true
-unfolding filter
-filter_test p [] m = absurd (Memᴰ.not-nil m)
-filter_test {A} p (y ∷ xs) {x} m = by (λ r. filter_test p xs r) (p y) refl m
-  where
-    by : (Memᴰ x (filter p xs) → p x ≡ true) → (b : Bool) → p y ≡ b → Memᴰ x (elim b [ true ↦ y ∷ filter p xs | false ↦ filter p xs ]) → p x ≡ true
-    by rest true e m = ⊎_elim (λ (q : x ≡ y). ap p q ∙ e) (λ r. rest r) (Memᴰ.cases_cons m)
-    by rest false e m = rest m
-
 pub filter_append : {A : Type 0} (p : A → Bool) (xs ys : List A) → filter p (xs ++ ys) ≡ filter p xs ++ filter p ys
 unfolding filter
 filter_append p [] ys = refl
@@ -132,15 +122,6 @@ filter_map {A} {B} f p (x ∷ C) = go (filter_map f p C) (p (f x))
         → map f (elim b [ true ↦ x ∷ filter (λ l. p (f l)) C | false ↦ filter (λ l. p (f l)) C ]) ≡ elim b [ true ↦ f x ∷ filter p (map f C) | false ↦ filter p (map f C) ]
     go rest true = ap (λ (l : List B). f x ∷ l) rest
     go rest false = rest
-
--- the images of what a test leaves are what a test of the images leaves, where the tests agree on the list
-pub map_filter : {A B : Type 0} (f : A → B) (p : A → Bool) (q : B → Bool) (xs : List A) → ((x : A) → Memᴰ x xs → p x ≡ q (f x)) → map f (filter p xs) ≡ filter q (map f xs)
-map_filter f p q xs e = ap (map f) (filter_same p (λ x. q (f x)) xs e) ∙ filter_map f q xs
-
--- images of images by two ways that meet at each element
-pub map_along : {A B C D : Type 0} (f : A → B) (g : B → D) (h : A → C) (k : C → D) (xs : List A) → ((x : A) → Memᴰ x xs → g (f x) ≡ k (h x)) → map g (map f xs) ≡ map k (map h xs)
-map_along f g h k [] e = refl
-map_along f g h k (x ∷ xs) e = λ i. e x (Memᴰ.head refl) i ∷ map_along f g h k xs (λ y m. e y (Memᴰ.tail m)) i
 
 pub map_self : {A : Type 0} (C : List A) → map (λ s. s) C ≡ C
 map_self [] = refl

@@ -1,4 +1,3 @@
 pub mod Decide
 pub mod Lists
 pub mod Bytes
-pub mod Counting

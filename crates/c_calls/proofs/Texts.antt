@@ -1,4 +1,4 @@
--- The calls for C that write an output, by what each does on tables, a state and an output. A refused one leaves the output as it is: its result is 0, or nothing changed but the first number of the answer. The state and the tables are lent to them for reading only,
+-- The calls for C that write text, by what each does on tables, a state and an output. A refused one leaves the output as it is: its result is 0, or nothing changed but the first number of the answer. The state and the tables are lent to them for reading only,
 -- so behind one, made or refused, the next call finds them as they were, and an answer that has its four places. Assumes nothing.
 use Prim.Native.Nat.{ℕ, zero, suc, ◌-◌}
 use mathlib.Core.Bool.{Bool, true, false}
@@ -7,11 +7,11 @@ use mathlib.Core.Logic.{◌⊎◌, inl, inr}
 use mathlib.Core.List.{List, ◌++◌}
 use lib.ListN.{length, drop}
 use lib.Dec.{leb}
-use lib.IntN.{ℤ, pos}
+use lib.IntN.{pos}
 use Rattle.state.specs.Answers.{reply_of, result_by}
 use Rattle.state.specs.declared.State.{State}
 use Rattle.state.specs.declared.Answer.{Answer}
-use Rattle.state.specs.declared.Answer.TheVariants.{Refused, Written, Explained, Grouped}
+use Rattle.state.specs.declared.Answer.TheVariants.{Refused, Written, Explained}
 use Rattle.state.specs.declared.Refusal.TheVariants.{Shape, Short}
 use Rattle.stamp_columns.specs.Columns.{columns}
 use Rattle.tables.specs.Tables.{Tables}
@@ -23,10 +23,6 @@ use Rattle.entry.specs.declared.Opening.TheVariants.{Denied, Granted}
 use Rattle.write.specs.Write.{AfterWrite, after_write, text_into, write_into, write_text, write_call}
 use Rattle.explain.specs.Reasons.{Reasons, reasons_of}
 use Rattle.explain.specs.Explain.{chains_text, stands, explain_if, explain_unless_stale, explain_opening, explain_call}
-use Rattle.group_numbers.specs.Numbers.{group_numbers, group_count}
-use Rattle.groups.specs.Standing.{standing_of}
-use Rattle.groups.specs.Group.{group_text}
-use Rattle.groups.specs.Calls.{numbers_into, groups_opening, groups_call, there, group_if, group_into, group_opening, group_call}
 use Rattle.c_numbers.specs.StateNumbers.{state_of}
 use Rattle.c_numbers.specs.CCalls.{ready, put_answer_by, put_answer, refuse_unread, AfterWriteC, after_write_c, told_write, text_c}
 use Rattle.c_numbers.proofs.Answered.{unread_behind}
@@ -79,32 +75,6 @@ explain_keeps number t st out = by (opening_of t st)
     by (Denied r) = inr refl
     by Granted = fresh st.fresh
 
-pub groups_keep : KeepsOut groups_call
-unfolding groups_call numbers_into
-groups_keep t st out = by (opening_of t st)
-  where
-    cs : List (List ℤ)
-    cs = standing_of t st
-
-    by : (o : Opening) → KeptOut out (groups_opening o t st out)
-    by (Denied r) = inr refl
-    by Granted = into_keeps (λ _. Grouped (group_count st.v cs)) (λ n. refl) (drop 1 (group_numbers st.v cs)) out
-
-pub group_keeps : (g : ℕ) → KeepsOut (group_call g)
-unfolding group_call group_into
-group_keeps g t st out = by (opening_of t st)
-  where
-    cs : List (List ℤ)
-    cs = standing_of t st
-
-    numbered : (b : Bool) → KeptOut out (group_if b g st.v cs out)
-    numbered true = into_keeps Written (λ n. refl) (group_text st.v (group_numbers st.v cs) g cs) out
-    numbered false = inr refl
-
-    by : (o : Opening) → KeptOut out (group_opening o g t st out)
-    by (Denied r) = inr refl
-    by Granted = numbered (there g (group_count st.v cs))
-
 -- ---- for C
 
 -- the result is 0, or the numbers of the answer behind the first and the output are as they were
@@ -121,7 +91,7 @@ told_text_leaves m a out (inr same) = numbered m.reply.number
     numbered (suc n) = inr (refl, same)
 
 module _ (call : Tables → State → List ℕ → AfterWrite) (t : Tables) (s a out : List ℕ) where
-  -- THE LAW, with `write_keeps`, `explain_keeps`, `groups_keep` and `group_keeps`
+  -- THE LAW, with `write_keeps` and `explain_keeps`
   pub refused_text : KeepsOut call → TextLeft a out (text_c call t s a out)
   unfolding text_c
   refused_text keeps = reading (ready s a)

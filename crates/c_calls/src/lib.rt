@@ -14,7 +14,6 @@ ghost use Rattle.run.specs.Run.{run_call};
 ghost use Rattle.set_programme.specs.SetProgramme.{set_call};
 ghost use Rattle.write.specs.Write.{write_call};
 ghost use Rattle.explain.specs.Explain.{explain_call};
-ghost use Rattle.groups.specs.Calls.{groups_call, group_call};
 ghost use Rattle.compare.specs.Compare.{compare_call, comparison_result};
 ghost use Rattle.simplify.specs.Texts.{simplify_text, result_of};
 ghost use Rattle.c_numbers.specs.CCalls.{after_c, call_c, after_write_c, text_c};
@@ -326,55 +325,6 @@ pub extern "C" fn unhide_explain(
     }
     let st = c_numbers::state_at(state);
     let a = explain::explain(clauses, literals, variables, times, links, st, number, out);
-    c_numbers::put_answer(answer, a)
-}
-
-// The group of each variable, by numbers into an output of numbers, and how many groups the standing clauses make.
-#[unsafe(no_mangle)]
-pub extern "C" fn unhide_groups(
-    clauses: &[u32],
-    literals: &[i32],
-    variables: &[i32],
-    times: &[u32],
-    links: &[i32],
-    state: &[u32],
-    answer: &mut [u64],
-    out: &mut [u32],
-) -> i64
-    ensures out_after { after_write_c result answer.new out.new
-        ≡ text_c groups_call (lent clauses literals variables times links) state.now answer.old out.old }
-    ensures links_value { (returned clauses literals variables times links ≡ lent clauses literals variables times links) × (state.now ≡ state.now) }
-{
-    if !c_numbers::ready(state, answer) {
-        return c_numbers::refuse_unread(answer);
-    }
-    let st = c_numbers::state_at(state);
-    let a = groups::groups(clauses, literals, variables, times, links, st, out);
-    c_numbers::put_answer(answer, a)
-}
-
-// The clauses of one group as text, its variables renumbered from 1.
-#[unsafe(no_mangle)]
-pub extern "C" fn unhide_group(
-    clauses: &[u32],
-    literals: &[i32],
-    variables: &[i32],
-    times: &[u32],
-    links: &[i32],
-    state: &[u32],
-    answer: &mut [u64],
-    number: u32,
-    out: &mut [u8],
-) -> i64
-    ensures out_after { after_write_c result answer.new out.new
-        ≡ text_c (group_call number) (lent clauses literals variables times links) state.now answer.old out.old }
-    ensures links_value { (returned clauses literals variables times links ≡ lent clauses literals variables times links) × (state.now ≡ state.now) }
-{
-    if !c_numbers::ready(state, answer) {
-        return c_numbers::refuse_unread(answer);
-    }
-    let st = c_numbers::state_at(state);
-    let a = groups::group(clauses, literals, variables, times, links, st, number, out);
     c_numbers::put_answer(answer, a)
 }
 

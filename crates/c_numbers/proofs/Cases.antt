@@ -11,8 +11,8 @@ use Rattle.state.specs.declared.State.{State}
 use Rattle.state.specs.declared.Programme.{Programme}
 use Rattle.state.specs.declared.Pass.TheVariants.{Idle, Propagate, Sweep}
 use Rattle.state.specs.declared.Counts.{Counts}
-use Rattle.state.specs.declared.Answer.TheVariants.{Refused, Loaded, Open, Ran, KeptWhole, KeptShort, NotKept, Explained, Grouped}
-use Rattle.state.specs.declared.Refusal.TheVariants.{Unsettled, Newcomer, NoClause, NoGroup}
+use Rattle.state.specs.declared.Answer.TheVariants.{Refused, Loaded, Open, Ran, KeptWhole, KeptShort, NotKept, Explained}
+use Rattle.state.specs.declared.Refusal.TheVariants.{Unsettled, Newcomer, NoClause}
 use Rattle.state.specs.declared.Verdict.TheVariants.{Nothing, Drop, Shorten}
 use Rattle.tables.specs.Tables.{Tables}
 use Rattle.tables.specs.Calls.{After, answered, refuse}
@@ -54,11 +54,6 @@ learnt : (put_answer (reply_of (KeptWhole 3)) (9 ∷ 9 ∷ 9 ∷ 9 ∷ 9 ∷ [])
     × (put_answer (reply_of NotKept) (9 ∷ 9 ∷ 9 ∷ 9 ∷ []) ≡ 1 ∷ 0 ∷ 0 ∷ 0 ∷ [])
 unfolding put_answer
 learnt = (refl, refl, refl)
-
--- the count of groups; a group that is not there is refused (17)
-grouped : (put_answer (reply_of (Grouped 3)) (9 ∷ 9 ∷ 9 ∷ 9 ∷ 9 ∷ []) ≡ 3 ∷ 0 ∷ 0 ∷ 0 ∷ 9 ∷ []) × (put_answer (reply_of (Refused NoGroup)) (9 ∷ 9 ∷ 9 ∷ 9 ∷ []) ≡ 0 ∷ 9 ∷ 9 ∷ 9 ∷ [])
-unfolding put_answer
-grouped = (refl, refl)
 
 -- what explain says of a clause: nothing goes; it is dropped, and its chain has 8 bytes; two literals are taken out of it, and their chains have 14. A number that is no clause's is refused (13)
 explained : (put_answer (reply_of (Explained Nothing 0 0)) (9 ∷ 9 ∷ 9 ∷ 9 ∷ 9 ∷ []) ≡ 0 ∷ 0 ∷ 0 ∷ 0 ∷ 9 ∷ []) × (put_answer (reply_of (Explained Drop 0 8)) (9 ∷ 9 ∷ 9 ∷ 9 ∷ []) ≡ 1 ∷ 0 ∷ 8 ∷ 0 ∷ [])

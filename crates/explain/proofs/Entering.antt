@@ -18,11 +18,11 @@ use Rattle.entry.proofs.Entering.{granted_entered}
 use Rattle.visits.specs.Visited.{Visitable}
 use Rattle.visits.proofs.Entered.{entered_formed}
 use Rattle.visits.proofs.Forming.{clause_fits}
-use Rattle.visits.proofs.Fitting.{fit_few}
 use Rattle.write.specs.Write.{after_write}
 use Rattle.explain.specs.Explain.{stands, explain_literals, explain_unless_stale, explain_opening, explain_call}
 use Rattle.explain.specs.Asking.{Clause, Ready}
 use Rattle.explain.proofs.Standing.{Stands}
+use Rattle.explain.proofs.Few.{few_literals}
 
 pub granted_ready : (t : Tables) (st : State) → opening_of t st ≡ Granted → Ready t.clauses t.literals t.times t.links st
 granted_ready t st e =
@@ -48,7 +48,7 @@ module _ {clauses : List ℕ} {literals : List ℤ} {times : List ℕ} {links : 
         vars = st.v;
         stamped = R.stamped f;
         long = R.long;
-        few = omega (arith, fit_few F, (R.stamped f).few);
+        few = omega (arith, few_literals F, (R.stamped f).few);
         each = F.ranged;
         once = λ j k l h. F.once k h j l;
       }

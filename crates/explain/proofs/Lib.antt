@@ -8,6 +8,7 @@ pub mod Finding
 pub mod Firsts
 pub mod Naming
 pub mod Named
+pub mod Few
 pub mod Standing
 pub mod Entering
 pub mod Writing

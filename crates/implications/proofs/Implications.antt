@@ -21,7 +21,7 @@ use Rattle.implications.proofs.Csr.{outs_in, outs_out, outs_mem, built_adj}
 
 -- ---- an edge is the first of the list, or a later one
 
-pub outs_cases : (f t p q : ℕ) (fs ts : List ℕ) → Memᴰ q (outs (f ∷ fs) (t ∷ ts) p) → ((f ≡ p) × (q ≡ t)) ⊎ (Memᴰ q (outs fs ts p))
+outs_cases : (f t p q : ℕ) (fs ts : List ℕ) → Memᴰ q (outs (f ∷ fs) (t ∷ ts) p) → ((f ≡ p) × (q ≡ t)) ⊎ (Memᴰ q (outs fs ts p))
 outs_cases f t p q fs ts m =
     ⊎_elim
     (λ (e : f ≡ p). ⊎_elim (λ (h : q ≡ t). inl (e, h)) (λ k. inr k) (Memᴰ.cases_cons (subst (Memᴰ q) (outs_in f t p fs ts e) m)))

@@ -1,16 +1,14 @@
 -- One literal more in a clause: what is kept of it, whether it has v and −v, what stands in it. Assumes nothing.
 use mathlib.Core.Path.{◌≡◌, refl, sym, ap, ◌∙◌}
-use mathlib.Core.Bool.{Bool, true, false, ◌||◌, or-true, or-false, or_assoc, false≢true}
-use mathlib.Core.Logic.{⊎_elim}
-use mathlib.Core.List.Memᴰ
-use mathlib.Core.List.{List, [], ◌∷◌, ◌++◌, Memᴰ}
+use mathlib.Core.Bool.{Bool, true, false, ◌||◌, or-true, or-false, or_assoc}
+use mathlib.Core.List.{List, [], ◌∷◌, ◌++◌}
 use Prim.Native.Nat.{ℕ, zero, suc, ◌+◌, ◌≤◌, ◌<◌}
 use native.Mathlib.Omega.{arith}
 use lib.Dec.{eqb}
 use lib.ListN.{length, get_or, length-append}
 use lib.IntN.{ℤ, pos, neg_ℤ, nat_abs, neg_ℤ-neg_ℤ}
 use borrow.Author.Tests.{ne_eqb}
-use Rattle.base.proofs.Booleans.{both_ways, or_either}
+use Rattle.base.proofs.Booleans.{both_ways}
 use Rattle.literal.specs.Literals.{eq_z}
 use Rattle.literal.specs.Clauses.{has, distinct_from, distinct, tautology}
 use Rattle.literal.proofs.Signed.{eq_eq_z, eq_z_true}
@@ -30,20 +28,6 @@ eq_z_neg x y = both_ways _ _ (turn x y) (turn y x)
   where
     turn : (x y : ℤ) → eq_z x (neg_ℤ y) ≡ true → eq_z y (neg_ℤ x) ≡ true
     turn x y e = eq_eq_z y (neg_ℤ x) (sym (neg_ℤ-neg_ℤ y) ∙ ap neg_ℤ (sym (eq_z_true x (neg_ℤ y) e)))
-
--- ---- whether a literal stands in a list
-
-pub mem_has : (l : ℤ) (xs : List ℤ) → Memᴰ l xs → has l xs ≡ true
-mem_has l [] m = absurd (Memᴰ.not-nil m)
-mem_has l (x ∷ xs) m = ⊎_elim (λ (e : l ≡ x). ap (λ (b : Bool). b || has l xs) (eq_eq_z x l (sym e))) (λ r. by (eq_z x l) (mem_has l xs r)) (Memᴰ.cases_cons m)
-  where
-    by : (b : Bool) → has l xs ≡ true → (b || has l xs) ≡ true
-    by true e = refl
-    by false e = e
-
-pub has_mem : (l : ℤ) (xs : List ℤ) → has l xs ≡ true → Memᴰ l xs
-has_mem l [] e = absurd (false≢true e)
-has_mem l (x ∷ xs) e = ⊎_elim (λ h. Memᴰ.head (sym (eq_z_true x l h))) (λ h. Memᴰ.tail (has_mem l xs h)) (or_either (eq_z x l) (has l xs) e)
 
 -- ---- one literal more
 pub has_snoc : (l : ℤ) (xs : List ℤ) (x : ℤ) → has l (xs ++ (x ∷ [])) ≡ (has l xs || eq_z x l)

@@ -2,7 +2,6 @@
 use Prim.Native.Nat.{ℕ, zero, suc, ◌+◌, ◌*◌, ◌-◌, ◌/◌, ◌%◌, ◌<◌, ◌≤◌}
 use mathlib.Core.Path.{◌≡◌, refl, sym, ap, ◌∙◌}
 use mathlib.Core.Bool.{Bool, true, false}
-use mathlib.Core.List.{List, [], ◌∷◌, map}
 use native.Mathlib.Omega.{arith}
 use native.Mathlib.Numerals.{add-one}
 use lib.Dec.{eqb}
@@ -19,10 +18,6 @@ slot_lit s = go (eqb (s % 2) 0) refl
     go : (b : Bool) → eqb (s % 2) 0 ≡ b → slot_of (lit_by b (s / 2 + 1)) ≡ s
     go true e = let h : s % 2 ≡ 0 = eqb-true _ _ e in omega arith
     go false e = let h : s % 2 ≡ 0 → ⊥ = eqb-false _ _ e in rw add-one (omega arith)
-
-pub slots_back : (D : List ℕ) → map slot_of (map lit_at D) ≡ D
-slots_back [] = refl
-slots_back (s ∷ D) = λ i. slot_lit s i ∷ slots_back D i
 
 pub lit_slot : (l : ℤ) → 0 < nat_abs l → lit_at (slot_of l) ≡ l
 lit_slot (pos zero) h = absurd (omega arith)

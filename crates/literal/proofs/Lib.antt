@@ -3,7 +3,6 @@ pub mod Twins
 pub mod Laws
 pub mod Truth
 pub mod Distinct
-pub mod Satisfying
 pub mod Ranged
 pub mod Zeros
 pub mod Compact

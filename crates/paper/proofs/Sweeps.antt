@@ -26,9 +26,7 @@ use Rattle.visits.proofs.Visiting.{visits_beside}
 use Rattle.visits.proofs.Advancing.{advance_cases}
 use Rattle.sweep_visits.specs.Clause.{sweep_clause}
 use Rattle.sweep_visits.proofs.Visiting.{sweep_shrinks}
-use Rattle.shape.specs.Shape.{Shape}
 use Rattle.sweep.specs.Sweep.{sweep_from, sweep_by, sweep_call}
-use Rattle.sweep.proofs.Shaped.{sweep_shaped}
 use Rattle.paper.specs.Sweeping.{swept_from, sweeps}
 
 -- a visits from clause k on, then b more from where they end
@@ -41,9 +39,9 @@ module _ (t : Tables) (st : State) where
   abbrev rule : List ℤ → Fate
   rule = sweep_clause (columns t.times t.links)
 
-  -- where the calls stand: none has opened the pass, it is open with the cursor behind the visits, or it has ended with a visit to each clause and the stamps are spent
+  -- where the calls stand: none has opened the pass, it is open with the cursor behind the visits, or it has ended and the stamps are spent
   abbrev At : ℕ → State → Type 0
-  At k s = ((k ≡ 0) × (s ≡ closed true st)) ⊎ ((s ≡ opened (Sweep k) true st) ⊎ ((k ≡ st.n) × (s ≡ closed false st)))
+  At k s = ((k ≡ 0) × (s ≡ closed true st)) ⊎ ((s ≡ opened (Sweep k) true st) ⊎ (s ≡ closed false st))
 
   pub record Made (a : After) : Type 0 where
     pub count : ℕ
@@ -61,7 +59,7 @@ module _ (t : Tables) (st : State) where
       let all : visits (sweep_clause (columns u.times u.links)) m k u ≡ visits rule (k + m) 0 t = (λ i. visits (own i) m k (e i)) ∙ visits_join rule k m 0 k (omega arith) t in
       advance_cases Sweep true false (sweep_clause (columns u.times u.links)) steps k u (opened p true st) Made
       (λ counts lt. record { count = k + m; within = far; made = all; stands = inr (inl refl) })
-      (λ counts done. record { count = k + m; within = far; made = all; stands = inr (inr (omega (arith, done, far), refl)) })
+      (λ counts done. record { count = k + m; within = far; made = all; stands = inr (inr refl) })
 
   -- a call that is refused
   stays : (k : ℕ) (u : Tables) (s : State) (r : Refusal) → k ≤ st.n → u ≡ visits rule k 0 t → At k s → Made (refuse r s u)
@@ -90,12 +88,12 @@ module _ (t : Tables) (st : State) where
           let same : k ≡ j = ap swept_from (resumes_entered own.Sweep u (opened (Sweep k) true st) j changed q).pass in
           subst (λ (i : ℕ). Made (sweep_from steps i u (opened (Sweep k) true st))) same (goes_on k steps (Sweep k) u le e)
 
-  from_spent : (steps k : ℕ) (u : Tables) → k ≡ st.n → u ≡ visits rule k 0 t → Made (sweep_by (entry_of own.Sweep u (closed false st)) steps u (closed false st))
-  from_spent steps k u last e = by (entry_of own.Sweep u (closed false st)) refl
+  from_spent : (steps k : ℕ) (u : Tables) → k ≤ st.n → u ≡ visits rule k 0 t → Made (sweep_by (entry_of own.Sweep u (closed false st)) steps u (closed false st))
+  from_spent steps k u le e = by (entry_of own.Sweep u (closed false st)) refl
     where
       by : (x : Entry) → entry_of own.Sweep u (closed false st) ≡ x → Made (sweep_by x steps u (closed false st))
-      by (No r) q = stays k u (closed false st) r (omega arith) e (inr (inr (last, refl)))
-      by Opens q = stays k u (closed false st) Stale (omega arith) e (inr (inr (last, refl)))
+      by (No r) q = stays k u (closed false st) r le e (inr (inr refl))
+      by Opens q = stays k u (closed false st) Stale le e (inr (inr refl))
       by (Resumes j changed) q = absurd (not_open (resumes_entered own.Sweep u (closed false st) j changed q).pass)
 
   step : (steps : ℕ) (a : After) → Made a → Made (sweep_call steps a.tables a.state)
@@ -108,7 +106,7 @@ module _ (t : Tables) (st : State) where
       by : At M.count a.state → By a.state
       by (inl (z, e)) = subst By (sym e) (from_none steps a.tables (M.made ∙ ap (λ (k : ℕ). visits rule k 0 t) z))
       by (inr (inl e)) = subst By (sym e) (from_open steps M.count a.tables M.within M.made)
-      by (inr (inr (last, e))) = subst By (sym e) (from_spent steps M.count a.tables last M.made)
+      by (inr (inr e)) = subst By (sym e) (from_spent steps M.count a.tables M.within M.made)
 
 -- at the beginning no visit is made
 pub none_made : (t : Tables) (st : State) (a : After) → a.tables ≡ t → a.state ≡ closed true st → Made t st a
@@ -120,9 +118,3 @@ pub sweeps_made : (t : Tables) (st : State) (ns : List ℕ) (a : After) → Made
 unfolding sweeps
 sweeps_made t st [] a M = M
 sweeps_made t st (n ∷ ns) a M = sweeps_made t st ns (sweep_call n a.tables a.state) (step t st n a M)
-
--- Sweep calls keep the shape rule
-pub sweeps_shaped : (ns : List ℕ) (a : After) → Shape a.tables a.state → Shape (sweeps ns a).tables (sweeps ns a).state
-unfolding sweeps
-sweeps_shaped [] a S = S
-sweeps_shaped (n ∷ ns) a S = sweeps_shaped ns (sweep_call n a.tables a.state) (sweep_shaped n a.tables a.state S)

@@ -7,8 +7,8 @@ use Rattle.state.specs.declared.State.{State}
 use Rattle.tables.specs.Tables.{Tables}
 use Rattle.shape.specs.Shape.{Shape}
 use Rattle.visits.proofs.Forming.{shape_formed, clause_fits}
-use Rattle.visits.proofs.Fitting.{fit_few}
 use Rattle.explain.specs.Asking.{Clause}
+use Rattle.explain.proofs.Few.{few_literals}
 use Rattle.paper.specs.Clauses.{clause_at}
 
 pub clause_asked : {t : Tables} {st : State} → Shape t st → st.fresh ≡ true → (i : ℕ) → i < st.n → Clause t.times t.links (clause_at t i)
@@ -18,7 +18,7 @@ clause_asked {t} {st} S fresh i lt =
       vars = st.v;
       stamped = record { few = S.v_limit; timed = omega (arith, S.v_limit, S.long.times); linked = omega (arith, S.v_limit, S.long.links); fresh = S.stamps fresh };
       long = S.long.times;
-      few = omega (arith, fit_few F, S.v_limit);
+      few = omega (arith, few_literals F, S.v_limit);
       each = F.ranged;
       once = λ j k l h. F.once k h j l;
     }

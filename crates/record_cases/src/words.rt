@@ -66,6 +66,5 @@ pub fn print_answer(answer: Answer) {
         Answer::KeptShort(left) => print_value(b"shortened", left as u64),
         Answer::NotKept => print(b"dropped"),
         Answer::Explained(verdict, out, length) => print_explained(verdict, out, length),
-        Answer::Grouped(count) => print_value(b"groups", count as u64),
     }
 }

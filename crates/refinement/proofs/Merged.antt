@@ -2,7 +2,7 @@
 use Prim.Native.Nat.{ℕ, ◌+◌, ◌≤◌, ◌<◌}
 use native.Mathlib.Omega.{arith}
 use mathlib.Core.Path.{◌≡◌, refl, sym, ap, subst, ◌∙◌}
-use mathlib.Core.Bool.{Bool, true, false, false≢true}
+use mathlib.Core.Bool.{Bool, true, false, ◌||◌, false≢true}
 use mathlib.Core.Logic.{⊎_elim}
 use mathlib.Core.List.Memᴰ
 use mathlib.Core.List.Sublistᴰ
@@ -12,9 +12,10 @@ use lib.Seq.{get_or-set_same, set-set}
 use lib.IntN.{ℤ, neg_ℤ, nat_abs}
 use Rattle.base.proofs.Booleans.{or_either}
 use Rattle.base.proofs.Lists.{sub_mem}
-use Rattle.literal.specs.Literals.{slot_of}
+use Rattle.literal.specs.Literals.{slot_of, eq_z}
 use Rattle.literal.specs.Clauses.{has, distinct_from, distinct, tautology}
 use Rattle.literal.proofs.Laws.{slot_twin}
+use Rattle.literal.proofs.Signed.{eq_z_true, eq_eq_z}
 use Rattle.tables.specs.Tables.{Tables, tables, length_of}
 use Rattle.tables.specs.Tables as T
 use Rattle.tables.specs.Values.{class_literal}
@@ -27,12 +28,24 @@ use Rattle.sound.specs.Formula.{Clause, dropped, standing}
 use Rattle.moves.specs.Core as core
 use Rattle.moves.specs.Moves as moves
 use Rattle.repeats.proofs.Repeats.{distinct_short}
-use Rattle.literal.proofs.Distinct.{mem_has, has_mem, has_distinct}
+use Rattle.literal.proofs.Distinct.{has_distinct}
 use Rattle.refinement.specs.Represented.{Represented}
 use Rattle.refinement.proofs.Literals.{class_is, class_lit}
 use Rattle.refinement.proofs.Propagated.{Simulated, literals_at, stands_as, put_represented, mem_map, map_sub}
 
 -- ---- lists without repeats
+
+mem_has : (l : ℤ) (xs : List ℤ) → Memᴰ l xs → has l xs ≡ true
+mem_has l [] m = absurd (Memᴰ.not-nil m)
+mem_has l (x ∷ xs) m = ⊎_elim (λ (e : l ≡ x). ap (λ (b : Bool). b || has l xs) (eq_eq_z x l (sym e))) (λ r. by (eq_z x l) (mem_has l xs r)) (Memᴰ.cases_cons m)
+  where
+    by : (b : Bool) → has l xs ≡ true → (b || has l xs) ≡ true
+    by true e = refl
+    by false e = e
+
+has_mem : (l : ℤ) (xs : List ℤ) → has l xs ≡ true → Memᴰ l xs
+has_mem l [] e = absurd (false≢true e)
+has_mem l (x ∷ xs) e = ⊎_elim (λ h. Memᴰ.head (sym (eq_z_true x l h))) (λ h. Memᴰ.tail (has_mem l xs h)) (or_either (eq_z x l) (has l xs) e)
 
 distinct_mem : (l : ℤ) (xs : List ℤ) → Memᴰ l xs → Memᴰ l (distinct xs)
 distinct_mem l xs m = has_mem l (distinct xs) (has_distinct l xs ∙ mem_has l xs m)

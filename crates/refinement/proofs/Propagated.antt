@@ -13,8 +13,8 @@ use borrow.Author.Tests.{ne_eqb}
 use lib.IntN.{ℤ, pos, nat_abs}
 use lib.Signed.{non_neg}
 use Rattle.base.specs.Decide.{same_or}
-use Rattle.base.specs.Lists.{any}
-use Rattle.base.proofs.Lists.{mem_filter, filter_test, any_out, in_filter, filter_sub, mem_get_d}
+use Rattle.base.specs.Lists.{any, filter}
+use Rattle.base.proofs.Lists.{mem_filter, any_out, in_filter, filter_sub, mem_get_d}
 use Rattle.literal.specs.Literals.{Literal, slot_of, lit_at, eq_z, sign_by}
 use Rattle.literal.proofs.Laws.{lit_slot, slot_below}
 use Rattle.tables.specs.Tables.{Tables, tables, length_of}
@@ -22,6 +22,7 @@ use Rattle.tables.specs.Tables as T
 use Rattle.tables.specs.Values as values
 use Rattle.tables.specs.Clauses.{literals_of}
 use Rattle.tables.specs.Fates.{shortened, dropped_at}
+use Rattle.tables.specs.Fates as fates
 use Rattle.visits.specs.Formed.{Formed, Variables, Known}
 use Rattle.visits.proofs.Stores.{recorded, stored_at, stored_view, stored_other, recorded_other, recorded_here}
 use Rattle.visits.proofs.Forming.{clause_fits, record_inside, recorded_same, part_length}
@@ -49,6 +50,16 @@ map_sub (Sublistᴰ.cons-cons e s) = Sublistᴰ.cons-cons (ap slot_of e) (map_su
 -- a member stands at a place
 pub mem_at : (C : List ℤ) {l : ℤ} → Memᴰ l C → (j : ℕ) × (j < length C) × (l ≡ get_or C j (pos 0))
 mem_at C m = let r = mem_get_d C (pos 0) m in (r.0, r.1, sym r.2)
+
+-- what is left of a list passes the test
+filter_test : {A : Type 0} (p : A → Bool) (xs : List A) {x : A} → Memᴰ x (filter p xs) → p x ≡ true
+unfolding filter
+filter_test p [] m = absurd (Memᴰ.not-nil m)
+filter_test {A} p (y ∷ xs) {x} m = by (λ r. filter_test p xs r) (p y) refl m
+  where
+    by : (Memᴰ x (filter p xs) → p x ≡ true) → (b : Bool) → p y ≡ b → Memᴰ x (elim b [ true ↦ y ∷ filter p xs | false ↦ filter p xs ]) → p x ≡ true
+    by rest true e m = ⊎_elim (λ (q : x ≡ y). ap p q ∙ e) (λ r. rest r) (Memᴰ.cases_cons m)
+    by rest false e m = rest m
 
 -- ---- a clause stored anew
 

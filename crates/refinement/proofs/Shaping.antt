@@ -13,22 +13,20 @@ use Rattle.base.proofs.Lists.{mem_get_d}
 use Rattle.literal.specs.Literals.{slot_of}
 use Rattle.literal.proofs.Laws.{slot_below}
 use Rattle.implications.specs.Clauses.{Once, implications}
-use Rattle.state.specs.declared.State.{State}
 use Rattle.tables.specs.Tables.{Tables, class_of}
 use Rattle.tables.specs.Tables as T
 use Rattle.tables.specs.Clauses.{slots_at, slots_from}
 use Rattle.visits.specs.Formed.{Formed}
-use Rattle.shape.specs.Shape.{Shape}
-use Rattle.visits.proofs.Forming.{shape_formed, clause_fits, part_length}
+use Rattle.visits.proofs.Forming.{clause_fits, part_length}
 use Rattle.visits.proofs.Fitting.{fit_member}
 use Rattle.sound.specs.Formula.{Clause, dropped, standing, literals_in, graph}
 use Rattle.sound.specs.Kept.{Shaped}
 use Rattle.moves.specs.Core as core
 use Rattle.moves.specs.Moves.{Owned}
-use Rattle.refinement.specs.Represented.{clause_of, Represented, slot_formula}
+use Rattle.refinement.specs.Represented.{clause_of, Represented}
 use Rattle.refinement.proofs.Literals.{own_literal, class_is}
 use Rattle.refinement.proofs.Propagated.{literals_at, mem_map, mem_at}
-use Rattle.refinement.proofs.Standing.{core_represented, represented_clauses, clause_stands}
+use Rattle.refinement.proofs.Standing.{clause_stands}
 
 -- the clauses, one by one
 same_slots : (c : List ℕ) (l : List ℤ) (f : List Clause) (m i : ℕ) → length f ≡ m → ((j : ℕ) → j < m → literals_in (get_or f j dropped) ≡ slots_at c l (i + j)) → map literals_in f ≡ slots_from c l m i
@@ -88,9 +86,3 @@ owned_of {v} {n} {t} {k} F R C m l q =
     let L = fit_member (clause_fits F r.0 r.1) s.1 in
     let own = (clause_fits F r.0 r.1).own (lt-ltb r.0 n r.1) j.0 j.1 in
     ap k.class s.2 ∙ class_is R F.vars s.0 L ∙ ap slot_of (own_literal t.variables s.0 L.above (subst (λ (x : ℤ). class_of t.variables (nat_abs x) ≡ pos (nat_abs x)) (sym j.2) own)) ∙ sym s.2
-
--- tables under the shape rule hold a formula in shape
-pub shape_shaped : {t : Tables} {st : State} → Shape t st → Shaped st.v (slot_formula t st.n)
-shape_shaped {t} {st} S =
-    let R = core_represented st.v st.n st.mark t in
-    subst (λ (f : List Clause). Shaped st.v f) (represented_clauses R) (shaped_of (shape_formed S) R)

@@ -11,7 +11,6 @@ use lib.ListN.{length, get_or}
 use lib.IntN.{ℤ, pos, negsuc, neg_ℤ, nat_abs, neg_ℤ-neg_ℤ}
 use native.Mathlib.Numerals.{add-one}
 use borrow.Author.Tests.{lt-ltb, le-ltb}
-use Rattle.base.proofs.Lists.{list_same}
 use Rattle.literal.specs.Literals.{Literal, slot_of, lit_at}
 use Rattle.literal.specs.Assignments.{Assignment, true_under, some_true}
 use Rattle.literal.proofs.Truth.{holds_neg}
@@ -26,7 +25,7 @@ use Rattle.visits.proofs.Known.{known_row}
 use Rattle.sound.specs.Formula.{Clause, dropped, standing, value, Sat}
 use Rattle.sound.proofs.Truth.{value_slot}
 use Rattle.moves.specs.Core as core
-use Rattle.refinement.specs.Represented.{clause_of, Represented, core_clauses, slot_formula, core_of}
+use Rattle.refinement.specs.Represented.{clause_of, Represented, core_clauses, core_of}
 use Rattle.refinement.proofs.Propagated.{mem_map}
 
 -- ---- every table is represented
@@ -73,12 +72,6 @@ some_holds τ (x ∷ C) {l} m h = ⊎_elim (λ (e : l ≡ x). ap (λ (b : Bool).
     by : (b : Bool) → some_true τ C ≡ true → (b || some_true τ C) ≡ true
     by true e = refl
     by false e = e
-
--- what represents the tables has their clauses
-pub represented_clauses : {v n : ℕ} {mark : Bool} {t : Tables} {k : core.Core} → Represented v n mark t k → k.clauses ≡ slot_formula t n
-represented_clauses {n = n} {t = t} {k = k} R =
-    list_same dropped k.clauses (slot_formula t n) (R.number ∙ sym (clauses_length t.clauses t.literals n 0))
-    (λ j lt. let h : j < n = omega (arith, lt, R.number) in R.clauses j h ∙ sym (clauses_at t.clauses t.literals n 0 j h ∙ ap (clause_of t.clauses t.literals) (let e : 0 + j ≡ j = omega arith in e)))
 
 -- literals that are not 0
 pub record Real (C : List ℤ) : Type 0 where

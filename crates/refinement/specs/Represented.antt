@@ -27,14 +27,10 @@ unfoldable pub core_clauses : List ℕ → List ℤ → ℕ → ℕ → List Cla
 core_clauses c l zero i = []
 core_clauses c l (suc m) i = clause_of c l i ∷ core_clauses c l m (suc i)
 
--- the clauses that the tables hold, on slots, dropped ones too
-abbrev pub slot_formula : Tables → ℕ → List Clause
-slot_formula t n = core_clauses t.clauses t.literals n 0
-
 unfoldable pub core_of : ℕ → ℕ → Bool → Tables → Core
 core_of v n mark t =
     record {
-      clauses = slot_formula t n;
+      clauses = core_clauses t.clauses t.literals n 0;
       class = λ s. elim (ltb s (2 * v)) [ true ↦ slot_of (class_literal t.variables (lit_at s)) | false ↦ s ];
       facts = λ s. elim (ltb s (2 * v)) [ true ↦ is_true t.variables (lit_at s) | false ↦ false ];
       mark = mark;

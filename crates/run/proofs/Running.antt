@@ -1,15 +1,14 @@
 -- What stands between two passes of a run: every call would open its pass, so that the parts of the calls that Run uses have what they ask for. Assumes nothing.
 use Prim.Native.Nat.{ℕ}
-use mathlib.Core.Path.{◌≡◌, sym, ap, ◌∙◌}
-use mathlib.Core.Bool.{true, false}
+use mathlib.Core.Path.{◌≡◌, refl, sym, ap, ◌∙◌}
+use mathlib.Core.Bool.{Bool, true, false}
 use mathlib.Core.List.{List}
 use lib.IntN.{ℤ}
 use borrow.Author.Tests.{eq-eqb, ne_eqb}
 use Rattle.state.specs.declared.Pass.TheVariants.{Idle}
 use Rattle.state.specs.declared.Refusal.{Refusal}
 use Rattle.tables.specs.Calls.{refuse}
-use Rattle.shape.specs.Decision.{shape_ok}
-use Rattle.shape.proofs.Reading.{shape_found}
+use Rattle.shape.specs.Decision.{shape_ok, shape_exact}
 use Rattle.entry.specs.Entry.{entry_of, opening_of}
 use Rattle.entry.specs.declared.PassName.{PassName}
 use Rattle.entry.specs.declared.Entry.TheVariants.{Opens}
@@ -37,7 +36,11 @@ use Rattle.run.specs.Steps.{Runs}
 
 module _ {w : Standing} (R : Runs w) where
   well_shaped : shape_ok w.tables w.state ≡ true
-  well_shaped = shape_found R.shape
+  well_shaped = go (shape_ok w.tables w.state) refl
+    where
+      go : (b : Bool) → shape_ok w.tables w.state ≡ b → shape_ok w.tables w.state ≡ true
+      go true e = e
+      go false e = absurd ((shape_exact w.tables w.state).fails e R.shape)
 
   -- any call opens its pass
   pub runs_opens : (own : PassName) → entry_of own w.tables w.state ≡ Opens

@@ -18,8 +18,7 @@ use Rattle.programmes.proofs.Programmes.{made_codes, made_passes}
 use Rattle.tables.specs.Tables.{Tables}
 use Rattle.tables.specs.Calls.{After, answered, refuse}
 use Rattle.shape.specs.Shape.{Shape}
-use Rattle.shape.specs.Decision.{shape_ok}
-use Rattle.shape.proofs.Reading.{shape_found}
+use Rattle.shape.specs.Decision.{shape_ok, shape_exact}
 use Rattle.set_programme.specs.SetProgramme.{set_by, set_call}
 
 module _ (codes : List ℕ) (t : Tables) (st : State) where
@@ -68,4 +67,8 @@ module _ (codes : List ℕ) (t : Tables) (st : State) where
 
   -- THE LAW: codes that keep the rules are set where the shape rule holds, and Run will follow just these
   pub set_taken : Shape t st → Rules codes → ((set_call codes t st).reply ≡ reply_of Set) × (codes_of (set_call codes t st).state.programme ≡ codes)
-  set_taken S R = subst (λ (a : After). (a.reply ≡ reply_of Set) × (codes_of a.state.programme ≡ codes)) (set_made (shape_found S) ((judge_exact codes).1 R)) (refl, made_codes codes)
+  set_taken S R = by (shape_ok t st) refl
+    where
+      by : (b : Bool) → shape_ok t st ≡ b → ((set_call codes t st).reply ≡ reply_of Set) × (codes_of (set_call codes t st).state.programme ≡ codes)
+      by true e = subst (λ (a : After). (a.reply ≡ reply_of Set) × (codes_of a.state.programme ≡ codes)) (set_made e ((judge_exact codes).1 R)) (refl, made_codes codes)
+      by false e = absurd ((shape_exact t st).fails e S)

@@ -1,7 +1,6 @@
 pub mod Rows
 pub mod Listing
 pub mod Clausing
-pub mod Few
 pub mod Reading
 pub mod Shrinking
 pub mod Cases

@@ -4,9 +4,7 @@ use native.Mathlib.Decide.{dec_le}
 use native.Mathlib.Omega.{arith}
 use mathlib.Core.Path.{◌≡◌}
 use mathlib.Core.Bool.{true}
-use mathlib.Core.Logic.{⊎_elim}
 use mathlib.Core.List.{List}
-use Rattle.base.proofs.Booleans.{bool_or}
 use Rattle.tables.specs.Tables.{Tables, start_of, length_of}
 use Rattle.shape.specs.Shape.{Parts, Shape}
 use Rattle.shape.specs.Decision.{shape_ok, shape_exact}
@@ -32,7 +30,3 @@ disjoint_apart clauses i j rise none a b =
 -- where refusal 1 is not given, the rule holds
 pub shaped : (t : Tables) (st : State) → shape_ok t st ≡ true → Shape t st
 shaped t st = (shape_exact t st).holds
-
--- and where the rule holds, it is not
-pub shape_found : {t : Tables} {st : State} → Shape t st → shape_ok t st ≡ true
-shape_found {t} {st} S = ⊎_elim (λ e. e) (λ e. absurd ((shape_exact t st).fails e S)) (bool_or (shape_ok t st))

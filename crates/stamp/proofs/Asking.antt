@@ -72,29 +72,20 @@ pub record Known (order : List ℤ) (t : Tables) (st : State) : Type 0 where
   pub idle : st.pass ≡ Idle
   pub unmarked : st.mark ≡ false
   pub full : Full st.v order
-  pub settled : st.n ≤ first_unsettled t st.n
 
 module _ (t : Tables) (st : State) where
   -- the tables of an open call
   pub granted_formed : opening_of t st ≡ Granted → Formed st.v st.n st.n false t.clauses t.literals t.variables
   granted_formed e = entered_formed (granted_entered t st e) tt
 
-  fit_settled : ask_settled t st ≡ Fit → st.n ≤ first_unsettled t st.n
-  unfolding ask_settled
-  fit_settled e = go (ltb (first_unsettled t st.n) st.n) refl e
-    where
-      go : (b : Bool) → ltb (first_unsettled t st.n) st.n ≡ b → elim b as (λ x. Ruling) [ true ↦ No (Unsettled (first_unsettled t st.n + 1)) | false ↦ Fit ] ≡ Fit → st.n ≤ first_unsettled t st.n
-      go true q e = absurd (let z : ◌≡◌ {A = ℕ} 0 1 = cc in omega arith)
-      go false q e = ltb-false (first_unsettled t st.n) st.n q
-
-  fit_ordered : (order : List ℤ) → ask_ordered order t st ≡ Fit → (length order ≡ 2 * st.v) × (2 * st.v ≤ first_bad st.v order) × (st.n ≤ first_unsettled t st.n)
+  fit_ordered : (order : List ℤ) → ask_ordered order t st ≡ Fit → (length order ≡ 2 * st.v) × (2 * st.v ≤ first_bad st.v order)
   unfolding ask_ordered
   fit_ordered order e = go (eqb (length order) (2 * st.v)) refl (ltb (first_bad st.v order) (2 * st.v)) refl e
     where
       go : (b : Bool) → eqb (length order) (2 * st.v) ≡ b → (c : Bool) → ltb (first_bad st.v order) (2 * st.v) ≡ c
-          → elim b as (λ x. Ruling) [ true ↦ elim c as (λ x. Ruling) [ true ↦ No (Order (first_bad st.v order)) | false ↦ ask_settled t st ] | false ↦ No (Order 0) ] ≡ Fit → (length order ≡ 2 * st.v) × (2 * st.v ≤ first_bad st.v order) × (st.n ≤ first_unsettled t st.n)
+          → elim b as (λ x. Ruling) [ true ↦ elim c as (λ x. Ruling) [ true ↦ No (Order (first_bad st.v order)) | false ↦ ask_settled t st ] | false ↦ No (Order 0) ] ≡ Fit → (length order ≡ 2 * st.v) × (2 * st.v ≤ first_bad st.v order)
       go true p true q e = absurd (let z : ◌≡◌ {A = ℕ} 0 1 = cc in omega arith)
-      go true p false q e = (eqb-true (length order) (2 * st.v) p, ltb-false (first_bad st.v order) (2 * st.v) q, fit_settled e)
+      go true p false q e = (eqb-true (length order) (2 * st.v) p, ltb-false (first_bad st.v order) (2 * st.v) q)
       go false p c q e = absurd (let z : ◌≡◌ {A = ℕ} 0 1 = cc in omega arith)
 
   pub fit_known : (order : List ℤ) → ask_of order t st ≡ Fit → Known order t st
@@ -106,7 +97,7 @@ module _ (t : Tables) (st : State) where
       go Granted is e =
           let E = granted_entered t st is in
           let k = fit_ordered order e in
-          record { shape = E.shape; idle = E.pass; unmarked = E.unmarked; full = good_full st.v order k.0 k.1; settled = k.2 }
+          record { shape = E.shape; idle = E.pass; unmarked = E.unmarked; full = good_full st.v order k.0 k.1 }
 
 pub known_proper : {order : List ℤ} {t : Tables} {st : State} → Known order t st → Proper st.v st.n t.clauses t.literals
 known_proper K = formed_proper (shape_formed K.shape)

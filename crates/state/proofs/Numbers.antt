@@ -8,35 +8,34 @@ use lib.IntN.{pos, neg_ℤ}
 use Rattle.state.specs.Answers.{refusal_number, refusal_place, verdict_number, Reply, reply, reply_of, result_by}
 use Rattle.state.specs.declared.Refusal.{Refusal}
 use Rattle.state.specs.declared.Answer.{Answer}
-use Rattle.state.specs.declared.Refusal.TheVariants.{Shape, Grammar, Limit, OtherPass, Marked, Unsettled, Cyclic, Order, Stale, Short, Newcomer, Codes, NoClause, Link, NoGroup}
+use Rattle.state.specs.declared.Refusal.TheVariants.{Shape, Grammar, Limit, OtherPass, Marked, Unsettled, Cyclic, Order, Stale, Short, Newcomer, Codes, NoClause, Link}
 use Rattle.state.specs.declared.Counts.{Counts}
 use Rattle.state.specs.declared.Verdict.{Verdict}
 use Rattle.state.specs.declared.Verdict.TheVariants.{Nothing, Drop, Shorten}
-use Rattle.state.specs.declared.Answer.TheVariants.{Refused, Loaded, Open, Done, Stamped, Failed, Ran, Written, Set, KeptWhole, KeptShort, NotKept, Explained, Grouped}
+use Rattle.state.specs.declared.Answer.TheVariants.{Refused, Loaded, Open, Done, Stamped, Failed, Ran, Written, Set, KeptWhole, KeptShort, NotKept, Explained}
 
 pub refusal_numbers : (p : ℕ) → refusal_number Shape ∷ refusal_number (Grammar p) ∷ refusal_number (Limit p) ∷ refusal_number OtherPass ∷ refusal_number Marked ∷ refusal_number (Unsettled p)
-    ∷ refusal_number Cyclic ∷ refusal_number (Order p) ∷ refusal_number Stale ∷ refusal_number (Short p) ∷ refusal_number Newcomer ∷ refusal_number (Codes p) ∷ refusal_number NoClause ∷ refusal_number (Link p) ∷ refusal_number NoGroup ∷ []
-    ≡ 1 ∷ 2 ∷ 3 ∷ 4 ∷ 5 ∷ 6 ∷ 7 ∷ 8 ∷ 9 ∷ 10 ∷ 11 ∷ 12 ∷ 13 ∷ 15 ∷ 17 ∷ []
+    ∷ refusal_number Cyclic ∷ refusal_number (Order p) ∷ refusal_number Stale ∷ refusal_number (Short p) ∷ refusal_number Newcomer ∷ refusal_number (Codes p) ∷ refusal_number NoClause ∷ refusal_number (Link p) ∷ []
+    ≡ 1 ∷ 2 ∷ 3 ∷ 4 ∷ 5 ∷ 6 ∷ 7 ∷ 8 ∷ 9 ∷ 10 ∷ 11 ∷ 12 ∷ 13 ∷ 15 ∷ []
 refusal_numbers p = refl
 
--- 1, 4, 5, 7, 9, 11, 13 and 17 name no place
+-- 1, 4, 5, 7, 9, 11 and 13 name no place
 pub refusal_places : (p : ℕ) → refusal_place Shape ∷ refusal_place (Grammar p) ∷ refusal_place (Limit p) ∷ refusal_place OtherPass ∷ refusal_place Marked ∷ refusal_place (Unsettled p)
-    ∷ refusal_place Cyclic ∷ refusal_place (Order p) ∷ refusal_place Stale ∷ refusal_place (Short p) ∷ refusal_place Newcomer ∷ refusal_place (Codes p) ∷ refusal_place NoClause ∷ refusal_place (Link p) ∷ refusal_place NoGroup ∷ []
-    ≡ 0 ∷ p ∷ p ∷ 0 ∷ 0 ∷ p ∷ 0 ∷ p ∷ 0 ∷ p ∷ 0 ∷ p ∷ 0 ∷ p ∷ 0 ∷ []
+    ∷ refusal_place Cyclic ∷ refusal_place (Order p) ∷ refusal_place Stale ∷ refusal_place (Short p) ∷ refusal_place Newcomer ∷ refusal_place (Codes p) ∷ refusal_place NoClause ∷ refusal_place (Link p) ∷ []
+    ≡ 0 ∷ p ∷ p ∷ 0 ∷ 0 ∷ p ∷ 0 ∷ p ∷ 0 ∷ p ∷ 0 ∷ p ∷ 0 ∷ p ∷ []
 refusal_places p = refl
 
 pub replies : (c : Counts) (p : ℕ) → (reply_of (Refused (Order p)) ≡ reply 0 8 (p ∷ [])) × (reply_of Loaded ≡ reply 1 0 []) × (reply_of (Open c) ≡ reply 2 0 (c.visits ∷ c.clauses ∷ c.literals ∷ []))
     × (reply_of (Done c) ≡ reply 3 0 (c.visits ∷ c.clauses ∷ c.literals ∷ [])) × (reply_of Stamped ≡ reply 4 0 []) × (reply_of (Failed p) ≡ reply 5 0 (p ∷ [])) × (reply_of (Ran p) ≡ reply 6 0 (p ∷ [])) × (reply_of (Written p) ≡ reply 7 0 (p ∷ [])) × (reply_of Set ≡ reply 8 0 [])
     × (reply_of (KeptWhole p) ≡ reply 9 0 (0 ∷ p ∷ [])) × (reply_of (KeptShort p) ≡ reply 10 0 (2 ∷ p ∷ [])) × (reply_of NotKept ≡ reply 11 0 (1 ∷ 0 ∷ []))
     × (reply_of (Explained Nothing p p) ≡ reply 12 0 (0 ∷ p ∷ p ∷ [])) × (reply_of (Explained Drop 0 p) ≡ reply 12 0 (1 ∷ 0 ∷ p ∷ [])) × (reply_of (Explained Shorten p 7) ≡ reply 12 0 (2 ∷ p ∷ 7 ∷ []))
-    × (reply_of (Grouped p) ≡ reply 13 0 (p ∷ []))
-replies c p = (refl, refl, refl, refl, refl, refl, refl, refl, refl, refl, refl, refl, refl, refl, refl, refl)
+replies c p = (refl, refl, refl, refl, refl, refl, refl, refl, refl, refl, refl, refl, refl, refl, refl)
 
 -- ---- no two answers have the same reply
 
 -- the refusal of a number and a place
 abbrev refusal_by : ℕ → ℕ → Refusal
-refusal_by number place = get_or (Shape ∷ Shape ∷ Grammar place ∷ Limit place ∷ OtherPass ∷ Marked ∷ Unsettled place ∷ Cyclic ∷ Order place ∷ Stale ∷ Short place ∷ Newcomer ∷ Codes place ∷ NoClause ∷ Shape ∷ Link place ∷ Shape ∷ NoGroup ∷ []) number Shape
+refusal_by number place = get_or (Shape ∷ Shape ∷ Grammar place ∷ Limit place ∷ OtherPass ∷ Marked ∷ Unsettled place ∷ Cyclic ∷ Order place ∷ Stale ∷ Short place ∷ Newcomer ∷ Codes place ∷ NoClause ∷ Shape ∷ Link place ∷ []) number Shape
 
 refusal_back : (r : Refusal) → refusal_by (refusal_number r) (refusal_place r) ≡ r
 refusal_back Shape = refl
@@ -53,7 +52,6 @@ refusal_back Newcomer = refl
 refusal_back (Codes index) = refl
 refusal_back NoClause = refl
 refusal_back (Link index) = refl
-refusal_back NoGroup = refl
 
 abbrev counts_by : List ℕ → Counts
 counts_by values = record { visits = get_or values 0 0; clauses = get_or values 1 0; literals = get_or values 2 0 }
@@ -69,7 +67,7 @@ verdict_back Shorten = refl
 -- the answer of a reply
 abbrev answer_by : Reply → Answer
 answer_by r =
-    get_or (Refused (refusal_by r.number (get_or r.values 0 0)) ∷ Loaded ∷ Open (counts_by r.values) ∷ Done (counts_by r.values) ∷ Stamped ∷ Failed (get_or r.values 0 0) ∷ Ran (get_or r.values 0 0) ∷ Written (get_or r.values 0 0) ∷ Set ∷ KeptWhole (get_or r.values 1 0) ∷ KeptShort (get_or r.values 1 0) ∷ NotKept ∷ Explained (verdict_by (get_or r.values 0 0)) (get_or r.values 1 0) (get_or r.values 2 0) ∷ Grouped (get_or r.values 0 0) ∷ [])
+    get_or (Refused (refusal_by r.number (get_or r.values 0 0)) ∷ Loaded ∷ Open (counts_by r.values) ∷ Done (counts_by r.values) ∷ Stamped ∷ Failed (get_or r.values 0 0) ∷ Ran (get_or r.values 0 0) ∷ Written (get_or r.values 0 0) ∷ Set ∷ KeptWhole (get_or r.values 1 0) ∷ KeptShort (get_or r.values 1 0) ∷ NotKept ∷ Explained (verdict_by (get_or r.values 0 0)) (get_or r.values 1 0) (get_or r.values 2 0) ∷ [])
     r.kind Loaded
 
 answer_back : (a : Answer) → answer_by (reply_of a) ≡ a
@@ -86,7 +84,6 @@ answer_back (KeptWhole left) = refl
 answer_back (KeptShort left) = refl
 answer_back NotKept = refl
 answer_back (Explained verdict out length) = ap (λ (v : Verdict). Explained v out length) (verdict_back verdict)
-answer_back (Grouped count) = refl
 
 -- THE LAW: an answer is known by its reply
 pub reply_tells : (a b : Answer) → reply_of a ≡ reply_of b → a ≡ b
@@ -94,7 +91,7 @@ reply_tells a b e = sym (answer_back a) ∙ ap answer_by e ∙ answer_back b
 
 -- ---- a refusal's number, negative
 
-pub number_bounds : (r : Refusal) → (0 < refusal_number r) × (refusal_number r ≤ 17)
+pub number_bounds : (r : Refusal) → (0 < refusal_number r) × (refusal_number r ≤ 15)
 number_bounds Shape = (omega arith, omega arith)
 number_bounds (Grammar at) = (omega arith, omega arith)
 number_bounds (Limit at) = (omega arith, omega arith)
@@ -109,7 +106,6 @@ number_bounds Newcomer = (omega arith, omega arith)
 number_bounds (Codes index) = (omega arith, omega arith)
 number_bounds NoClause = (omega arith, omega arith)
 number_bounds (Link index) = (omega arith, omega arith)
-number_bounds NoGroup = (omega arith, omega arith)
 
 pub result_negative : (n v : ℕ) → 0 < n → result_by n v ≡ neg_ℤ (pos n)
 result_negative zero v h = absurd (omega arith)

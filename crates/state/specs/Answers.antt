@@ -2,13 +2,13 @@
 -- Assumes nothing: these are definitions.
 use Rattle.std.specs.Prelude.{ℕ, zero, suc, List, [], ◌∷◌, ℤ, pos, negsuc}
 use Rattle.state.specs.declared.Refusal.{Refusal}
-use Rattle.state.specs.declared.Refusal.TheVariants.{Shape, Grammar, Limit, OtherPass, Marked, Unsettled, Cyclic, Order, Stale, Short, Newcomer, Codes, NoClause, Link, NoGroup}
+use Rattle.state.specs.declared.Refusal.TheVariants.{Shape, Grammar, Limit, OtherPass, Marked, Unsettled, Cyclic, Order, Stale, Short, Newcomer, Codes, NoClause, Link}
 use Rattle.state.specs.declared.Verdict.{Verdict}
 use Rattle.state.specs.declared.Verdict.TheVariants.{Nothing, Drop, Shorten}
 use Rattle.state.specs.declared.Answer.{Answer}
-use Rattle.state.specs.declared.Answer.TheVariants.{Refused, Loaded, Open, Done, Stamped, Failed, Ran, Written, Set, KeptWhole, KeptShort, NotKept, Explained, Grouped}
+use Rattle.state.specs.declared.Answer.TheVariants.{Refused, Loaded, Open, Done, Stamped, Failed, Ran, Written, Set, KeptWhole, KeptShort, NotKept, Explained}
 
--- the number that the documents give a refusal: 1 to 10 document 01, 11, 12, 13, 15 and 17 document 02's CR 1, CR 5, CR 7, CR 11 and CR 10
+-- the number that the documents give a refusal: 1 to 10 document 01, 11, 12, 13 and 15 document 02's CR 1, CR 5, CR 7 and CR 11
 abbrev pub refusal_number : Refusal → ℕ
 refusal_number Shape = 1
 refusal_number (Grammar at) = 2
@@ -24,7 +24,6 @@ refusal_number Newcomer = 11
 refusal_number (Codes index) = 12
 refusal_number NoClause = 13
 refusal_number (Link index) = 15
-refusal_number NoGroup = 17
 
 -- its place: an offset, a clause number, an index, the length needed, or 0
 abbrev pub refusal_place : Refusal → ℕ
@@ -42,7 +41,6 @@ refusal_place Newcomer = 0
 refusal_place (Codes index) = index
 refusal_place NoClause = 0
 refusal_place (Link index) = index
-refusal_place NoGroup = 0
 
 -- the number of a verdict
 abbrev pub verdict_number : Verdict → ℕ
@@ -74,7 +72,6 @@ reply_of (KeptWhole left) = reply 9 0 (0 ∷ left ∷ [])
 reply_of (KeptShort left) = reply 10 0 (2 ∷ left ∷ [])
 reply_of NotKept = reply 11 0 (1 ∷ 0 ∷ [])
 reply_of (Explained verdict out length) = reply 12 0 (verdict_number verdict ∷ out ∷ length ∷ [])
-reply_of (Grouped count) = reply 13 0 (count ∷ [])
 
 -- the first of the values: a refusal's place, the length written, ..; 0 where there is none
 abbrev pub first_value : List ℕ → ℕ

@@ -149,8 +149,6 @@ pub enum Refusal {
     NoClause,
     // the index of the first link with a variable out of range or used before on its side
     Link(usize),
-    // there is no group of this number
-    NoGroup,
 }
 
 impl Refusal {
@@ -172,7 +170,6 @@ impl Refusal {
             Refusal::Codes(_) => 12,
             Refusal::NoClause => 13,
             Refusal::Link(_) => 15,
-            Refusal::NoGroup => 17,
         }
     }
 
@@ -195,7 +192,6 @@ impl Refusal {
             Refusal::Codes(index) => index as u64,
             Refusal::NoClause => 0,
             Refusal::Link(index) => index as u64,
-            Refusal::NoGroup => 0,
         }
     }
 }
@@ -253,14 +249,12 @@ pub enum Answer {
     NotKept,
     // explain: the verdict, how many literals it takes out, the length written
     Explained(Verdict, u32, usize),
-    // groups: how many there are
-    Grouped(u32),
 }
 
 impl Answer {
     // The refusal's number, 0 where nothing is refused.
     pub fn number(self) -> u64
-        ensures { (result ≡ (reply_of self).number) × (result ≤ 17) }
+        ensures { (result ≡ (reply_of self).number) × (result ≤ 15) }
     {
         if let Answer::Refused(refusal) = self {
             return refusal.number();
@@ -268,7 +262,7 @@ impl Answer {
         0
     }
 
-    // The first value: a refusal's place, the visits made, the length written, what becomes of a learnt clause, the verdict on a clause, the count of groups; 0 where there is none.
+    // The first value: a refusal's place, the visits made, the length written, what becomes of a learnt clause, the verdict on a clause; 0 where there is none.
     pub fn value(self) -> u64
         ensures { result ≡ first_value (reply_of self).values }
     {
@@ -286,7 +280,6 @@ impl Answer {
             Answer::KeptShort(_) => 2,
             Answer::NotKept => 1,
             Answer::Explained(verdict, _, _) => verdict.number(),
-            Answer::Grouped(count) => count as u64,
         }
     }
 }
@@ -298,9 +291,9 @@ pub struct Outcome {
     pub state: State,
 }
 
-// What a function for C returns: a value, or the refusal's number, negative. Numbers of refusals are at most 17, and a length of text is below 2^63.
+// What a function for C returns: a value, or the refusal's number, negative. Numbers of refusals are at most 15, and a length of text is below 2^63.
 pub fn result(number: u64, value: u64) -> i64
-    requires { (number ≤ 17) × (number ≡ 0 → value ≤ 2 ^ 63 - 1) }
+    requires { (number ≤ 15) × (number ≡ 0 → value ≤ 2 ^ 63 - 1) }
     ensures { result ≡ result_by number value }
 {
     if number == 0 {

@@ -13,7 +13,6 @@ use Rattle.literal.specs.Literals.{Literal, slot_of, twin}
 use Rattle.literal.proofs.Laws.{slot_below}
 use Rattle.literal.proofs.Twins.{twin_below}
 use Rattle.tables.specs.Tables.{class_of}
-use Rattle.shape.proofs.Few.{Once, few_literals}
 use Rattle.visits.specs.Formed.{FitClause}
 
 pub fit_none : {v : ℕ} {w : List ℤ} {b : Bool} → FitClause v w b []
@@ -97,7 +96,3 @@ filter_shorter q (x ∷ xs) = go (q x) (filter_shorter q xs)
     go : (b : Bool) → length (filter q xs) ≤ length xs → length {A = ℤ} (elim b [ true ↦ x ∷ filter q xs | false ↦ filter q xs ]) ≤ suc (length xs)
     go true h = omega arith
     go false h = omega arith
-
--- it has at most as many literals as there are variables
-pub fit_few : {v : ℕ} {w : List ℤ} {b : Bool} {C : List ℤ} → FitClause v w b C → length C ≤ v
-fit_few {v} {C = C} F = let O : Once v C = record { ranged = F.ranged; once = F.once } in few_literals O

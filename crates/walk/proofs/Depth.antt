@@ -11,7 +11,7 @@ use Rattle.base.specs.Decide.{zero_or}
 use Rattle.walk.specs.Walk.{Stamps, arrive, leave, edge, edges, enters, fresh}
 use Rattle.walk.proofs.Run.{Less, less_refl, edge_new, edge_old, edge_cases, enters_less, fresh_set}
 
-pub edge_same : (f g : ℕ → Stamps → Stamps) (q : ℕ) (σ : Stamps) → (get_or σ.discoveries q 0 ≡ 0 → f q σ ≡ g q σ) → edge f q σ ≡ edge g q σ
+edge_same : (f g : ℕ → Stamps → Stamps) (q : ℕ) (σ : Stamps) → (get_or σ.discoveries q 0 ≡ 0 → f q σ ≡ g q σ) → edge f q σ ≡ edge g q σ
 edge_same f g q σ same =
     ⊎_elim
     (λ (e : get_or σ.discoveries q 0 ≡ 0). edge_new f q σ e ∙ same e ∙ sym (edge_new g q σ e))
@@ -19,7 +19,7 @@ edge_same f g q σ same =
     (zero_or (get_or σ.discoveries q 0))
 
 module _ (adj : ℕ → List ℕ) (size : ℕ) (inside : (s q : ℕ) → s < size → Memᴰ q (adj s) → q < size) where
-  pub edges_same : (k : ℕ) (f g : ℕ → Stamps → Stamps)
+  edges_same : (k : ℕ) (f g : ℕ → Stamps → Stamps)
       → ((q : ℕ) (σ : Stamps) → length σ.discoveries ≡ size → fresh σ.discoveries ≤ k → q < size → get_or σ.discoveries q 0 ≡ 0 → (f q σ ≡ g q σ) × (Less σ (f q σ)))
       → (qs : List ℕ) → ((q : ℕ) → Memᴰ q qs → q < size) → (σ : Stamps) → length σ.discoveries ≡ size → fresh σ.discoveries ≤ k → edges f qs σ ≡ edges g qs σ
   unfolding edges

@@ -6,7 +6,7 @@ use mathlib.Core.Logic.{⊎_elim}
 use mathlib.Core.Path.{◌≡◌, refl, sym, ap, ◌∙◌}
 use Rattle.state.specs.Answers.{reply_of, first_value}
 use Rattle.state.specs.declared.Answer.{Answer}
-use Rattle.state.specs.declared.Answer.TheVariants.{Refused, Loaded, Open, Done, Stamped, Failed, Ran, Written, Set, KeptWhole, KeptShort, NotKept, Explained, Grouped}
+use Rattle.state.specs.declared.Answer.TheVariants.{Refused, Loaded, Open, Done, Stamped, Failed, Ran, Written, Set, KeptWhole, KeptShort, NotKept, Explained}
 use Rattle.c_numbers.specs.StateNumbers.{put_front}
 use Rattle.c_numbers.specs.CCalls.{values_of}
 use borrow.Author.Rules.{rules}
@@ -17,18 +17,17 @@ use Rattle.c_numbers.proofs.put_values.Tie as tie
 plain : (c : tie.At-match-keys6) (a : Answer) → c.before.before.args.a ≡ a → (l : List ℕ) → put_front (first_value (reply_of a).values ∷ 0 ∷ 0 ∷ 0 ∷ []) l ≡ put_front (values_of (reply_of a)) l
 plain c (Refused r) e l = refl
 plain c Loaded e l = refl
-plain c (Open k) e l = absurd (⊎_elim (λ z. omega arith) (⊎_elim (λ z. omega arith) (⊎_elim (λ z. omega arith) (⊎_elim (λ z. omega arith) (⊎_elim (λ z. omega arith) (⊎_elim (λ z. omega arith) (⊎_elim (λ z. omega arith) (⊎_elim (λ z. omega arith) (λ z. omega arith)))))))) (rw e at c.match.keys6))
-plain c (Done k) e l = absurd (⊎_elim (λ z. omega arith) (⊎_elim (λ z. omega arith) (⊎_elim (λ z. omega arith) (⊎_elim (λ z. omega arith) (⊎_elim (λ z. omega arith) (⊎_elim (λ z. omega arith) (⊎_elim (λ z. omega arith) (⊎_elim (λ z. omega arith) (λ z. omega arith)))))))) (rw e at c.match.keys6))
+plain c (Open k) e l = absurd (⊎_elim (λ z. omega arith) (⊎_elim (λ z. omega arith) (⊎_elim (λ z. omega arith) (⊎_elim (λ z. omega arith) (⊎_elim (λ z. omega arith) (⊎_elim (λ z. omega arith) (⊎_elim (λ z. omega arith) (λ z. omega arith))))))) (rw e at c.match.keys6))
+plain c (Done k) e l = absurd (⊎_elim (λ z. omega arith) (⊎_elim (λ z. omega arith) (⊎_elim (λ z. omega arith) (⊎_elim (λ z. omega arith) (⊎_elim (λ z. omega arith) (⊎_elim (λ z. omega arith) (⊎_elim (λ z. omega arith) (λ z. omega arith))))))) (rw e at c.match.keys6))
 plain c Stamped e l = refl
 plain c (Failed set) e l = refl
 plain c (Ran rounds) e l = refl
 plain c (Written length) e l = refl
 plain c Set e l = refl
-plain c (KeptWhole left) e l = absurd (⊎_elim (λ z. omega arith) (⊎_elim (λ z. omega arith) (⊎_elim (λ z. omega arith) (⊎_elim (λ z. omega arith) (⊎_elim (λ z. omega arith) (⊎_elim (λ z. omega arith) (⊎_elim (λ z. omega arith) (⊎_elim (λ z. omega arith) (λ z. omega arith)))))))) (rw e at c.match.keys6))
-plain c (KeptShort left) e l = absurd (⊎_elim (λ z. omega arith) (⊎_elim (λ z. omega arith) (⊎_elim (λ z. omega arith) (⊎_elim (λ z. omega arith) (⊎_elim (λ z. omega arith) (⊎_elim (λ z. omega arith) (⊎_elim (λ z. omega arith) (⊎_elim (λ z. omega arith) (λ z. omega arith)))))))) (rw e at c.match.keys6))
+plain c (KeptWhole left) e l = absurd (⊎_elim (λ z. omega arith) (⊎_elim (λ z. omega arith) (⊎_elim (λ z. omega arith) (⊎_elim (λ z. omega arith) (⊎_elim (λ z. omega arith) (⊎_elim (λ z. omega arith) (⊎_elim (λ z. omega arith) (λ z. omega arith))))))) (rw e at c.match.keys6))
+plain c (KeptShort left) e l = absurd (⊎_elim (λ z. omega arith) (⊎_elim (λ z. omega arith) (⊎_elim (λ z. omega arith) (⊎_elim (λ z. omega arith) (⊎_elim (λ z. omega arith) (⊎_elim (λ z. omega arith) (⊎_elim (λ z. omega arith) (λ z. omega arith))))))) (rw e at c.match.keys6))
 plain c NotKept e l = refl
-plain c (Grouped count) e l = refl
-plain c (Explained verdict out length) e l = absurd (⊎_elim (λ z. omega arith) (⊎_elim (λ z. omega arith) (⊎_elim (λ z. omega arith) (⊎_elim (λ z. omega arith) (⊎_elim (λ z. omega arith) (⊎_elim (λ z. omega arith) (⊎_elim (λ z. omega arith) (⊎_elim (λ z. omega arith) (λ z. omega arith)))))))) (rw e at c.match.keys6))
+plain c (Explained verdict out length) e l = absurd (⊎_elim (λ z. omega arith) (⊎_elim (λ z. omega arith) (⊎_elim (λ z. omega arith) (⊎_elim (λ z. omega arith) (⊎_elim (λ z. omega arith) (⊎_elim (λ z. omega arith) (⊎_elim (λ z. omega arith) (λ z. omega arith))))))) (rw e at c.match.keys6))
 
 enum-known-a : tie.Need-enum-known-a
 enum-known-a c = search rules

@@ -13,8 +13,8 @@ use Rattle.chains.proofs.parent.Tie as tie
 small : (c : tie.Start) → Small c.args.l
 small c = record { small = omega (arith, c.requires.literal.within) }
 
-slot : (c : tie.After-slot-of) → c.slot-of.result ≡ slot_of c.before.args.l
-slot c = c.slot-of.ensures ∙ ap slot_of (back (small c.before))
+slot : (c : tie.After-slot-of) → c.slot_of.result ≡ slot_of c.before.args.l
+slot c = c.slot_of.ensures ∙ ap slot_of (back (small c.before))
 
 within : (c : tie.After-slot-of) → slot_of c.before.args.l < 2048
 within c = let L = c.before.requires.literal in slot_below c.before.args.l 1024 L.above L.within
@@ -32,7 +32,7 @@ shared-slice-copy-out-result : tie.Need-shared-slice-copy-out-result
 shared-slice-copy-out-result c = omega (arith, slot c, c.before.requires.room)
 
 returns : tie.Need-returns
-returns c = let s = c.before.before in read s.args.links.now (2 * c.before.slot-of.result) c.result.given ∙ ap (λ k. get_or s.args.links.now (2 * k) (pos 0)) (slot c.before)
+returns c = let s = c.before.before in read s.args.links.now (2 * c.before.slot_of.result) c.result.given ∙ ap (λ k. get_or s.args.links.now (2 * k) (pos 0)) (slot c.before)
 
 pub parent-spec : {M : Type 1} → statement M
 parent-spec = tie.close (tie.spec slot-of-requires mul-result mul-result-2 shared-slice-copy-out-result returns)

@@ -21,8 +21,8 @@ abbrev decreases-loop : tie.decreases-loop
 decreases-loop part out₀ i₀ out i = length part - i
 
 -- the slot of the literal that was read
-slot : (c : tie.After-slot-of invariant-loop decreases-loop) → c.slot-of.result ≡ slot_of (get_or c.before.before.before.before.before.args.part.now c.before.before.before.loop.i (pos 0))
-slot c = rw (read c.before.before.before.before.before.args.part.now c.before.before.before.loop.i c.before.l.given) at c.slot-of.ensures
+slot : (c : tie.After-slot-of invariant-loop decreases-loop) → c.slot_of.result ≡ slot_of (get_or c.before.before.before.before.before.args.part.now c.before.before.before.loop.i (pos 0))
+slot c = rw (read c.before.before.before.before.before.args.part.now c.before.before.before.loop.i c.before.l.given) at c.slot_of.ensures
 
 loop-holds : tie.Need-loop-init invariant-loop decreases-loop
 loop-holds c = search rules
@@ -52,7 +52,7 @@ loop-less : tie.Need-loop-smaller invariant-loop decreases-loop
 loop-less c = search rules
 
 loop-again : tie.Need-loop-preserved invariant-loop decreases-loop
-loop-again c = mapping_more c.before.before.before.loop.invariant c.slot-of.result c.before.before.loop-test.true (slot c)
+loop-again c = mapping_more c.before.before.before.loop.invariant c.slot_of.result c.before.before.loop-test.true (slot c)
 
 same_length : tie.Need-same-length invariant-loop decreases-loop
 same_length c = search rules

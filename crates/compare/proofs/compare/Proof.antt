@@ -24,8 +24,8 @@ first c = sym (rw (to_z-of_z c.before.before.before.before.before.before.ranges.
 second : (c : tie.Else3) → has_record c.before.before.before.before.before.before.args.v c.before.before.before.before.before.before.args.q ≡ true
 second c = sym (rw (to_z-of_z c.before.before.before.before.before.before.ranges.q) at c.before.has-record2.ensures) ∙ not-false _ c.if3.false
 
-first_slot : (c : tie.After-slot-of) → c.slot-of.result ≡ slot_of c.before.before.before.before.before.before.before.args.p
-first_slot c = let R = record_known c.before.before.before.before.before.before.before.args.v c.before.before.before.before.before.before.before.args.p (first c.before) in rw (back R.low) at c.slot-of.ensures
+first_slot : (c : tie.After-slot-of) → c.slot_of.result ≡ slot_of c.before.before.before.before.before.before.before.args.p
+first_slot c = let R = record_known c.before.before.before.before.before.before.before.args.v c.before.before.before.before.before.before.before.args.p (first c.before) in rw (back R.low) at c.slot_of.ensures
 
 second-slot : (c : tie.After-slot-of2) → c.slot-of2.result ≡ slot_of c.before.before.before.before.before.before.before.before.args.q
 second-slot c = let R = record_known c.before.before.before.before.before.before.before.before.args.v c.before.before.before.before.before.before.before.before.args.q (second c.before.before) in rw (back R.low) at c.slot-of2.ensures

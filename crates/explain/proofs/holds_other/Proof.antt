@@ -10,8 +10,8 @@ use Rattle.explain.proofs.holds_other.Statement.{statement}
 use Rattle.explain.proofs.holds_other.Tie as tie
 
 -- the two slots
-one : (c : tie.After-slot-of) → c.slot-of.result ≡ slot_of c.before.before.args.l
-one c = c.slot-of.ensures ∙ ap slot_of (stored_is c.before.before.requires.1)
+one : (c : tie.After-slot-of) → c.slot_of.result ≡ slot_of c.before.before.args.l
+one c = c.slot_of.ensures ∙ ap slot_of (stored_is c.before.before.requires.1)
 
 other : (c : tie.After-slot-of2) → c.slot-of2.result ≡ slot_of c.before.before.before.args.m
 other c = c.slot-of2.ensures ∙ ap slot_of (stored_is c.before.before.before.requires.2)

@@ -21,8 +21,8 @@ lit-b : (s : tie.Start) → Literal 1024 s.args.b
 lit-b s = literal_of s.requires.1.few s.requires.3
 
 -- and the slots of the first edge
-slot-p : (c : tie.After-slot-of) → c.slot-of.result ≡ slot_of (neg_ℤ c.before.before.args.a)
-slot-p c = c.slot-of.ensures ∙ ap slot_of (turned_is (lit-a c.before.before))
+slot-p : (c : tie.After-slot-of) → c.slot_of.result ≡ slot_of (neg_ℤ c.before.before.args.a)
+slot-p c = c.slot_of.ensures ∙ ap slot_of (turned_is (lit-a c.before.before))
 
 slot-q : (c : tie.After-slot-of2) → c.slot-of2.result ≡ slot_of c.before.before.before.args.b
 slot-q c = c.slot-of2.ensures ∙ ap slot_of (stored_is (lit-b c.before.before.before))

@@ -35,8 +35,8 @@ nothing_left slots = refl
 lit : (c : tie.After-l invariant-loop decreases-loop) → Literal 1024 (get_or c.before.before.loop.part c.before.before.loop.i (pos 0))
 lit c = moving_literal c.before.before.loop.invariant c.before.loop-test.true c.before.before.before.before.before.requires.lits
 
-slot : (c : tie.After-slot-of invariant-loop decreases-loop) → c.slot-of.result ≡ slot_of (neg_ℤ (get_or c.before.before.before.loop.part c.before.before.before.loop.i (pos 0)))
-slot c = rw (neg_is (literal_small (lit c.before))) at c.slot-of.ensures
+slot : (c : tie.After-slot-of invariant-loop decreases-loop) → c.slot_of.result ≡ slot_of (neg_ℤ (get_or c.before.before.before.loop.part c.before.before.before.loop.i (pos 0)))
+slot c = rw (neg_is (literal_small (lit c.before))) at c.slot_of.ensures
 
 loop-holds : tie.Need-loop-init invariant-loop decreases-loop
 loop-holds c = search rules

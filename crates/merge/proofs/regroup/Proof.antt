@@ -26,10 +26,10 @@ module _ (c : tie.After-slot-of-arg invariant-loop decreases-loop) where
   ranged : Literal c.before.before.before.before.args.v class
   ranged = class_ranged c.before.before.before.before.requires c.before.before.loop.invariant c.before.loop-test.true
 
-slot_is : (c : tie.After-slot-of invariant-loop decreases-loop) → c.slot-of.result ≡ slot_of (class c.before)
-slot_is c = c.slot-of.ensures ∙ ap slot_of (read c.before.before.before.loop.variables (2 * c.before.before.before.loop.w) c.before.slot-of-arg.given)
+slot_is : (c : tie.After-slot-of invariant-loop decreases-loop) → c.slot_of.result ≡ slot_of (class c.before)
+slot_is c = c.slot_of.ensures ∙ ap slot_of (read c.before.before.before.loop.variables (2 * c.before.before.before.loop.w) c.before.slot-of-arg.given)
 
-slot-below : (c : tie.After-slot-of invariant-loop decreases-loop) → c.slot-of.result < 2 * c.before.before.before.before.before.args.v
+slot-below : (c : tie.After-slot-of invariant-loop decreases-loop) → c.slot_of.result < 2 * c.before.before.before.before.before.args.v
 slot-below c = omega (arith, slot_is c, slot_in c.before.before.before.before.before.requires c.before.before.before.loop.invariant c.before.before.loop-test.true)
 
 loop-holds : tie.Need-loop-init invariant-loop decreases-loop
@@ -50,17 +50,17 @@ slot-of-requires c κs =
 
 mul-least : tie.Need-overflow-mul-least invariant-loop decreases-loop
 mul-least c =
-    let h : c.slot-of.result < length c.before.before.before.before.before.args.rep.now = omega (arith, slot-below c, c.before.before.before.before.before.requires.slots) in
+    let h : c.slot_of.result < length c.before.before.before.before.before.args.rep.now = omega (arith, slot-below c, c.before.before.before.before.before.requires.slots) in
     search rules
 
 shared-slice-read-least : tie.Need-shared-slice-read-least invariant-loop decreases-loop
 shared-slice-read-least c = omega (arith, slot-below c.before, c.before.before.before.before.before.before.requires.slots)
 
 cast-least : tie.Need-overflow-cast-least invariant-loop decreases-loop
-cast-least c = omega (arith, c.shared-slice-known2.given c.before.slot-of.result)
+cast-least c = omega (arith, c.shared-slice-known2.given c.before.slot_of.result)
 
 lit-at-requires : tie.Need-lit-at-requires invariant-loop decreases-loop
-lit-at-requires c κs = omega (arith, slot-below c.before, c.before.before.before.before.before.before.requires.below c.before.slot-of.result (slot-below c.before), c.before.before.before.before.before.before.requires.few)
+lit-at-requires c κs = omega (arith, slot-below c.before, c.before.before.before.before.before.before.requires.below c.before.slot_of.result (slot-below c.before), c.before.before.before.before.before.before.requires.few)
 
 mul-t9 : tie.Need-overflow-mul-t9 invariant-loop decreases-loop
 mul-t9 c = search rules

@@ -17,8 +17,8 @@ invariant-loop variables v count₀ w₀ count w = Counting v variables count w
 abbrev decreases-loop : tie.decreases-loop
 decreases-loop variables v count₀ w₀ count w = v - w
 
-slot_is : (c : tie.After-slot-of invariant-loop decreases-loop) → c.slot-of.result ≡ slot_of (get_or c.before.before.before.before.args.variables.now (2 * c.before.before.before.loop.w) (pos 0))
-slot_is c = c.slot-of.ensures ∙ ap slot_of (read c.before.before.before.before.args.variables.now (2 * c.before.before.before.loop.w) c.before.slot-of-arg.given)
+slot_is : (c : tie.After-slot-of invariant-loop decreases-loop) → c.slot_of.result ≡ slot_of (get_or c.before.before.before.before.args.variables.now (2 * c.before.before.before.loop.w) (pos 0))
+slot_is c = c.slot_of.ensures ∙ ap slot_of (read c.before.before.before.before.args.variables.now (2 * c.before.before.before.loop.w) c.before.slot-of-arg.given)
 
 loop-holds : tie.Need-loop-init invariant-loop decreases-loop
 loop-holds c = counting_none c.args.v c.args.variables.now

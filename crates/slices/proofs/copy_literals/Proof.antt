@@ -36,13 +36,13 @@ loop-less : tie.Need-loop-i-smaller invariant-loop decreases-loop
 loop-less c = search rules
 
 loop-again : tie.Need-loop-i-preserved invariant-loop decreases-loop
-loop-again c = copying_more c.before.before.loop-i.invariant (pos 0) _ c.before.before.before.requires c.before.loop-i-test.true (read c.before.before.before.args.from.now c.before.before.loop-i.i c.to-1.given)
+loop-again c = copying_more c.loop-i.invariant (pos 0) _ c.requires c.loop-i-test.true (read c.args.from.now c.loop-i.i c.to-1.given)
 
 same_length : tie.Need-shape_of-to invariant-loop decreases-loop
 same_length c = search rules
 
 returns : tie.Need-returns invariant-loop decreases-loop
-returns c = copying_all c.before.loop-i.invariant c.loop-i-test.false
+returns c = copying_all c.loop-i.invariant c.loop-i-test.false
 
 pub copy_literals_spec : {M : Type 1} → statement M
 copy_literals_spec =

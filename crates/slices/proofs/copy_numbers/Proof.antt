@@ -35,13 +35,13 @@ loop-less : tie.Need-loop-i-smaller invariant-loop decreases-loop
 loop-less c = search rules
 
 loop-again : tie.Need-loop-i-preserved invariant-loop decreases-loop
-loop-again c = copying_more c.before.before.loop-i.invariant 0 _ c.before.before.before.requires c.before.loop-i-test.true refl
+loop-again c = copying_more c.loop-i.invariant 0 _ c.requires c.loop-i-test.true refl
 
 same_length : tie.Need-shape_of-to invariant-loop decreases-loop
 same_length c = search rules
 
 returns : tie.Need-returns invariant-loop decreases-loop
-returns c = copying_all c.before.loop-i.invariant c.loop-i-test.false
+returns c = copying_all c.loop-i.invariant c.loop-i-test.false
 
 pub copy_numbers_spec : {M : Type 1} → statement M
 copy_numbers_spec =

@@ -32,7 +32,7 @@ shared-slice-copy-out-if1-2 : tie.Need-bounds-b-i invariant-loop decreases-loop
 shared-slice-copy-out-if1-2 c = search rules
 
 returns : tie.Need-returns-then-a-i invariant-loop decreases-loop
-returns c = comparing_stop eq_z (pos 0) c.before.before.before.before.loop-i.invariant c.before.before.before.loop-i-test.true c.before.before.before.before.before.requires (tested_ne {y = get_or c.before.before.before.before.before.args.a.now c.before.before.before.before.loop-i.i (pos 0)} {z = get_or c.before.before.before.before.before.args.b.now c.before.before.before.before.loop-i.i (pos 0)} (sfits_of c.before.before.t7-1.given) (sfits_of c.before.t10-1.given) c.if-a-i.true)
+returns c = comparing_stop eq_z (pos 0) c.loop-i.invariant c.loop-i-test.true c.requires (tested_ne {y = get_or c.args.a.now c.loop-i.i (pos 0)} {z = get_or c.args.b.now c.loop-i.i (pos 0)} (sfits_of c.t7-1.given) (sfits_of c.t10-1.given) c.if-a-i.true)
 
 add-i : tie.Need-overflow_add-i invariant-loop decreases-loop
 add-i c = search rules
@@ -41,10 +41,10 @@ loop-less : tie.Need-loop-i-smaller invariant-loop decreases-loop
 loop-less c = search rules
 
 loop-again : tie.Need-loop-i-preserved invariant-loop decreases-loop
-loop-again c = comparing_more eq_z (pos 0) c.before.before.before.before.loop-i.invariant c.before.before.before.loop-i-test.true c.before.before.before.before.before.requires (tested_eq {y = get_or c.before.before.before.before.before.args.a.now c.before.before.before.before.loop-i.i (pos 0)} {z = get_or c.before.before.before.before.before.args.b.now c.before.before.before.before.loop-i.i (pos 0)} (sfits_of c.before.before.t7-1.given) (sfits_of c.before.t10-1.given) c.if-a-i.false)
+loop-again c = comparing_more eq_z (pos 0) c.loop-i.invariant c.loop-i-test.true c.requires (tested_eq {y = get_or c.args.a.now c.loop-i.i (pos 0)} {z = get_or c.args.b.now c.loop-i.i (pos 0)} (sfits_of c.t7-1.given) (sfits_of c.t10-1.given) c.if-a-i.false)
 
 returns-2 : tie.Need-returns invariant-loop decreases-loop
-returns-2 c = comparing_all eq_z c.before.loop-i.invariant c.loop-i-test.false c.before.before.requires
+returns-2 c = comparing_all eq_z c.loop-i.invariant c.loop-i-test.false c.requires
 
 pub same_literals_spec : {M : Type 1} → statement M
 same_literals_spec =

@@ -30,7 +30,7 @@ shared-slice-read-if1-2 : tie.Need-bounds-b-i invariant-loop decreases-loop
 shared-slice-read-if1-2 c = search rules
 
 returns : tie.Need-returns-then-a-i invariant-loop decreases-loop
-returns c = comparing_stop eqb 0 c.before.before.before.before.loop-i.invariant c.before.before.before.loop-i-test.true c.before.before.before.before.before.requires (ne_eqb _ _ c.if-a-i.true)
+returns c = comparing_stop eqb 0 c.loop-i.invariant c.loop-i-test.true c.requires (ne_eqb _ _ c.if-a-i.true)
 
 add-i : tie.Need-overflow_add-i invariant-loop decreases-loop
 add-i c = search rules
@@ -39,10 +39,10 @@ loop-less : tie.Need-loop-i-smaller invariant-loop decreases-loop
 loop-less c = search rules
 
 loop-again : tie.Need-loop-i-preserved invariant-loop decreases-loop
-loop-again c = comparing_more eqb 0 c.before.before.before.before.loop-i.invariant c.before.before.before.loop-i-test.true c.before.before.before.before.before.requires (eq-eqb _ _ c.if-a-i.false)
+loop-again c = comparing_more eqb 0 c.loop-i.invariant c.loop-i-test.true c.requires (eq-eqb _ _ c.if-a-i.false)
 
 returns-2 : tie.Need-returns invariant-loop decreases-loop
-returns-2 c = comparing_all eqb c.before.loop-i.invariant c.loop-i-test.false c.before.before.requires
+returns-2 c = comparing_all eqb c.loop-i.invariant c.loop-i-test.false c.requires
 
 pub same_numbers_spec : {M : Type 1} → statement M
 same_numbers_spec =

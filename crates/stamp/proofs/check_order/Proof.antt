@@ -33,10 +33,10 @@ module _ (c : tie.Else1 invariant-loop decreases-loop) where
 
 -- and with its slot
 module _ (c : tie.After-slot-of invariant-loop decreases-loop) where
-  slot_is : c.slot-of.result ≡ slot_of (entry c.before)
-  slot_is = c.slot-of.ensures ∙ ap slot_of (read c.before.before.before.before.before.before.args.order.now c.before.before.before.before.before.loop.i c.before.before.before.l.given)
+  slot_is : c.slot_of.result ≡ slot_of (entry c.before)
+  slot_is = c.slot_of.ensures ∙ ap slot_of (read c.before.before.before.before.before.before.args.order.now c.before.before.before.before.before.loop.i c.before.before.before.l.given)
 
-  slot-low : c.slot-of.result < 2048
+  slot-low : c.slot_of.result < 2048
   slot-low = omega (arith, slot_is, slot_below (entry c.before) c.before.before.before.before.before.before.args.v (range c.before).above (range c.before).within, c.before.before.before.before.before.before.requires)
 
 loop-holds : tie.Need-loop-init invariant-loop decreases-loop

@@ -34,7 +34,7 @@ slot-of-requires c κs = let L = c.before.before.before.before.requires.0.each c
 
 cast-slots : tie.Need-overflow-cast-slots invariant-loop decreases-loop
 cast-slots c = let L = c.before.before.before.before.before.requires.0.each c.before.before.before.loop.i c.before.before.loop-test.true in
-    omega (arith, c.slot-of.ensures ∙ ap slot_of (read c.before.before.before.before.before.args.order.now c.before.before.before.loop.i c.before.slot-of-arg.given), slot_below (get_or c.before.before.before.before.before.args.order.now c.before.before.before.loop.i (pos 0)) 1024 L.above L.within)
+    omega (arith, c.slot_of.ensures ∙ ap slot_of (read c.before.before.before.before.before.args.order.now c.before.before.before.loop.i c.before.slot-of-arg.given), slot_below (get_or c.before.before.before.before.before.args.order.now c.before.before.before.loop.i (pos 0)) 1024 L.above L.within)
 
 mul-slots : tie.Need-overflow-mul-slots invariant-loop decreases-loop
 mul-slots c = search rules
@@ -50,8 +50,8 @@ loop-less c = search rules
 
 loop-again : tie.Need-loop-preserved invariant-loop decreases-loop
 loop-again c = let a = c.before.before.before.before.before.args in let l = c.before.before.before.loop in
-    filling_as (map slot_of a.order.now) a.slots.now l.slots l.i (slot_of (pos 0)) c.slot-of.result
-    (c.slot-of.ensures ∙ ap slot_of (read a.order.now l.i c.before.slot-of-arg.given) ∙ sym (get_or-map slot_of a.order.now l.i (pos 0)))
+    filling_as (map slot_of a.order.now) a.slots.now l.slots l.i (slot_of (pos 0)) c.slot_of.result
+    (c.slot_of.ensures ∙ ap slot_of (read a.order.now l.i c.before.slot-of-arg.given) ∙ sym (get_or-map slot_of a.order.now l.i (pos 0)))
     (omega (arith, c.before.before.loop-test.true, length-map a.order.now slot_of)) l.invariant
 
 same_length : tie.Need-same-length invariant-loop decreases-loop

@@ -50,13 +50,13 @@ module _ (c : tie.Then1 invariant-loop decreases-loop) where
   first = ap (λ (k : ℕ). get_or c.before.before.before.before.before.before.before.before.args.literals.now k (pos 0)) (let z : place + 0 ≡ place = omega arith in z)
 
 -- the slots of its literals
-slot-a : (c : tie.After-slot-of invariant-loop decreases-loop) → c.slot-of.result ≡ slot_of (get_or c.before.before.before.before.before.before.before.before.before.before.args.literals.now (place c.before.before) (pos 0))
-slot-a c = c.slot-of.ensures ∙ ap slot_of (read c.before.before.before.before.before.before.before.before.before.before.args.literals.now (place c.before.before) c.before.slot-of-arg.given)
+slot-a : (c : tie.After-slot-of invariant-loop decreases-loop) → c.slot_of.result ≡ slot_of (get_or c.before.before.before.before.before.before.before.before.before.before.args.literals.now (place c.before.before) (pos 0))
+slot-a c = c.slot_of.ensures ∙ ap slot_of (read c.before.before.before.before.before.before.before.before.before.before.args.literals.now (place c.before.before) c.before.slot-of-arg.given)
 
 slot-b : (c : tie.After-slot-of2 invariant-loop decreases-loop) → c.slot-of2.result ≡ slot_of (get_or c.before.before.before.before.before.before.before.before.before.before.before.before.args.literals.now (place c.before.before.before.before + 1) (pos 0))
 slot-b c = c.slot-of2.ensures ∙ ap slot_of (read c.before.before.before.before.before.before.before.before.before.before.before.before.args.literals.now (place c.before.before.before.before + 1) c.before.slot-of-arg2.given)
 
-small-a : (c : tie.After-slot-of invariant-loop decreases-loop) → c.slot-of.result < 2048
+small-a : (c : tie.After-slot-of invariant-loop decreases-loop) → c.slot_of.result < 2048
 small-a c = omega (arith, slot-a c, ap slot_of (first c.before.before), slot_below (literal c.before.before 0) 1024 (above c.before.before 0 (omega arith)) (within c.before.before 0 (omega arith)))
 
 small_b : (c : tie.After-slot-of2 invariant-loop decreases-loop) → c.slot-of2.result < 2048
@@ -151,7 +151,7 @@ loop-again c =
     let l = c.before.before.before.before.before.before.before.before.before.before.before.before.before.before.before.loop in
     let w = c.before.before.before.before.put-pair in
     pairing_in a.n a.clauses.now a.literals.now a.from.now a.to.now l.from l.to l.k l.i (turn c.before.before.before.before.before.before.before.before.before.before.before) c.before.before.before.before.before.before.before.before.before.before.before.before.before.before.before.before.before.before.before.requires.0 l.invariant
-    c.before.before.before.before.before.before.before.before.before.slot-of.result c.before.before.before.before.before.before.before.slot-of2.result w.new.1.1.1.0 w.new.1.1.1.1.0 c.before.before.before.before.before.before.before.before.before.before.before.if1.true (slot-a c.before.before.before.before.before.before.before.before.before) (slot-b c.before.before.before.before.before.before.before) w.ensures.0 w.ensures.1
+    c.before.before.before.before.before.before.before.before.before.slot_of.result c.before.before.before.before.before.before.before.slot-of2.result w.new.1.1.1.0 w.new.1.1.1.1.0 c.before.before.before.before.before.before.before.before.before.before.before.if1.true (slot-a c.before.before.before.before.before.before.before.before.before) (slot-b c.before.before.before.before.before.before.before) w.ensures.0 w.ensures.1
 
 loop-less-2 : tie.Need-loop-smaller-2 invariant-loop decreases-loop
 loop-less-2 c = search rules
