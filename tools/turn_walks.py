@@ -22,7 +22,7 @@ W = r"[^\s(){}\[\];,.:|\"`=]+"
 
 
 def norm(name):
-    n = name.replace("_", "-")
+    n = name.replace("_", "-").lower()
     n = re.sub(r"^overflow-", "", n)
     return n.replace("loop-holds", "loop-init").replace("loop-less", "loop-smaller").replace("loop-again", "loop-preserved")
 
@@ -43,7 +43,7 @@ def split_items(text):
     """The file as its top-level pieces: a signature, and with it its clauses and what is indented below."""
     pieces, cur = [], []
     for line in text.split("\n"):
-        if line and not line[0].isspace() and cur and any(c.strip() for c in cur):
+        if line and not line[0].isspace() and line[0] not in ")]}" and cur and any(c.strip() for c in cur):
             pieces.append(cur)
             cur = []
         cur.append(line)
@@ -126,7 +126,7 @@ def explicit(sig):
 
 
 def tie_place(ty):
-    m = re.match(r"(?:tie|lts)\.(%s)" % W, ty.strip())
+    m = re.match(r"(?:tie|lts|[\w-]+-lts)\.(%s)" % W, ty.strip())
     return m.group(1) if m and not m.group(1).startswith("Need-") else None
 
 
@@ -166,13 +166,36 @@ class Places:
         return s.pop() if len(s) == 1 else None
 
 
-def turn(text, entry, function, said):
+def by_place(fields, tail):
+    """(the field that `tail`, as .1.1.0, led to among nested pairs, what is left of tail)"""
+    words = tail.split(".")[1:]
+    k = 0
+    while k < len(fields) - 1 and words and words[0] == "1":
+        k += 1
+        words = words[1:]
+    if k < len(fields) - 1:
+        if not words or words[0] != "0":
+            return None, tail
+        words = words[1:]
+    return fields[k], "".join("." + w for w in words)
+
+
+def turn(text, entry, function, said, tie_name="tie", cycle=False):
     places = Places(entry)
-    m = re.search(r"\(tie\.spec\s([^()]*)\)", text)
+    m = re.search(r"\(tie\.spec\s([^()]*)\)", text) if not cycle else None
     listed = m.group(1).split() if m else []
     needs = entry["needs"]
     asked = [new for old, new in entry["asked_at"]]
-    type_of = {a: b for a, b in re.findall(r"(?m)^(%s) : tie\.Need-(%s)" % (W, W), text)}
+    if cycle:
+        type_of = {}
+        for p in split_items(text):
+            h = head_of(p)
+            t = re.search(r"(?<![\w.-])%s\.Need-(%s)" % (tie_name, W), "\n".join(p))
+            if h and t:
+                type_of[h] = t.group(1)
+        listed = list(type_of)
+    else:
+        type_of = {a: b for a, b in re.findall(r"(?m)^(%s) : tie\.Need-(%s)" % (W, W), text)}
     answers = [a for a in listed if a in type_of]
     others = [a for a in listed if a not in type_of]
     if len(answers) == len(needs):
@@ -189,6 +212,7 @@ def turn(text, entry, function, said):
     if gone or missing:
         said.append(f"gone {[(a, type_of[a]) for a in gone]}, new {[needs[i] for i in missing]}")
     loops = {norm(old): new for (old, new), _ in (entry["loops"] or [])}
+    loop_vars = {v for _, vs in (entry["loops"] or []) for v in vs}
 
     def place_of_type(ty):
         """The index of the place that `tie.X` names, by its old name."""
@@ -199,6 +223,13 @@ def turn(text, entry, function, said):
     helpers = {}
     for p in pieces:
         name = head_of(p)
+        mod = re.match(r"module _ ((?:\((?:[^()]|\([^()]*\))*\) ?)+)where", "\n".join(p).lstrip())
+        if mod:
+            params = explicit(mod.group(1) + "→")
+            where = {i: place_of_type(t) for i, (n, t) in enumerate(params) if tie_place(t)}
+            if where:
+                for inner in re.findall(r"(?m)^  (?:(?:pub|abbrev) )*(%s) :(?=\s)" % W, "\n".join(p)):
+                    helpers[inner] = (where, params)
         if not name or name in type_of:
             continue
         body = "\n".join(p)
@@ -215,16 +246,24 @@ def turn(text, entry, function, said):
         lead = body.lstrip()
         if name in gone:
             continue
-        if lead.startswith("use ") or lead.startswith("--") or not name:
+        mod = re.match(r"module _ ((?:\((?:[^()]|\([^()]*\))*\) ?)+)where", lead)
+        if lead.startswith("use ") or lead.startswith("--") or not (name or mod):
             out.append(body)
             continue
-        env = {}
+        env, aliases = {}, {}
         if name in got:
             i = places.index(asked[got[name]])
-            c = re.search(r"(?m)^%s (%s)" % (re.escape(name), W), body)
+            c = re.search(r"(?m)^%s (%s)( %s)?" % (re.escape(name), W, W), body)
             if c:
-                env[c.group(1)] = i
-        if name in helpers:
+                env[c.group(2).strip() if cycle and c.group(2) and c.group(2).strip() not in ("=", "κs") else c.group(1)] = i
+        inner_names = set()
+        if mod:
+            inner_names = set(re.findall(r"(?m)^  (?:(?:pub|abbrev) )*(%s) :(?=\s)" % W, body))
+            params = explicit(mod.group(1) + "→")
+            for n, t in params:
+                if n and tie_place(t):
+                    env[n] = place_of_type(t)
+        elif name in helpers:
             where, params = helpers[name]
             for i, at in where.items():
                 if params[i][0]:
@@ -240,6 +279,12 @@ def turn(text, entry, function, said):
             for mm in re.finditer(r"let (%s) = (%s)((?:\.before)*) in" % (W, W), body):
                 if mm.group(2) in env and mm.group(1) not in env:
                     env[mm.group(1)] = env[mm.group(2)]
+        for v in [v for v in env if re.search(r"let %s = (%s)((?:\.before)*) in" % (re.escape(v), W), body)]:
+            mm = re.search(r"let %s = (%s)((?:\.before)*) in[ \n]*" % (re.escape(v), W), body)
+            if mm.group(1) in env:
+                # the earlier place is read off the later one: no name is needed for it
+                body = body[: mm.start()] + re.sub(r"(?<![\w.'-])%s(?=\.|[^\w'-]|$)" % re.escape(v), mm.group(1), body[mm.end() :]) if body[: mm.start()].count("\n") < 99 else body
+                del env[v]
         if env:
             names = "|".join(re.escape(v) for v in sorted(env, key=len, reverse=True))
             # chains as an argument of a lemma of this file that takes a place
@@ -247,6 +292,8 @@ def turn(text, entry, function, said):
 
             def chains(body):
                 for h, (where, params) in helpers.items():
+                    if h in inner_names:
+                        continue
                     pos = 0
                     while True:
                         mm = re.compile(r"(?<![\w.'-])%s(?=[\s])" % re.escape(h)).search(body, pos)
@@ -278,11 +325,47 @@ def turn(text, entry, function, said):
                 new = places.field_at(env[v], field) if field else None
                 return v + ("." + (new or field) if field else "")
 
-            body = re.sub(r"(?<![\w.'-])(%s)(?:\.before)+(?:\.(?!before)(%s))?(?![\w])" % (names, W), flat, body)
-            body = re.sub(r"(?<![\w.'-])(%s)\.(?!before|BEFORE)(%s)" % (names, W), flat, body)
+            def positions(mm):
+                """A place in nested pairs, as the field that it is now."""
+                v, step, kind, tail = mm.groups()
+                fields = None
+                if step:
+                    at = next((i for i in places.up(env[v]) if places.field[i][1] == step[1:]), None) if env[v] is not None else None
+                    if at is None:
+                        at = next((i for i, f in enumerate(places.field) if f[1] == step[1:]), None)
+                    if at is not None:
+                        if kind in ("new", "auto", "last"):
+                            fields = entry["params"].get(entry["places"][at][3] or "")
+                            if fields:
+                                fields = fields + ["-"]
+                if not fields:
+                    return mm.group(0)
+                f, rest = by_place(fields, tail)
+                return f"{v}{step or ''}.{kind}.{f}{rest}" if f else mm.group(0)
+
+            body = re.sub(r"(?<![\w.'-])(%s)(?:\.before)*(?:\.(?!before|BEFORE)(%s))?(?![\w'-])" % (names, W), flat, body)
+            for mm in re.finditer(r"let (%s) = (%s)((?:\.%s)*) in" % (W, names, W), body):
+                aliases[mm.group(1)] = mm.group(2) + mm.group(3)
+            body = re.sub(r"(?<![\w.'-])(%s)(\.(?!new|auto|requires|ensures|last)%s)?\.(new|auto|last|requires|ensures)((?:\.[01])+)" % (names, W), positions, body)
+            for a, of in aliases.items():
+                # a name for what a step left, or for what is required
+                mo = re.fullmatch(r"(%s)(\.(?!requires)%s)?(\.requires|\.ensures)?" % (names, W), of)
+                if not mo:
+                    continue
+                v, step, kind = mo.groups()
+
+                def through(mm):
+                    probe = f"{v}{step or ''}{kind or ''}{mm.group(1)}"
+                    got2 = re.sub(r"^(%s)(\.(?!new|auto|requires|ensures|last)%s)?\.(new|auto|last|requires|ensures)((?:\.[01])+)" % (names, W), positions, probe)
+                    return a + got2[len(f"{v}{step or ''}{kind or ''}") :] if got2 != probe else mm.group(0)
+
+                body = re.sub(r"(?<![\w.'-])%s((?:\.(?:new|auto|last|requires|ensures))?(?:\.[01])+)" % re.escape(a), through, body)
             body = body.replace(".BEFORE", ".before")
             # a name that an earlier place had is the place itself now
-        body = body.replace(".type-inv", ".type_inv")
+        body = body.replace(".type-inv", ".type_inv").replace(".well-formed", ".well_formed")
+        body = re.sub(r"(?<=\.)(%s)" % W, lambda mm: mm.group(1).replace("-", "_") if "-" in mm.group(1) and mm.group(1).replace("-", "_") in FIELDS else mm.group(1), body)
+        body = re.sub(r"(?<=[{;] )(%s)(?= =)" % W, lambda mm: mm.group(1).replace("-", "_") if "-" in mm.group(1) and mm.group(1).replace("-", "_") in FIELDS else mm.group(1), body)
+        body = re.sub(r"(?m)^(\s+)(%s)(?= =(\s|$))" % W, lambda mm: mm.group(1) + (mm.group(2).replace("-", "_") if "-" in mm.group(2) and mm.group(2).replace("-", "_") in FIELDS else mm.group(2)), body)
 
         def tie(mm):
             w = mm.group(1)
@@ -290,14 +373,21 @@ def turn(text, entry, function, said):
                 return mm.group(0)
             for pre in ("invariant-", "decreases-"):
                 if w.startswith(pre) and norm(w[len(pre) :]) in loops:
-                    return "tie." + pre + loops[norm(w[len(pre) :])]
+                    return tie_name + "." + pre + loops[norm(w[len(pre) :])]
             if norm(w) in places.by_old:
-                return "tie." + places.new[places.by_old[norm(w)]]
+                return tie_name + "." + places.new[places.by_old[norm(w)]]
             return mm.group(0)
 
-        body = re.sub(r"(?<![\w.-])tie\.(%s)" % W, tie, body)
+        body = re.sub(r"(?<![\w.-])%s\.(%s)" % (tie_name, W), tie, body)
         if name in got:
-            body = re.sub(r"(?m)^(%s : tie\.Need-)%s(?=\s|$)" % (re.escape(name), W), lambda mm: mm.group(1) + needs[got[name]][1], body)
+            body = re.sub(r"(?<![\w.-])(%s\.Need-)%s(?=\s|$)" % (tie_name, W), lambda mm: mm.group(1) + needs[got[name]][1], body, count=1)
+        # a signed variable of a loop has its bits under another name
+        body = re.sub(r"(to_z w\d+ )((?:%s\.)+)(%s)(?![\w'.-])" % (W, W), lambda mm: mm.group(1) + mm.group(2) + (mm.group(3) + "-bits" if mm.group(3) in loop_vars and ".new." not in mm.group(2) and ".args." not in mm.group(2) else mm.group(3)), body)
+        body = body.replace("to_z-of_z (sfits_of", "to_z-of_z {w = w32} (sfits_of")
+        body = re.sub(r"\.((?:if-%s)|(?:%s-test))\.(taken|left)(?![\w-])" % (W, W), lambda mm: "." + mm.group(1) + (".true" if mm.group(2) == "taken" else ".false"), body)
+        # the test of `!x` says what `x` is
+        body = re.sub(r"\(not-(?:true|false) _ (%s(?:\.%s)*)\)" % (W, W), r"\1", body)
+        body = re.sub(r"(?<![\w-])not-(?:true|false) _ (%s(?:\.%s)*)" % (W, W), r"\1", body)
         out.append(body)
     text = "\n".join(out)
     inv_args = ""
@@ -305,14 +395,16 @@ def turn(text, entry, function, said):
     if mm:
         inv_args = mm.group(1)
     extra = "".join(f"{needs[i][1]}' : tie.Need-{needs[i][1]}{inv_args}\n{needs[i][1]}' c = search rules\n\n" for i in missing)
-    if extra:
+    if extra and not cycle:
         at = re.search(r"(?m)^pub \S+spec : ", text)
         if at:
             text = text[: at.start()] + extra + text[at.start() :]
     back = {i: a for a, i in got.items()}
     order = [back.get(i, needs[i][1] + "'") for i in range(len(needs))]
-    if listed:
+    if listed and not cycle:
         text = re.sub(r"\(tie\.spec\s[^()]*\)", lambda _: "(tie.spec\n    " + "\n    ".join(others + order) + ")", text)
+    if cycle:
+        return text
     text = re.sub(r"(?m)^pub (\S+)-spec( :| =)", lambda q: "pub " + function + "_spec" + q.group(2), text)
     text = re.sub(r"(?m)^(\S+)-spec =", lambda q: function + "_spec =", text)
     if "search rules" in text and "borrow.Author.Rules.{rules}" not in text:
@@ -320,8 +412,32 @@ def turn(text, entry, function, said):
     return text
 
 
+def own_fields():
+    """The fields of this repository's records that have a `_`."""
+    found = set()
+    for folder, dirs, files in os.walk("crates"):
+        dirs[:] = [d for d in dirs if d != "out"]
+        for n in files:
+            if n.endswith(".antt"):
+                inside = False
+                for line in open(os.path.join(folder, n), encoding="utf-8"):
+                    if re.match(r"\s*(?:abbrev )?(?:pub )?record [A-Z]", line):
+                        inside = True
+                    elif re.match(r"\S", line):
+                        inside = False
+                    elif inside:
+                        m = re.match(r"\s+(?:pub )?(\S+) :", line)
+                        if m and "_" in m.group(1):
+                            found.add(m.group(1))
+    return found
+
+
+FIELDS = set()
+
+
 def main(args):
-    base = None
+    FIELDS.update(own_fields())
+    base, begun = None, set()
     if args and args[0] == "--from":
         base, args = args[1], args[2:]
     for crate in args:
@@ -329,20 +445,33 @@ def main(args):
         if names is None:
             continue
         for key, entry in sorted(names.items()):
-            k = re.match(r"Rattle-%s-proofs\.(.*)\.Lts$" % crate, key)
+            k = re.match(r"Rattle-%s-proofs\.(.*)\.Lts(-.*)?$" % crate, key)
             if not k:
                 continue
             rel = k.group(1)
+            cycle = k.group(2)
             path = os.path.join("crates", crate, "proofs", *rel.split("."), "Proof.antt")
             if not os.path.exists(path):
                 continue
             text = open(path, encoding="utf-8").read()
-            if base:
+            if base and path not in begun:
+                begun.add(path)
                 r = subprocess.run(["git", "show", f"{base}:{path}"], capture_output=True, text=True)
                 if r.returncode == 0:
                     text = r.stdout
+            if not cycle and not re.search(r"Tie as tie", text):
+                print(f"{crate}/{rel}: a walk by hand")
+                continue
             said = []
-            text = turn(text, entry, rel.split(".")[-1], said)
+            if cycle:
+                f = cycle[1:]
+                dashed = f.replace("_", "-")
+                text = turn(text, entry, f, said, tie_name=dashed + "-lts", cycle=True)
+                folder = rel.split(".")[-1]
+                text = re.sub(r"(?m)^pub \+(\S+)-spec( :| =)", lambda q: "pub " + folder + "_spec" + q.group(2), text)
+                text = re.sub(r"(?m)^\+(\S+)-spec =", lambda q: folder + "_spec =", text)
+            else:
+                text = turn(text, entry, rel.split(".")[-1], said)
             for s in said:
                 print(f"{crate}/{rel}: {s}")
             with open(path, "w", encoding="utf-8") as f:

@@ -1,6 +1,6 @@
 -- The pieces of the header at an offset of the text, by the tests of the code. Assumes nothing.
-use mathlib.Core.Path.{◌≡◌, refl, ◌∙◌}
-use mathlib.Core.Bool.{Bool, true, false}
+use mathlib.Core.Path.{◌≡◌, refl, ap, ◌∙◌}
+use mathlib.Core.Bool.{Bool, true, false, not}
 use mathlib.Core.List.{List, [], ◌∷◌}
 use Prim.Native.Nat.{ℕ, suc, ◌+◌, ◌≤◌, ◌<◌, min}
 use native.Mathlib.Omega.{arith}
@@ -16,6 +16,10 @@ use Rattle.state.specs.declared.Refusal.TheVariants.{Grammar, Limit}
 use Rattle.dimacs.specs.declared.Piece.TheVariants.{Wrong, Got}
 use Rattle.dimacs.proofs.Runs.{span_le}
 
+-- a byte of a comment line
+line_byte : (b : ℕ) (s : List ℕ) (at : ℕ) {t : Bool} → eqb b 10 ≡ t → comments true (b ∷ s) at ≡ comments (not t) s (suc at)
+line_byte b s at e = ap (λ (t : Bool). comments (not t) s (suc at)) e
+
 -- the rest of a line, up to its LF or to the text's end
 past_line : (s : List ℕ) (at : ℕ) → span is_line_byte s < length s → comments true s at ≡ comments false (drop (suc (span is_line_byte s)) s) (at + suc (span is_line_byte s))
 past_line [] at h = absurd (let z : 0 < 0 = h in omega arith)
@@ -25,11 +29,11 @@ past_line (b ∷ s) at h = go (eqb b 10) refl (past_line s (suc at)) h
         → (span is_line_byte s < length s → comments true s (suc at) ≡ comments false (drop (suc (span is_line_byte s)) s) (suc at + suc (span is_line_byte s)))
         → span is_line_byte (b ∷ s) < length (b ∷ s)
         → comments true (b ∷ s) at ≡ comments false (drop (suc (span is_line_byte (b ∷ s))) (b ∷ s)) (at + suc (span is_line_byte (b ∷ s)))
-    go true e ih h = let q : at + 1 ≡ suc at = omega arith in rw (e, span, q)
+    go true e ih h = let q : at + 1 ≡ suc at = omega arith in line_byte b s at e ∙ rw (e, span, q)
     go false e ih h =
         let q : at + suc (suc (span is_line_byte s)) ≡ suc at + suc (span is_line_byte s) = omega arith in
         let l : suc (span is_line_byte s) < suc (length s) = rw (e, span) at h in
-        rw (e, span, q) (ih (omega arith))
+        line_byte b s at e ∙ rw (e, span, q) (ih (omega arith))
 
 open_line : (s : List ℕ) (at : ℕ) → length s ≤ span is_line_byte s → comments true s at ≡ Wrong (Grammar (at + span is_line_byte s))
 open_line [] at h = let q : at + 0 ≡ at = omega arith in rw q
@@ -41,7 +45,7 @@ open_line (b ∷ s) at h = go (eqb b 10) refl (open_line s (suc at)) h
     go false e ih h =
         let q : at + suc (span is_line_byte s) ≡ suc at + span is_line_byte s = omega arith in
         let l : suc (length s) ≤ suc (span is_line_byte s) = rw (e, span) at h in
-        rw (e, span, q) (ih (omega arith))
+        line_byte b s at e ∙ rw (e, span, q) (ih (omega arith))
 
 module _ (s : List ℕ) (i : ℕ) (h : i < length s) where
   comments_begin : get_or s i 0 ≡ 99 → comments false (drop i s) i ≡ comments true (drop i s) i

@@ -8,9 +8,9 @@ ghost use Rattle.std.specs.Prelude.{◌≤◌};
 
 mod words;
 
-use libc::STDOUT_FILENO;
 use stamp_records::StampRecord;
 use state::{Answer, Outcome, State};
+use std::io;
 use window::{Window, Windowed};
 use words::{end_line, print, print_answer, print_number};
 
@@ -113,65 +113,62 @@ fn sweep_lent(
 // ---- what is printed
 
 // Prints the answer on a line of its own; the state after it.
-fn report(outcome: Outcome) -> State {
+fn report(rt: &impl Print, outcome: Outcome) -> io::Result<State> {
     let answer = outcome.answer;
-    print_answer(answer);
-    end_line();
-    outcome.state
+    print_answer(rt, answer)?;
+    end_line(rt)?;
+    Ok(outcome.state)
 }
 
-// The smallest i32, which is no literal and has no magnitude in i32.
+// The smallest i32, which is no literal and has no magnitude in i32: nothing is printed for it.
 const LEAST: i32 = -2147483648;
 
 // A space and a literal, or 0.
-fn print_literal(l: i32) {
+fn print_literal(rt: &impl Print, l: i32) -> io::Result<()> {
     if l == LEAST {
-        return;
+        return Ok(());
     }
-    if l < 0 {
-        print(b" -");
-        io::print_decimal(STDOUT_FILENO, (-l) as u64);
-        return;
-    }
-    print_number(l as u64);
+    print!(rt; " {l}")
 }
 
 // Discovery, finish, parent and start.
-fn print_record(r: StampRecord) {
-    io::print_decimal(STDOUT_FILENO, r.discovery as u64);
-    print_number(r.finish as u64);
-    print_literal(r.parent);
-    print_literal(r.start);
-    end_line();
+fn print_record(rt: &impl Print, r: StampRecord) -> io::Result<()> {
+    let discovery = r.discovery;
+    print!(rt; "{discovery}")?;
+    print_number(rt, r.finish as u64)?;
+    print_literal(rt, r.parent)?;
+    print_literal(rt, r.start)?;
+    end_line(rt)
 }
 
 // The records of the first eight literals, 1, -1, 2, -2, .., and the last one, which no call may change.
-fn print_records(records: [StampRecord; 2049]) {
+fn print_records(rt: &impl Print, records: [StampRecord; 2049]) -> io::Result<()> {
     let mut i: usize = 0;
     while i < 8 {
         let r = records[i];
-        print_record(r);
+        print_record(rt, r)?;
         i += 1;
     }
     let last = records[2048];
-    print_record(last);
+    print_record(rt, last)
 }
 
 // The first k bytes of the output.
-fn print_text(out: &[u8], k: usize) {
+fn print_text(rt: &impl Print, out: &[u8], k: usize) -> io::Result<()> {
     if k <= out.len() {
-        print(&out[..k]);
+        return print(rt, &out[..k]);
     }
+    Ok(())
 }
 
 // The answer of a call that writes text, and behind it the text.
-fn print_written(answer: Answer, out: &[u8]) {
-    print_answer(answer);
-    end_line();
+fn print_written(rt: &impl Print, answer: Answer, out: &[u8]) -> io::Result<()> {
+    print_answer(rt, answer)?;
+    end_line(rt)?;
     match answer {
-        Answer::Written(k) => print_text(out, k),
-        Answer::Explained(_, _, k) => print_text(out, k),
-        _ => {}
+        Answer::Written(k) => print_text(rt, out, k),
+        Answer::Explained(_, _, k) => print_text(rt, out, k),
+        _ => Ok(()),
     }
 }
 
@@ -189,32 +186,34 @@ fn filled() -> [StampRecord; 2049] {
 
 // Stamp, whose records are printed.
 fn stamp_reported(
+    rt: &impl Print,
     order: &[i32],
     lent: usize,
     clauses: &[u32],
     literals: &[i32],
     variables: &[i32],
     st: State,
-) -> Recorded
+) -> io::Result<Recorded>
     requires { lent ≤ 2049 }
 {
     let stamped = stamp_lent(clauses, literals, variables, filled(), lent, st, order);
     let outcome = stamped.outcome;
-    report(outcome);
+    report(rt, outcome)?;
     let records = stamped.records;
-    print_records(records);
-    stamped
+    print_records(rt, records)?;
+    Ok(stamped)
 }
 
 // The newcomer 1 3 to an empty window.
 fn learn_reported(
+    rt: &impl Print,
     lent: usize,
     clauses: &[u32],
     literals: &[i32],
     variables: &[i32],
     records: [StampRecord; 2049],
     st: State,
-)
+) -> io::Result<()>
     requires { lent ≤ 2049 }
 {
     let mut sizes: [u32; 64] = [0; 64];
@@ -233,42 +232,45 @@ fn learn_reported(
         Window::empty(),
     );
     let outcome = made.outcome;
-    report(outcome);
+    report(rt, outcome)?;
+    Ok(())
 }
 
 // What a Sweep would do to clause 3.
 fn explain_reported(
+    rt: &impl Print,
     lent: usize,
     clauses: &[u32],
     literals: &[i32],
     variables: &[i32],
     records: [StampRecord; 2049],
     st: State,
-)
+) -> io::Result<()>
     requires { lent ≤ 2049 }
 {
     let mut out = [b'.'; 64];
     let answer = explain_lent(clauses, literals, variables, records, lent, st, 3, &mut out);
-    print_written(answer, &out);
+    print_written(rt, answer, &out)
 }
 
 // Stamp, the newcomer, the explanation and the whole of Sweep.
 fn simplify(
+    rt: &impl Print,
     order: &[i32],
     lent: usize,
     clauses: &mut [u32],
     literals: &mut [i32],
     variables: &[i32],
     st: State,
-) -> State
+) -> io::Result<State>
     requires { lent ≤ 2049 }
 {
-    let stamped = stamp_reported(order, lent, clauses, literals, variables, st);
+    let stamped = stamp_reported(rt, order, lent, clauses, literals, variables, st)?;
     let records = stamped.records;
     let outcome = stamped.outcome;
-    learn_reported(lent, clauses, literals, variables, records, outcome.state);
-    explain_reported(lent, clauses, literals, variables, records, outcome.state);
-    report(sweep_lent(
+    learn_reported(rt, lent, clauses, literals, variables, records, outcome.state)?;
+    explain_reported(rt, lent, clauses, literals, variables, records, outcome.state)?;
+    let swept = sweep_lent(
         clauses,
         literals,
         variables,
@@ -276,11 +278,12 @@ fn simplify(
         lent,
         outcome.state,
         65535,
-    ))
+    );
+    report(rt, swept)
 }
 
 // P2 with so many records lent. Load and Write do not look at stamps that are spent: they get columns of 0.
-fn case(name: &[u8], lent: usize)
+fn case(rt: &impl Print, name: &[u8], lent: usize) -> io::Result<()>
     requires { lent ≤ 2049 }
 {
     let mut clauses: [u32; 12288] = [0; 12288];
@@ -291,10 +294,10 @@ fn case(name: &[u8], lent: usize)
     let mut out = [b'.'; 256];
     let text = b"p cnf 4 3\n-1 2 0\n-2 3 0\n1 3 4 0\n";
     let order: [i32; 8] = [1, -1, 2, -2, 3, -3, 4, -4];
-    print(name);
-    end_line();
+    print(rt, name)?;
+    end_line(rt)?;
     let empty = State::empty();
-    let loaded = report(load::load_tables(
+    let read = load::load_tables(
         text,
         &mut clauses,
         &mut literals,
@@ -302,22 +305,24 @@ fn case(name: &[u8], lent: usize)
         &times,
         &links,
         empty,
-    ));
+    );
+    let loaded = report(rt, read)?;
     let swept = simplify(
+        rt,
         &order,
         lent,
         &mut clauses,
         &mut literals,
         &variables,
         loaded,
-    );
+    )?;
     let written = write::write(
         &clauses, &literals, &variables, &times, &links, swept, &mut out,
     );
-    print_written(written, &out);
+    print_written(rt, written, &out)
 }
 
-fn main() {
-    case(b"2,049 records", 2049);
-    case(b"2,047 records", 2047);
+fn main(rt: HostRuntime) -> io::Result<()> {
+    case(&rt, b"2,049 records", 2049)?;
+    case(&rt, b"2,047 records", 2047)
 }

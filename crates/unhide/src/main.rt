@@ -1,25 +1,43 @@
 // Reads a formula as DIMACS text from standard input, simplifies it in one round, and prints what is left, or the refusal. A read or a write that fails is said on standard error.
 #![tactic(auto)]
 
-use libc::{STDERR_FILENO, STDIN_FILENO, STDOUT_FILENO};
+ghost use Rattle.std.specs.Prelude.{◌≤◌, length};
 
-// Whether the next read does not fail. `io::read_full` takes a read that fails for the end of the input; at the end a read gives no bytes, and one that failed fails again.
-fn readable() -> bool {
+use std::io::Read;
+
+// Reads until `text` is full, the input ends or a read fails; how many bytes lie at the start of `text` then.
+fn read_full<R: Read>(input: &mut R, text: &mut [u8]) -> usize
+    ensures { result ≤ length text.new }
+{
+    let mut n = 0;
+    while n < text.len() {
+        match input.read(&mut text[n..]) {
+            Ok(0) => return n,
+            Ok(k) => n += k,
+            Err(_) => return n,
+        }
+    }
+    n
+}
+
+// Whether the next read does not fail. `read_full` takes a read that fails for the end of the input; at the end a read gives no bytes, and one that failed fails again.
+fn readable<R: Read>(input: &mut R) -> bool {
     let mut next = [0u8; 1];
-    libc::read(STDIN_FILENO, &mut next) >= 0
+    input.read(&mut next).is_ok()
 }
 
 // At most 65,535 bytes are taken; one more is read, so that it is seen. What is printed is `printed::print_into`'s.
-fn main() {
-    let mut text = io::large_buffer();
-    let n = io::read_full(STDIN_FILENO, &mut text);
-    if !readable() {
-        io::write_all(STDERR_FILENO, b"unhide: cannot read the input\n");
+fn main(rt: HostRuntime) {
+    let mut input = rt.stdin();
+    let mut text = [0u8; 65536];
+    let n = read_full(&mut input, &mut text);
+    if !readable(&mut input) {
+        let _ = eprint!(rt; "unhide: cannot read the input\n");
         return;
     }
     let mut out = [0u8; 65536];
     let k = printed::print_into(&text[..n], &mut out);
-    if !io::write_all(STDOUT_FILENO, &out[..k]) {
-        io::write_all(STDERR_FILENO, b"unhide: cannot write the output\n");
+    if rt.write_all(&out[..k]).is_err() {
+        let _ = eprint!(rt; "unhide: cannot write the output\n");
     }
 }

@@ -14,54 +14,54 @@ use Rattle.clause_slots.proofs.slots_of.Reads as reads
 use Rattle.clause_slots.proofs.slots_of.Lts as lts
 use Rattle.literal.proofs.slot_of.Reads as slot-of-reads
 
-abbrev invariant-loop : tie.invariant-loop
+abbrev invariant-loop : tie.invariant-loop-i
 invariant-loop part out₀ i₀ out i = Mapping slot_of (pos 0) part out i
 
-abbrev decreases-loop : tie.decreases-loop
+abbrev decreases-loop : tie.decreases-loop-i
 decreases-loop part out₀ i₀ out i = length part - i
 
 -- the slot of the literal that was read
-slot : (c : tie.After-slot-of invariant-loop decreases-loop) → c.slot_of.result ≡ slot_of (get_or c.before.before.before.before.before.args.part.now c.before.before.before.loop.i (pos 0))
-slot c = rw (read c.before.before.before.before.before.args.part.now c.before.before.before.loop.i c.before.l.given) at c.slot_of.ensures
+slot : (c : tie.After-slot_of invariant-loop decreases-loop) → c.slot_of.result ≡ slot_of (get_or c.args.part.now c.loop-i.i (pos 0))
+slot c = rw (read c.args.part.now c.loop-i.i c.l-1.given) at c.slot_of.ensures
 
-loop-holds : tie.Need-loop-init invariant-loop decreases-loop
+loop-holds : tie.Need-loop-i-init invariant-loop decreases-loop
 loop-holds c = search rules
 
-mul-l : tie.Need-overflow-mul-l invariant-loop decreases-loop
+mul-l : tie.Need-offset_bounds-part-i invariant-loop decreases-loop
 mul-l c = search rules
 
-shared-slice-copy-out-l : tie.Need-shared-slice-copy-out-l invariant-loop decreases-loop
+shared-slice-copy-out-l : tie.Need-bounds-part-i invariant-loop decreases-loop
 shared-slice-copy-out-l c = search rules
 
-slot-of-requires : tie.Need-slot-of-requires invariant-loop decreases-loop
-slot-of-requires c κs = rw (read c.before.before.before.before.args.part.now c.before.before.loop.i c.l.given) (literal_has (c.before.before.before.before.requires.0.each c.before.before.loop.i c.before.loop-test.true))
+slot-of-requires : tie.Need-slot_of-requires invariant-loop decreases-loop
+slot-of-requires c κs = rw (read c.args.part.now c.loop-i.i c.l-1.given) (literal_has (c.requires.0.each c.loop-i.i c.loop-i-test.true))
 
-cast-out : tie.Need-overflow-cast-out invariant-loop decreases-loop
-cast-out c = let h = slot_bound (c.before.before.before.before.before.requires.0.each c.before.before.before.loop.i c.before.before.loop-test.true) in omega (arith, h, slot c)
+cast-out : tie.Need-overflow_cast-out invariant-loop decreases-loop
+cast-out c = let h = slot_bound (c.requires.0.each c.loop-i.i c.loop-i-test.true) in omega (arith, h, slot c)
 
-mul-out : tie.Need-overflow-mul-out invariant-loop decreases-loop
+mul-out : tie.Need-offset_bounds-out-i invariant-loop decreases-loop
 mul-out c = search rules
 
-slice-write-out : tie.Need-slice-write-out invariant-loop decreases-loop
+slice-write-out : tie.Need-bounds-out-i invariant-loop decreases-loop
 slice-write-out c = search rules
 
-add-i : tie.Need-overflow-add-i invariant-loop decreases-loop
+add-i : tie.Need-overflow_add-i invariant-loop decreases-loop
 add-i c = search rules
 
-loop-less : tie.Need-loop-smaller invariant-loop decreases-loop
+loop-less : tie.Need-loop-i-smaller invariant-loop decreases-loop
 loop-less c = search rules
 
-loop-again : tie.Need-loop-preserved invariant-loop decreases-loop
-loop-again c = mapping_more c.before.before.before.loop.invariant c.slot_of.result c.before.before.loop-test.true (slot c)
+loop-again : tie.Need-loop-i-preserved invariant-loop decreases-loop
+loop-again c = mapping_more c.loop-i.invariant c.slot_of.result c.loop-i-test.true (slot c)
 
-same_length : tie.Need-same-length invariant-loop decreases-loop
+same_length : tie.Need-shape_of-out invariant-loop decreases-loop
 same_length c = search rules
 
 returns : tie.Need-returns invariant-loop decreases-loop
-returns c = mapping_done c.before.loop.invariant c.loop-test.false
+returns c = mapping_done c.loop-i.invariant c.loop-i-test.false
 
-pub slots-of-spec : {M : Type 1} → statement M
-slots-of-spec =
+pub slots_of_spec : {M : Type 1} → statement M
+slots_of_spec =
     tie.close
     (tie.spec
     invariant-loop

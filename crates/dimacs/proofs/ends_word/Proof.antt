@@ -20,18 +20,22 @@ word-stops : (s : List ℕ) (i : ℕ) (t : Bool) → i < length s → t ≡ is_s
 word-stops s i true h e = rw (drop-cons s i 0 h, sym e, span)
 word-stops s i false h e = rw (drop-cons s i 0 h, sym e, span) (sym (ne_eqb (suc (span is_word_byte (drop (suc i) s))) 0 (λ z. omega arith)))
 
-returns : tie.Need-returns
-returns c = let a = c.before.before.args in rw (drop_of_length-le a.text.now c.if1.true)
+returns : tie.Need-returns-then-text-at
+returns c = let a = c.args in rw (drop_of_length-le a.text.now c.if-text-at.true)
 
-shared-slice-read-is-separator : tie.Need-shared-slice-read-is-separator
+shared-slice-read-is-separator : tie.Need-bounds-text-at
 shared-slice-read-is-separator c = search rules
 
-is-separator-requires : tie.Need-is-separator-requires
+is-separator-requires : tie.Need-is_separator-requires
 is-separator-requires c κs = search rules
 
-returns-2 : tie.Need-returns-2
-returns-2 c = let a = c.before.before.before.before.args in word-stops a.text.now a.at _ c.before.before.if1.false c.is-separator.ensures
+returns-2 : tie.Need-returns
+returns-2 c = let a = c.args in word-stops a.text.now a.at _ c.if-text-at.false c.is_separator.ensures
 
-pub ends-word-spec : {M : Type 1} → statement M
-ends-word-spec =
-    tie.close (tie.spec returns shared-slice-read-is-separator is-separator-requires returns-2)
+pub ends_word_spec : {M : Type 1} → statement M
+ends_word_spec =
+    tie.close (tie.spec
+    returns
+    shared-slice-read-is-separator
+    is-separator-requires
+    returns-2)

@@ -10,17 +10,21 @@ use Rattle.dimacs.proofs.literal_of.Tie as tie
 small : (s : tie.Start) → Small (pos s.args.magnitude)
 small s = record { small = omega (arith, s.requires) }
 
-cast-m : tie.Need-overflow-cast-m
+cast-m : tie.Need-overflow_cast-m
 cast-m c = search rules
 
-sub-result : tie.Need-overflow-sub-result
+sub-result : tie.Need-overflow_sub-result
 sub-result c = neg_fits (small c.before)
 
-returns : tie.Need-returns
-returns c = rw c.if1.true (neg_is (small c.before))
+returns : tie.Need-returns-then-negative
+returns c = rw c.if-negative.true (neg_is (small c.before))
 
-returns-2 : tie.Need-returns-2
-returns-2 c = rw c.if1.false (back (small c.before))
+returns-2 : tie.Need-returns-else-negative
+returns-2 c = rw c.if-negative.false (back (small c.before))
 
-pub literal-of-spec : {M : Type 1} → statement M
-literal-of-spec = tie.close (tie.spec cast-m sub-result returns returns-2)
+pub literal_of_spec : {M : Type 1} → statement M
+literal_of_spec = tie.close (tie.spec
+    cast-m
+    sub-result
+    returns
+    returns-2)

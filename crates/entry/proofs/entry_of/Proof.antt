@@ -15,17 +15,21 @@ use Rattle.shape.proofs.shape_ok.Reads as shape-ok-reads
 abbrev lent : tie.Start → Tables
 lent s = tables s.args.clauses.now s.args.literals.now s.args.variables.now s.args.times.now s.args.links.now
 
-shape-ok-requires : tie.Need-shape-ok-requires
+shape-ok-requires : tie.Need-shape_ok-requires
 shape-ok-requires c κs = search rules
 
-returns : tie.Need-returns
-returns c = let s = c.before.before.before.before in sym (entry_misshapen s.args.own (lent s) s.args.st (sym c.before.shape-ok.ensures ∙ not-true _ c.if1.true))
+returns : tie.Need-returns-then-not-shape_ok
+returns c = sym (entry_misshapen c.args.own (lent c.before.before.before.before) c.args.st (sym c.shape_ok.ensures ∙ c.if-not-shape_ok.true))
 
-entry-by-requires : tie.Need-entry-by-requires
+entry-by-requires : tie.Need-entry_by-requires
 entry-by-requires c κs = search rules
 
-returns-2 : tie.Need-returns-2
-returns-2 c = let s = c.before.before.before.before.before in c.entry-by.ensures ∙ sym (entry_shaped s.args.own (lent s) s.args.st (sym c.before.before.shape-ok.ensures ∙ not-false _ c.before.if1.false))
+returns-2 : tie.Need-returns
+returns-2 c = c.entry_by.ensures ∙ sym (entry_shaped c.args.own (lent c.before.before.before.before.before) c.args.st (sym c.shape_ok.ensures ∙ c.if-not-shape_ok.false))
 
-pub entry-of-spec : {M : Type 1} → statement M
-entry-of-spec = tie.close (tie.spec shape-ok-requires returns entry-by-requires returns-2)
+pub entry_of_spec : {M : Type 1} → statement M
+entry_of_spec = tie.close (tie.spec
+    shape-ok-requires
+    returns
+    entry-by-requires
+    returns-2)

@@ -15,17 +15,21 @@ use Rattle.shape.proofs.shape_ok.Reads as shape-ok-reads
 abbrev lent : tie.Start → Tables
 lent s = tables s.args.clauses.now s.args.literals.now s.args.variables.now s.args.times.now s.args.links.now
 
-shape-ok-requires : tie.Need-shape-ok-requires
+shape-ok-requires : tie.Need-shape_ok-requires
 shape-ok-requires c κs = search rules
 
-returns : tie.Need-returns
-returns c = let s = c.before.before.before.before in sym (opening_misshapen (lent s) s.args.st (sym c.before.shape-ok.ensures ∙ not-true _ c.if1.true))
+returns : tie.Need-returns-then-not-shape_ok
+returns c = sym (opening_misshapen (lent c.before.before.before.before) c.args.st (sym c.shape_ok.ensures ∙ c.if-not-shape_ok.true))
 
-opening-by-requires : tie.Need-opening-by-requires
+opening-by-requires : tie.Need-opening_by-requires
 opening-by-requires c κs = search rules
 
-returns-2 : tie.Need-returns-2
-returns-2 c = let s = c.before.before.before.before.before in c.opening-by.ensures ∙ sym (opening_shaped (lent s) s.args.st (sym c.before.before.shape-ok.ensures ∙ not-false _ c.before.if1.false))
+returns-2 : tie.Need-returns
+returns-2 c = c.opening_by.ensures ∙ sym (opening_shaped (lent c.before.before.before.before.before) c.args.st (sym c.shape_ok.ensures ∙ c.if-not-shape_ok.false))
 
-pub may-open-spec : {M : Type 1} → statement M
-may-open-spec = tie.close (tie.spec shape-ok-requires returns opening-by-requires returns-2)
+pub may_open_spec : {M : Type 1} → statement M
+may_open_spec = tie.close (tie.spec
+    shape-ok-requires
+    returns
+    opening-by-requires
+    returns-2)

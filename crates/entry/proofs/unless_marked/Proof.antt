@@ -5,11 +5,13 @@ use Rattle.entry.proofs.unless_marked.Tie as tie
 use Rattle.entry.proofs.unless_marked.Reads as reads
 use Rattle.entry.proofs.unless_marked.Lts as lts
 
-returns : tie.Need-returns
-returns c = rw c.if1.true
+returns : tie.Need-returns-then-mark
+returns c = rw c.if-mark.true
 
-returns-2 : tie.Need-returns-2
+returns-2 : tie.Need-returns
 returns-2 c = search rules
 
-pub unless-marked-spec : {M : Type 1} → statement M
-unless-marked-spec = tie.close (tie.spec returns returns-2)
+pub unless_marked_spec : {M : Type 1} → statement M
+unless_marked_spec = tie.close (tie.spec
+    returns
+    returns-2)

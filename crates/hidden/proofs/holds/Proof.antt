@@ -18,7 +18,10 @@ contains-requires : tie.Need-contains-requires
 contains-requires c κs = search rules
 
 returns : tie.Need-returns
-returns c = λ links. c.contains.ensures ∙ ap contains c.before.compare.ensures ∙ relation_holds (columns c.before.before.before.args.times.now links) c.before.before.before.args.a c.before.before.before.args.b
+returns c = λ links. c.contains.ensures ∙ ap contains c.compare.ensures ∙ relation_holds (columns c.args.times.now links) c.args.a c.args.b
 
-pub holds-spec : {M : Type 1} → statement M
-holds-spec = tie.close (tie.spec compare-requires contains-requires returns)
+pub holds_spec : {M : Type 1} → statement M
+holds_spec = tie.close (tie.spec
+    compare-requires
+    contains-requires
+    returns)

@@ -20,77 +20,77 @@ use Rattle.intervals.proofs.Interval.compare.Reads as compare-reads
 use Rattle.intervals.proofs.Relation.begins_first.Reads as begins-first-reads
 use Rattle.stamp_columns.proofs.interval.Reads as interval-reads
 
-abbrev invariant-loop : tie.invariant-loop
+abbrev invariant-loop : tie.invariant-loop-low
 invariant-loop slots times s t low₀ high₀ low high = Halving slots s low high
 
-abbrev decreases-loop : tie.decreases-loop
+abbrev decreases-loop : tie.decreases-loop-low
 decreases-loop slots times s t low₀ high₀ low high = high - low
 
 -- the middle lies between
-middle : (c : tie.In-loop invariant-loop decreases-loop) → (c.before.loop.low ≤ c.before.loop.low + (c.before.loop.high - c.before.loop.low) / 2) × (c.before.loop.low + (c.before.loop.high - c.before.loop.low) / 2 < c.before.loop.high)
-middle c = let h = c.loop-test.true in (omega arith, omega arith)
+middle : (c : tie.In-loop-low invariant-loop decreases-loop) → (c.loop-low.low ≤ c.loop-low.low + (c.loop-low.high - c.loop-low.low) / 2) × (c.loop-low.low + (c.loop-low.high - c.loop-low.low) / 2 < c.loop-low.high)
+middle c = let h = c.loop-low-test.true in (omega arith, omega arith)
 
 -- whether the slot in the middle is discovered before s, as the loop has asked it
-module _ (c : tie.After-begins-first invariant-loop decreases-loop) where
+module _ (c : tie.After-begins_first invariant-loop decreases-loop) where
   abbrev stamps : Stamps
-  stamps = columns c.before.before.before.before.before.before.before.before.before.before.args.times.now []
+  stamps = columns c.args.times.now []
 
   abbrev mid : ℕ
-  mid = c.before.before.before.before.before.before.loop.low + (c.before.before.before.before.before.before.loop.high - c.before.before.before.before.before.before.loop.low) / 2
+  mid = c.loop-low.low + (c.loop-low.high - c.loop-low.low) / 2
 
-  first : ltb (discovery_at stamps (get_or c.before.before.before.before.before.before.before.before.before.before.args.slots.now mid 0)) (discovery_at stamps c.before.before.before.before.before.before.before.before.before.before.args.s) ≡ c.begins-first.result
-  first = let m = middle c.before.before.before.before.before in halving_read c.before.before.before.before.before.before.loop.invariant c.before.before.before.before.before.before.before.before.before.before.requires.2 mid m.0 m.1 c.before.before.before.if1.false c.before.before.interval2.ensures c.before.before.before.before.before.before.before.interval.ensures c.before.compare.ensures c.begins-first.ensures
+  first : ltb (discovery_at stamps (get_or c.args.slots.now mid 0)) (discovery_at stamps c.args.s) ≡ c.begins_first.result
+  first = let m = middle c.before.before.before.before.before in halving_read c.loop-low.invariant c.requires.2 mid m.0 m.1 c.if-m-s.false c.interval.ensures c.interval-t.ensures c.compare.ensures c.begins_first.ensures
 
-interval-requires : tie.Need-interval-requires invariant-loop decreases-loop
+interval-requires : tie.Need-interval-t-requires invariant-loop decreases-loop
 interval-requires c κs = search rules
 
-loop-holds : tie.Need-loop-init invariant-loop decreases-loop
+loop-holds : tie.Need-loop-low-init invariant-loop decreases-loop
 loop-holds c = search rules
 
-sub-mid : tie.Need-overflow-sub-mid invariant-loop decreases-loop
+sub-mid : tie.Need-overflow_sub-mid invariant-loop decreases-loop
 sub-mid c = search rules
 
-add-mid : tie.Need-overflow-add-mid invariant-loop decreases-loop
+add-mid : tie.Need-overflow_add-mid invariant-loop decreases-loop
 add-mid c = search rules
 
-mul-m : tie.Need-overflow-mul-m invariant-loop decreases-loop
+mul-m : tie.Need-offset_bounds-slots-mid invariant-loop decreases-loop
 mul-m c = search rules
 
-shared-slice-read-m : tie.Need-shared-slice-read-m invariant-loop decreases-loop
+shared-slice-read-m : tie.Need-bounds-slots-mid invariant-loop decreases-loop
 shared-slice-read-m c = search rules
 
-returns : tie.Need-returns invariant-loop decreases-loop
-returns c = let m = middle c.before.before in sym (among_at c.before.before.before.before.before.before.before.args.s c.before.before.before.before.before.before.before.args.slots.now _ (omega (arith, m.1, c.before.before.before.loop.invariant.within)) c.if1.true)
+returns : tie.Need-returns-then-m-s invariant-loop decreases-loop
+returns c = let m = middle c.before.before in sym (among_at c.args.s c.args.slots.now _ (omega (arith, m.1, c.loop-low.invariant.within)) c.if-m-s.true)
 
-interval-requires-2 : tie.Need-interval-requires-2 invariant-loop decreases-loop
-interval-requires-2 c κs = let m = middle c.before.before in slot_at c.before.before.before.before.before.before.before.requires.0 _ (omega (arith, m.1, c.before.before.before.loop.invariant.within))
+interval-requires-2 : tie.Need-interval-requires invariant-loop decreases-loop
+interval-requires-2 c κs = let m = middle c.before.before in slot_at c.requires.0 _ (omega (arith, m.1, c.loop-low.invariant.within))
 
 compare-requires : tie.Need-compare-requires invariant-loop decreases-loop
 compare-requires c κs = search rules
 
-begins-first-requires : tie.Need-begins-first-requires invariant-loop decreases-loop
+begins-first-requires : tie.Need-begins_first-requires invariant-loop decreases-loop
 begins-first-requires c κs = search rules
 
-add_low : tie.Need-overflow-add-low invariant-loop decreases-loop
+add_low : tie.Need-overflow_add-low invariant-loop decreases-loop
 add_low c = search rules
 
-loop-less : tie.Need-loop-smaller invariant-loop decreases-loop
+loop-less : tie.Need-loop-low-smaller-then-begins_first invariant-loop decreases-loop
 loop-less c = search rules
 
-loop-again : tie.Need-loop-preserved invariant-loop decreases-loop
-loop-again c = let m = middle c.before.before.before.before.before.before in halving_up c.before.before.before.before.before.before.before.loop.invariant c.before.before.before.before.before.before.before.before.before.before.before.requires.2 _ m.0 m.1 c.before.before.before.before.if1.false (ltb-true _ _ (first c.before ∙ c.if2.true))
+loop-again : tie.Need-loop-low-preserved-then-begins_first invariant-loop decreases-loop
+loop-again c = let m = middle c.before.before.before.before.before.before in halving_up c.loop-low.invariant c.requires.2 _ m.0 m.1 c.if-m-s.false (ltb-true _ _ (first c.before ∙ c.if-begins_first.true))
 
-loop-less-2 : tie.Need-loop-smaller-2 invariant-loop decreases-loop
+loop-less-2 : tie.Need-loop-low-smaller invariant-loop decreases-loop
 loop-less-2 c = search rules
 
-loop-again-2 : tie.Need-loop-preserved-2 invariant-loop decreases-loop
-loop-again-2 c = let m = middle c.before.before.before.before.before.before in halving_down c.before.before.before.before.before.before.before.loop.invariant c.before.before.before.before.before.before.before.before.before.before.before.requires.2 _ m.0 m.1 c.before.before.before.before.if1.false (ltb-false _ _ (first c.before ∙ c.if2.false))
+loop-again-2 : tie.Need-loop-low-preserved invariant-loop decreases-loop
+loop-again-2 c = let m = middle c.before.before.before.before.before.before in halving_down c.loop-low.invariant c.requires.2 _ m.0 m.1 c.if-m-s.false (ltb-false _ _ (first c.before ∙ c.if-begins_first.false))
 
-returns-2 : tie.Need-returns-2 invariant-loop decreases-loop
-returns-2 c = sym (halving_done c.before.loop.invariant c.loop-test.false)
+returns-2 : tie.Need-returns invariant-loop decreases-loop
+returns-2 c = sym (halving_done c.loop-low.invariant c.loop-low-test.false)
 
-pub has-slot-spec : {M : Type 1} → statement M
-has-slot-spec =
+pub has_slot_spec : {M : Type 1} → statement M
+has_slot_spec =
     tie.close
     (tie.spec
     invariant-loop

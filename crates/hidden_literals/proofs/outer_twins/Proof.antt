@@ -15,25 +15,30 @@ use Rattle.clause_slots.proofs.twins_of.Reads as twins-of-reads
 use Rattle.discovery_order.proofs.sort_slots.Reads as sort-slots-reads
 
 -- the complements have times
-given : (c : tie.After-sort-slots-arg) → Slots c.before.before.before.before.before.before.before.before.args.times.now c.before.before.before.twins-of.new.1.0
-given c = subst (Slots c.before.before.before.before.before.before.before.before.args.times.now) (sym c.before.before.before.twins-of.ensures) (inside_twins c.before.before.before.before.before.before.before.before.requires.0)
+given : (c : tie.After-sort_slots-arg-1) → Slots c.args.times.now c.twins_of.new.out
+given c = subst (Slots c.args.times.now) (sym c.twins_of.ensures) (inside_twins c.requires.0)
 
-twins-of-requires : tie.Need-twins-of-requires
-twins-of-requires c κs = (inside_small c.before.before.before.before.requires.0, c.before.before.before.before.requires.1)
+twins-of-requires : tie.Need-twins_of-requires
+twins-of-requires c κs = (inside_small c.requires.0, c.requires.1)
 
-sort-slots-requires : tie.Need-sort-slots-requires
+sort-slots-requires : tie.Need-sort_slots-requires
 sort-slots-requires c κs = given c
 
-keep-outer-requires : tie.Need-keep-outer-requires
-keep-outer-requires c κs = subst (Slots c.before.before.before.before.before.before.before.before.before.before.before.before.args.times.now) (sym (c.before.before.before.sort-slots.ensures [])) (sorted_slots (given c.before.before.before.before) [])
+keep-outer-requires : tie.Need-keep_outer-requires
+keep-outer-requires c κs = subst (Slots c.args.times.now) (sym (c.sort_slots.ensures [])) (sorted_slots (given c.before.before.before.before) [])
 
-same_length : tie.Need-same-length
+same_length : tie.Need-shape_of-twins
 same_length c = search rules
 
 returns : tie.Need-returns
-returns c = twins_given c.before.before.before.before.before.before.before.before.before.before.before.before.before.before.before.args.times.now c.before.before.before.before.before.before.before.before.before.before.before.before.before.before.before.args.slots.now c.before.before.before.before.before.before.before.before.before.before.twins-of.new.1.0 c.before.before.before.before.before.before.sort-slots.new.0 c.before.before.before.before.before.before.before.before.before.before.twins-of.ensures c.before.before.before.before.before.before.sort-slots.ensures c.before.before.keep-outer.new.0 c.before.before.keep-outer.ensures
+returns c = twins_given c.args.times.now c.args.slots.now c.twins_of.new.out c.sort_slots.new.slots c.twins_of.ensures c.sort_slots.ensures c.keep_outer.new.slots c.keep_outer.ensures
 
-pub outer-twins-spec : {M : Type 1} → statement M
-outer-twins-spec =
+pub outer_twins_spec : {M : Type 1} → statement M
+outer_twins_spec =
     tie.close
-    (tie.spec twins-of-requires sort-slots-requires keep-outer-requires same_length returns)
+    (tie.spec
+    twins-of-requires
+    sort-slots-requires
+    keep-outer-requires
+    same_length
+    returns)

@@ -17,32 +17,32 @@ use Rattle.discovery_order.proofs.sort_slots.Reads as sort-slots-reads
 use Rattle.hidden_tautologies.proofs.scan.Reads as scan-reads
 
 -- the complements as they are sorted
-twins-sorted : (c : tie.After-sort-slots2) (links : List ℤ) → c.sort-slots2.new.0 ≡ by_discovery (columns c.before.before.before.before.before.before.before.before.before.before.before.before.before.before.args.times.now links) (map twin c.before.before.before.before.before.before.before.before.before.before.before.before.before.before.args.slots.now)
-twins-sorted c links = c.sort-slots2.ensures links ∙ ap (by_discovery (columns c.before.before.before.before.before.before.before.before.before.before.before.before.before.before.args.times.now links)) c.before.before.before.before.before.before.before.before.twins-of.ensures
+twins-sorted : (c : tie.After-sort_slots-2) (links : List ℤ) → c.sort_slots-2.new.slots ≡ by_discovery (columns c.args.times.now links) (map twin c.args.slots.now)
+twins-sorted c links = c.sort_slots-2.ensures links ∙ ap (by_discovery (columns c.args.times.now links)) c.twins_of.ensures
 
-twins-of-requires : tie.Need-twins-of-requires
-twins-of-requires c κs = (slots_small (scanned_one c.before.before.before.before.before.requires.0), c.before.before.before.before.before.requires.1)
+twins-of-requires : tie.Need-twins_of-requires
+twins-of-requires c κs = (slots_small (scanned_one c.requires.0), c.requires.1)
 
-sort-slots-requires : tie.Need-sort-slots-requires
-sort-slots-requires c κs = scanned_one c.before.before.before.before.before.before.before.before.before.requires.0
+sort-slots-requires : tie.Need-sort_slots-requires
+sort-slots-requires c κs = scanned_one c.requires.0
 
-sort-slots-requires-2 : tie.Need-sort-slots-requires-2
-sort-slots-requires-2 c κs = subst (Slots c.before.before.before.before.before.before.before.before.before.before.before.before.before.args.times.now) (sym c.before.before.before.before.before.before.before.twins-of.ensures) (scanned_other c.before.before.before.before.before.before.before.before.before.before.before.before.before.requires.0)
+sort-slots-requires-2 : tie.Need-sort_slots-requires-2
+sort-slots-requires-2 c κs = subst (Slots c.args.times.now) (sym c.twins_of.ensures) (scanned_other c.requires.0)
 
 scan-requires : tie.Need-scan-requires
-scan-requires c κs = figure6_scanned c.before.before.before.before.before.before.before.before.before.before.before.before.before.before.before.before.before.before.args.times.now c.before.before.before.before.before.before.before.before.before.before.before.before.before.before.before.before.before.before.args.slots.now _ _ c.before.before.before.before.before.before.before.before.sort-slots.ensures (twins-sorted c.before.before.before.before) c.before.before.before.before.before.before.before.before.before.before.before.before.before.before.before.before.before.before.requires.0
+scan-requires c κs = figure6_scanned c.args.times.now c.args.slots.now _ _ c.sort_slots.ensures (twins-sorted c.before.before) c.requires.0
 
-same_length : tie.Need-same-length
+same_length : tie.Need-shape_of-slots
 same_length c = search rules
 
-same-length-2 : tie.Need-same-length-2
+same-length-2 : tie.Need-shape_of-twins
 same-length-2 c = search rules
 
 returns : tie.Need-returns
-returns c = figure6_is c.before.before.before.before.before.before.before.before.before.before.before.before.before.before.before.before.before.before.before.args.times.now c.before.before.before.before.before.before.before.before.before.before.before.before.before.before.before.before.before.before.before.args.slots.now _ _ c.before.before.before.before.before.before.before.before.before.sort-slots.ensures (twins-sorted c.before.before.before.before.before) c.scan.result c.scan.ensures
+returns c = figure6_is c.args.times.now c.args.slots.now _ _ c.sort_slots.ensures (twins-sorted c.before.before.before) c.scan.result c.scan.ensures
 
-pub figure-6-spec : {M : Type 1} → statement M
-figure-6-spec =
+pub figure_6_spec : {M : Type 1} → statement M
+figure_6_spec =
     tie.close
     (tie.spec
     twins-of-requires

@@ -12,41 +12,41 @@ use Rattle.discovery_order.proofs.sort_pair.Reads as sort-pair-reads
 use Rattle.hidden_tautologies.proofs.figure_6.Reads as figure-6-reads
 use Rattle.hidden_tautologies.proofs.hidden_pair.Reads as hidden-pair-reads
 
-slots-of-requires : tie.Need-slots-of-requires
-slots-of-requires c κs = (judged_lits c.before.before.before.before.requires.0, c.before.before.before.before.requires.2)
+slots-of-requires : tie.Need-slots_of-requires
+slots-of-requires c κs = (judged_lits c.requires.0, c.requires.2)
 
-figure-6-requires : tie.Need-figure-6-requires
-figure-6-requires c κs = let s = c.before.before.before.before.before.slots-of in (judged_scanned c.before.before.before.before.before.before.before.before.before.before.requires.0 s.new.1.0 s.ensures, c.before.before.before.before.before.before.before.before.before.before.requires.3 ∙ sym c.before.before.before.before.before.before.before.before.before.before.requires.2 ∙ sym s.auto.1.0)
+figure-6-requires : tie.Need-figure_6-requires
+figure-6-requires c κs = let s = c.slots_of in (judged_scanned c.requires.0 s.new.out s.ensures, c.requires.3 ∙ sym c.requires.2 ∙ sym s.auto.out)
 
-same_length : tie.Need-same-length
+same_length : tie.Need-shape_of-slots-then-part-ne2
 same_length c = search rules
 
-same-length-2 : tie.Need-same-length-2
+same-length-2 : tie.Need-shape_of-twins-then-part-ne2
 same-length-2 c = search rules
 
-returns : tie.Need-returns
-returns c = let a = c.before.before.before.before.before.before.before.before.before.before.before.before.before.before.before.args in verdict_long a.times.now a.links.now a.part.now c.before.before.before.before.before.before.before.before.before.before.slots-of.new.1.0 c.before.before.before.before.before.before.before.before.before.before.slots-of.ensures c.before.before.before.before.figure-6.result c.before.before.before.before.figure-6.new.1.0 c.before.before.before.before.before.before.before.before.before.before.before.before.before.before.before.requires.1 c.before.before.before.before.before.before.before.if1.true c.before.before.before.before.figure-6.ensures
+returns : tie.Need-returns-then-part-ne2
+returns c = let a = c.args in verdict_long a.times.now a.links.now a.part.now c.slots_of.new.out c.slots_of.ensures c.figure_6.result c.figure_6.new.slots c.requires.1 c.if-part-ne2.true c.figure_6.ensures
 
-slice-read-hidden-pair : tie.Need-slice-read-hidden-pair
+slice-read-hidden-pair : tie.Need-bounds-slots-0
 slice-read-hidden-pair c = search rules
 
-slice-read-hidden-pair-2 : tie.Need-slice-read-hidden-pair-2
+slice-read-hidden-pair-2 : tie.Need-bounds-slots-1
 slice-read-hidden-pair-2 c = search rules
 
-hidden-pair-requires : tie.Need-hidden-pair-requires
-hidden-pair-requires c κs = judged_two c.before.before.before.before.before.before.before.before.before.before.requires.0 c.before.before.before.before.before.slots-of.new.1.0 c.before.before.before.before.before.slots-of.ensures c.before.before.if1.false
+hidden-pair-requires : tie.Need-hidden_pair-verdict-requires
+hidden-pair-requires c κs = judged_two c.requires.0 c.slots_of.new.out c.slots_of.ensures c.if-part-ne2.false
 
-sort-pair-requires : tie.Need-sort-pair-requires
-sort-pair-requires c κs = let s = c.before.before.before.before.before.before.before.slots-of in (judged_slots c.before.before.before.before.before.before.before.before.before.before.before.before.requires.0 s.new.1.0 s.ensures, s.auto.1.0 ∙ c.before.before.before.before.before.before.before.before.before.before.before.before.requires.2 ∙ c.before.before.before.before.if1.false)
+sort-pair-requires : tie.Need-sort_pair-requires
+sort-pair-requires c κs = let s = c.slots_of in (judged_slots c.requires.0 s.new.out s.ensures, s.auto.out ∙ c.requires.2 ∙ c.if-part-ne2.false)
 
-same-length-3 : tie.Need-same-length-3
+same-length-3 : tie.Need-shape_of-slots
 same-length-3 c = search rules
 
-returns-2 : tie.Need-returns-2
-returns-2 c = let a = c.before.before.before.before.before.before.before.before.before.before.before.before.before.before.before.args in verdict_pair a.times.now a.links.now a.part.now c.before.before.before.before.before.before.before.before.before.before.slots-of.new.1.0 c.before.before.before.before.before.before.before.before.before.before.slots-of.ensures c.before.before.before.before.hidden-pair.result c.before.before.sort-pair.new.0 c.before.before.before.before.before.before.before.if1.false c.before.before.before.before.hidden-pair.ensures (c.before.before.sort-pair.ensures [])
+returns-2 : tie.Need-returns
+returns-2 c = let a = c.args in verdict_pair a.times.now a.links.now a.part.now c.slots_of.new.out c.slots_of.ensures c.hidden_pair-verdict.result c.sort_pair.new.slots c.if-part-ne2.false c.hidden_pair-verdict.ensures (c.sort_pair.ensures [])
 
-pub hidden-tautology-spec : {M : Type 1} → statement M
-hidden-tautology-spec =
+pub hidden_tautology_spec : {M : Type 1} → statement M
+hidden_tautology_spec =
     tie.close
     (tie.spec
     slots-of-requires

@@ -22,88 +22,88 @@ use Rattle.intervals.proofs.Relation.contains.Reads as contains-reads
 use Rattle.intervals.proofs.Relation.begins_first.Reads as begins-first-reads
 use Rattle.stamp_columns.proofs.compare.Reads as compare-reads
 
-abbrev invariant-loop : tie.invariant-loop
+abbrev invariant-loop : tie.invariant-loop-i
 invariant-loop times pos neg i₀ j₀ i j = (links : List ℤ) → Scanning (columns times links) pos neg i j
 
-abbrev decreases-loop : tie.decreases-loop
+abbrev decreases-loop : tie.decreases-loop-i
 decreases-loop times pos neg i₀ j₀ i j = (length pos - i) + (length neg - j)
 
 -- where the answer has been asked: the complement and the literal that are compared, and what was answered of them
 module _ (c : tie.After-contains invariant-loop decreases-loop) (links : List ℤ) where
   abbrev stamps : Stamps
-  stamps = columns c.before.before.before.before.before.before.before.before.before.before.args.times.now links
+  stamps = columns c.args.times.now links
 
   abbrev complement : ℕ
-  complement = get_or c.before.before.before.before.before.before.before.before.before.before.args.neg.now c.before.before.before.before.before.before.loop.j 0
+  complement = get_or c.args.neg.now c.loop-i.j 0
 
   abbrev literal : ℕ
-  literal = get_or c.before.before.before.before.before.before.before.before.before.before.args.pos.now c.before.before.before.before.before.before.loop.i 0
+  literal = get_or c.args.pos.now c.loop-i.i 0
 
   held : holds stamps complement literal ≡ c.contains.result
-  held = read_holds stamps complement literal c.before.compare.ensures c.contains.ensures
+  held = read_holds stamps complement literal c.compare-lies.ensures c.contains.ensures
 
-module _ (c : tie.After-begins-first invariant-loop decreases-loop) (links : List ℤ) where
+module _ (c : tie.After-begins_first invariant-loop decreases-loop) (links : List ℤ) where
   abbrev asked : tie.After-contains invariant-loop decreases-loop
   asked = c.before.before
 
-  first : ltb (discovery_at (stamps asked links) (complement asked links)) (discovery_at (stamps asked links) (literal asked links)) ≡ c.begins-first.result
+  first : ltb (discovery_at (stamps asked links) (complement asked links)) (discovery_at (stamps asked links) (literal asked links)) ≡ c.begins_first.result
   first =
-      let P = asked.before.before.before.before.before.before.before.before.before.before.pre in
-      read_begins_first P.size (stamps asked links) (scanned_nested P links) (complement asked links) (literal asked links) (P.other _ (get_d_mem _ _ 0 asked.before.before.before.before.if2.left)) (P.one _ (get_d_mem _ _ 0 asked.before.before.before.before.before.if1.left)) asked.before.compare.ensures c.begins-first.ensures
+      let P = c.requires in
+      read_begins_first P.size (stamps asked links) (scanned_nested P links) (complement asked links) (literal asked links) (P.other _ (get_d_mem _ _ 0 c.if-j-neg.false)) (P.one _ (get_d_mem _ _ 0 c.if-i-pos.false)) c.compare-lies.ensures c.begins_first.ensures
 
-loop-holds : tie.Need-loop-init invariant-loop decreases-loop
+loop-holds : tie.Need-loop-i-init invariant-loop decreases-loop
 loop-holds c = λ links. scanning_none
 
-mul-p : tie.Need-overflow-mul-p invariant-loop decreases-loop
+mul-p : tie.Need-offset_bounds-pos-i invariant-loop decreases-loop
 mul-p c = search rules
 
-shared-slice-read-p : tie.Need-shared-slice-read-p invariant-loop decreases-loop
+shared-slice-read-p : tie.Need-bounds-pos-i invariant-loop decreases-loop
 shared-slice-read-p c = search rules
 
-mul-q : tie.Need-overflow-mul-q invariant-loop decreases-loop
+mul-q : tie.Need-offset_bounds-neg-j invariant-loop decreases-loop
 mul-q c = search rules
 
-shared-slice-read-q : tie.Need-shared-slice-read-q invariant-loop decreases-loop
+shared-slice-read-q : tie.Need-bounds-neg-j invariant-loop decreases-loop
 shared-slice-read-q c = search rules
 
-compare-requires : tie.Need-compare-requires invariant-loop decreases-loop
-compare-requires c κs = (slot_at (scanned_other c.before.before.before.before.before.before.before.before.requires) c.before.before.before.before.loop.j c.before.before.if2.false, slot_at (scanned_one c.before.before.before.before.before.before.before.before.requires) c.before.before.before.before.loop.i c.before.before.before.if1.false)
+compare-requires : tie.Need-compare-lies-requires invariant-loop decreases-loop
+compare-requires c κs = (slot_at (scanned_other c.requires) c.loop-i.j c.if-j-neg.false, slot_at (scanned_one c.requires) c.loop-i.i c.if-i-pos.false)
 
 contains-requires : tie.Need-contains-requires invariant-loop decreases-loop
 contains-requires c κs = search rules
 
-begins-first-requires : tie.Need-begins-first-requires invariant-loop decreases-loop
+begins-first-requires : tie.Need-begins_first-requires invariant-loop decreases-loop
 begins-first-requires c κs = search rules
 
-add-j : tie.Need-overflow-add-j invariant-loop decreases-loop
+add-j : tie.Need-overflow_add-j invariant-loop decreases-loop
 add-j c = search rules
 
-loop-less : tie.Need-loop-smaller invariant-loop decreases-loop
+loop-less : tie.Need-loop-i-smaller-then-begins_first invariant-loop decreases-loop
 loop-less c = search rules
 
-loop-again : tie.Need-loop-preserved invariant-loop decreases-loop
-loop-again c = λ links. scanning_next_neg (c.before.before.before.before.before.before.before.before.before.loop.invariant links) c.before.before.before.before.before.before.before.before.if1.false c.before.before.before.before.before.before.before.if2.false (held c.before.before.before links ∙ c.before.before.if3.false) (first c.before links ∙ c.if4.true)
+loop-again : tie.Need-loop-i-preserved-then-begins_first invariant-loop decreases-loop
+loop-again c = λ links. scanning_next_neg (c.loop-i.invariant links) c.if-i-pos.false c.if-j-neg.false (held c.before.before.before links ∙ c.if-contains.false) (first c.before links ∙ c.if-begins_first.true)
 
-add-i : tie.Need-overflow-add-i invariant-loop decreases-loop
+add-i : tie.Need-overflow_add-i invariant-loop decreases-loop
 add-i c = search rules
 
-loop-less-2 : tie.Need-loop-smaller-2 invariant-loop decreases-loop
+loop-less-2 : tie.Need-loop-i-smaller invariant-loop decreases-loop
 loop-less-2 c = search rules
 
-loop-again-2 : tie.Need-loop-preserved-2 invariant-loop decreases-loop
-loop-again-2 c = λ links. let P = c.before.before.before.before.before.before.before.before.before.before.before.before.before.requires in scanning_next_pos (c.before.before.before.before.before.before.before.before.before.loop.invariant links) c.before.before.before.before.before.before.before.before.if1.false c.before.before.before.before.before.before.before.if2.false (held c.before.before.before links ∙ c.before.before.if3.false) P.size (scanned_nested P links) P.one P.other (first c.before links ∙ c.if4.false)
+loop-again-2 : tie.Need-loop-i-preserved invariant-loop decreases-loop
+loop-again-2 c = λ links. let P = c.requires in scanning_next_pos (c.loop-i.invariant links) c.if-i-pos.false c.if-j-neg.false (held c.before.before.before links ∙ c.if-contains.false) P.size (scanned_nested P links) P.one P.other (first c.before links ∙ c.if-begins_first.false)
 
-returns : tie.Need-returns invariant-loop decreases-loop
-returns c = λ links. sym (scanning_empty (c.before.loop.invariant links) c.if1.true)
+returns : tie.Need-returns-then-i-pos invariant-loop decreases-loop
+returns c = λ links. sym (scanning_empty (c.loop-i.invariant links) c.if-i-pos.true)
 
-returns-2 : tie.Need-returns-2 invariant-loop decreases-loop
-returns-2 c = λ links. sym (scanning_end (c.before.before.loop.invariant links) c.if2.true)
+returns-2 : tie.Need-returns-then-j-neg invariant-loop decreases-loop
+returns-2 c = λ links. sym (scanning_end (c.loop-i.invariant links) c.if-j-neg.true)
 
-returns-3 : tie.Need-returns-3 invariant-loop decreases-loop
-returns-3 c = λ links. sym (scanning_yes (c.before.before.before.before.before.before.before.loop.invariant links) c.before.before.before.before.before.before.if1.false c.before.before.before.before.before.if2.false (held c.before links ∙ c.if3.true))
+returns-3 : tie.Need-returns-then-contains invariant-loop decreases-loop
+returns-3 c = λ links. sym (scanning_yes (c.loop-i.invariant links) c.if-i-pos.false c.if-j-neg.false (held c.before links ∙ c.if-contains.true))
 
-pub scan-spec : {M : Type 1} → statement M
-scan-spec =
+pub scan_spec : {M : Type 1} → statement M
+scan_spec =
     tie.close
     (tie.spec
     invariant-loop

@@ -10,16 +10,20 @@ use Rattle.hidden.proofs.holds.Reads as holds-reads
 use Rattle.stamp_columns.proofs.parent.Reads as parent-reads
 
 holds-requires : tie.Need-holds-requires
-holds-requires c κs = two_timed c.before.requires
+holds-requires c κs = two_timed c.requires
 
-returns : tie.Need-returns
-returns c = let a = c.before.before.before.args in not_held (columns a.times.now a.links.now) a.p a.q (c.before.holds.ensures a.links.now) (not-true _ c.if1.true)
+returns : tie.Need-returns-then-not-holds
+returns c = let a = c.args in not_held (columns a.times.now a.links.now) a.p a.q (c.holds.ensures a.links.now) c.if-not-holds.true
 
 parent-requires : tie.Need-parent-requires
-parent-requires c κs = two_child c.before.before.before.requires
+parent-requires c κs = two_child c.requires
 
-returns-2 : tie.Need-returns-2
-returns-2 c = let a = c.before.before.before.before.args in held (columns a.times.now a.links.now) a.p a.q (c.before.before.holds.ensures a.links.now) (not-false _ c.before.if1.false) c.parent.ensures
+returns-2 : tie.Need-returns
+returns-2 c = let a = c.args in held (columns a.times.now a.links.now) a.p a.q (c.holds.ensures a.links.now) c.if-not-holds.false c.parent.ensures
 
-pub transitive-spec : {M : Type 1} → statement M
-transitive-spec = tie.close (tie.spec holds-requires returns parent-requires returns-2)
+pub transitive_spec : {M : Type 1} → statement M
+transitive_spec = tie.close (tie.spec
+    holds-requires
+    returns
+    parent-requires
+    returns-2)

@@ -8,17 +8,21 @@ use borrow.Author.Rules.{rules}
 use Rattle.join.proofs.bad_side.Statement.{statement}
 use Rattle.join.proofs.bad_side.Tie as tie
 
-returns : tie.Need-returns
-returns c = let a = c.before.args in sym (ap (λ (b : Bool). (b || ltb a.v a.x) || get_or a.used.now a.x false) (eq-eqb a.x 0 c.if1.true))
+returns : tie.Need-returns-then-x-eq0
+returns c = let a = c.args in sym (ap (λ (b : Bool). (b || ltb a.v a.x) || get_or a.used.now a.x false) (eq-eqb a.x 0 c.if-x-eq0.true))
 
-returns-2 : tie.Need-returns-2
-returns-2 c = let a = c.before.before.args in sym ((λ i. (ne_eqb a.x 0 c.before.if1.false i || lt-ltb a.v a.x c.if2.true i) || get_or a.used.now a.x false))
+returns-2 : tie.Need-returns-then-v-x
+returns-2 c = let a = c.args in sym ((λ i. (ne_eqb a.x 0 c.if-x-eq0.false i || lt-ltb a.v a.x c.if-v-x.true i) || get_or a.used.now a.x false))
 
-shared-slice-read-result : tie.Need-shared-slice-read-result
+shared-slice-read-result : tie.Need-bounds-used-x
 shared-slice-read-result c = search rules
 
-returns-3 : tie.Need-returns-3
-returns-3 c = let a = c.before.before.before.args in sym ((λ i. (ne_eqb a.x 0 c.before.before.if1.false i || le-ltb a.v a.x c.before.if2.false i) || get_or a.used.now a.x false))
+returns-3 : tie.Need-returns
+returns-3 c = let a = c.args in sym ((λ i. (ne_eqb a.x 0 c.if-x-eq0.false i || le-ltb a.v a.x c.if-v-x.false i) || get_or a.used.now a.x false))
 
-pub bad-side-spec : {M : Type 1} → statement M
-bad-side-spec = tie.close (tie.spec returns returns-2 shared-slice-read-result returns-3)
+pub bad_side_spec : {M : Type 1} → statement M
+bad_side_spec = tie.close (tie.spec
+    returns
+    returns-2
+    shared-slice-read-result
+    returns-3)

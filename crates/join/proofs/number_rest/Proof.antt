@@ -10,76 +10,72 @@ use Rattle.join.proofs.number_rest.Tie as tie
 use Rattle.join.proofs.number_rest.Reads as reads
 use Rattle.join.proofs.number_rest.Lts as lts
 
-abbrev invariant-loop : tie.invariant-loop
+abbrev invariant-loop : tie.invariant-loop-i
 invariant-loop numbering₀ v w count last₀ i₀ numbering last i = Loop v w numbering₀ numbering last i
 
-abbrev decreases-loop : tie.decreases-loop
+abbrev decreases-loop : tie.decreases-loop-i
 decreases-loop numbering₀ v w count last₀ i₀ numbering last i = w - i
 
 -- src/lib.rt:71:5
-loop-holds : tie.Need-loop-init invariant-loop decreases-loop
+loop-holds : tie.Need-loop-i-init invariant-loop decreases-loop
 loop-holds c = loop_none c.requires.0 c.requires.1.0 c.requires.1.1
 
 -- src/lib.rt:72:18
-add-if1 : tie.Need-overflow-add-if1 invariant-loop decreases-loop
+add-if1 : tie.Need-overflow_add-i invariant-loop decreases-loop
 add-if1 c = search rules
 
 -- src/lib.rt:72:12
-mul-if1 : tie.Need-overflow-mul-if1 invariant-loop decreases-loop
+mul-if1 : tie.Need-offset_bounds-numbering-i invariant-loop decreases-loop
 mul-if1 c = search rules
 
 -- src/lib.rt:72:12
-slice-read-if1 : tie.Need-slice-read-if1 invariant-loop decreases-loop
-slice-read-if1 c = omega (arith, c.before.loop-test.true, c.before.before.loop.invariant.room, c.before.before.loop.invariant.some)
+slice-read-if1 : tie.Need-bounds-numbering-i invariant-loop decreases-loop
+slice-read-if1 c = omega (arith, c.loop-i-test.true, c.loop-i.invariant.room, c.loop-i.invariant.some)
 
 -- src/lib.rt:73:13
-add-last : tie.Need-overflow-add-last invariant-loop decreases-loop
+add-last : tie.Need-overflow_add-last invariant-loop decreases-loop
 add-last c =
-    let at-loop = c.before.before.before in
-    let h = at-loop.loop.invariant.low in let k = c.before.before.loop-test.true in let a = at-loop.loop.invariant.few in let b = at-loop.loop.invariant.some in search rules
+    let h = c.loop-i.invariant.low in let k = c.loop-i-test.true in let a = c.loop-i.invariant.few in let b = c.loop-i.invariant.some in search rules
 
 -- src/lib.rt:74:19
-add-numbering : tie.Need-overflow-add-numbering invariant-loop decreases-loop
+add-numbering : tie.Need-overflow_add-numbering invariant-loop decreases-loop
 add-numbering c = search rules
 
 -- src/lib.rt:74:13
-mul-numbering : tie.Need-overflow-mul-numbering invariant-loop decreases-loop
+mul-numbering : tie.Need-offset_bounds-numbering-i-then-numbering-i-eq0 invariant-loop decreases-loop
 mul-numbering c = search rules
 
 -- src/lib.rt:74:13
-slice-write-numbering : tie.Need-slice-write-numbering invariant-loop decreases-loop
+slice-write-numbering : tie.Need-bounds-numbering-i-then-numbering-i-eq0 invariant-loop decreases-loop
 slice-write-numbering c =
-    let at-loop = c.before.before.before in
-    omega (arith, c.before.before.loop-test.true, at-loop.loop.invariant.room, at-loop.loop.invariant.some)
+    omega (arith, c.loop-i-test.true, c.loop-i.invariant.room, c.loop-i.invariant.some)
 
 -- src/lib.rt:76:9
-add-i : tie.Need-overflow-add-i invariant-loop decreases-loop
+add-i : tie.Need-overflow_add-i-in-loop-i invariant-loop decreases-loop
 add-i c = search rules
 
 -- src/lib.rt:71:5
-loop-less : tie.Need-loop-smaller invariant-loop decreases-loop
-loop-less c = omega (arith, c.before.before.loop-test.true)
+loop-less : tie.Need-loop-i-smaller invariant-loop decreases-loop
+loop-less c = omega (arith, c.loop-i-test.true)
 
 -- src/lib.rt:71:5
-loop-again : tie.Need-loop-preserved invariant-loop decreases-loop
+loop-again : tie.Need-loop-i-preserved invariant-loop decreases-loop
 loop-again c =
-    let at-loop = c.before.before.before in
-    let start = at-loop.before in
     ⊎_elim
-    (λ r. subst₂ (λ (ns : List ℕ) (k : ℕ). Loop start.args.v start.args.w start.args.numbering.now ns k (at-loop.loop.i + 1)) (sym r.1) (sym r.2) (loop_numbered at-loop.loop.invariant c.before.before.loop-test.true r.0.taken))
-    (λ r. subst₂ (λ (ns : List ℕ) (k : ℕ). Loop start.args.v start.args.w start.args.numbering.now ns k (at-loop.loop.i + 1)) (sym r.1) (sym r.2) (loop_linked at-loop.loop.invariant c.before.before.loop-test.true r.0.left))
-    c.if1.branch
+    (λ r. subst₂ (λ (ns : List ℕ) (k : ℕ). Loop c.args.v c.args.w c.args.numbering.now ns k (c.loop-i.i + 1)) (sym r.1) (sym r.2) (loop_numbered c.loop-i.invariant c.loop-i-test.true r.0.taken))
+    (λ r. subst₂ (λ (ns : List ℕ) (k : ℕ). Loop c.args.v c.args.w c.args.numbering.now ns k (c.loop-i.i + 1)) (sym r.1) (sym r.2) (loop_linked c.loop-i.invariant c.loop-i-test.true r.0.left))
+    c.if-numbering-i-eq0.branch
 
 -- src/lib.rt:64:1
-same_length : tie.Need-same-length invariant-loop decreases-loop
-same_length c = c.before.loop.invariant.room ∙ sym c.before.before.requires.1.1
+same_length : tie.Need-shape_of-numbering invariant-loop decreases-loop
+same_length c = c.loop-i.invariant.room ∙ sym c.requires.1.1
 
 -- src/lib.rt:64:1
 returns : tie.Need-returns invariant-loop decreases-loop
-returns c = loop_all c.before.loop.invariant c.loop-test.false
+returns c = loop_all c.loop-i.invariant c.loop-i-test.false
 
-pub number-rest-spec : {M : Type 1} → statement M
-number-rest-spec =
+pub number_rest_spec : {M : Type 1} → statement M
+number_rest_spec =
     tie.close
     (tie.spec
     invariant-loop

@@ -13,44 +13,44 @@ use Rattle.occurrences.proofs.pending_in_block.Lts as lts
 use Rattle.occurrences.proofs.pending_between.Reads as pending-between-reads
 
 -- no pending clause up to the block's end
-whole : (c : tie.After-pending-between) → 64 * (c.before.before.before.before.before.args.j / 64) + 64 ≤ c.pending-between.result → Skippable c.before.before.before.before.before.args.pending.now c.before.before.before.before.before.args.j (64 * (c.before.before.before.before.before.args.j / 64) + 64)
-whole c h = skippable_to (let e : c.pending-between.result ≡ 64 * (c.before.before.before.before.before.args.j / 64) + 64 = omega (arith, h, c.pending-between.ensures.1.0) in e) c.pending-between.ensures.1.1
+whole : (c : tie.After-pending_between-found) → 64 * (c.args.j / 64) + 64 ≤ c.pending_between-found.result → Skippable c.args.pending.now c.args.j (64 * (c.args.j / 64) + 64)
+whole c h = skippable_to (let e : c.pending_between-found.result ≡ 64 * (c.args.j / 64) + 64 = omega (arith, h, c.pending_between-found.ensures.1.0) in e) c.pending_between-found.ensures.1.1
 
-mul-end : tie.Need-overflow-mul-end
+mul-end : tie.Need-overflow_mul-end
 mul-end c = search rules
 
-add-end : tie.Need-overflow-add-end
+add-end : tie.Need-overflow_add-end
 add-end c = search rules
 
-slice-read-if1 : tie.Need-slice-read-if1
+slice-read-if1 : tie.Need-bounds-blocks-b
 slice-read-if1 c = search rules
 
-returns : tie.Need-returns
-returns c = ((omega arith, (omega arith, skippable_block c.before.before.before.before.requires.1 c.before.before.before.before.args.j (omega (arith, c.before.before.before.before.requires.0.0)) (not-true _ c.if1.true))), c.before.before.before.before.requires.1)
+returns : tie.Need-returns-then-not-blocks-b
+returns c = ((omega arith, (omega arith, skippable_block c.requires.1 c.args.j (omega (arith, c.requires.0.0)) c.if-not-blocks-b.true)), c.requires.1)
 
-pending-between-requires : tie.Need-pending-between-requires
+pending-between-requires : tie.Need-pending_between-found-requires
 pending-between-requires c κs = search rules
 
-returns-2 : tie.Need-returns-2
+returns-2 : tie.Need-returns-then-found-end
 returns-2 c = search rules
 
-mul-if3 : tie.Need-overflow-mul-if3
+mul-if3 : tie.Need-overflow_mul-b
 mul-if3 c = search rules
 
-slice-write-blocks : tie.Need-slice-write-blocks
+slice-write-blocks : tie.Need-bounds-blocks-b-then-j-b
 slice-write-blocks c = search rules
 
-same_length : tie.Need-same-length
+same_length : tie.Need-shape_of-blocks-then-j-b
 same_length c = search rules
 
-returns-3 : tie.Need-returns-3
-returns-3 c = ((omega arith, (omega arith, whole c.before.before c.before.if2.false)), covered_block c.before.before.before.before.before.before.before.requires.1 (c.before.before.before.before.before.before.before.args.j / 64) (from_start (whole c.before.before c.before.if2.false) c.if3.true))
+returns-3 : tie.Need-returns-then-j-b
+returns-3 c = ((omega arith, (omega arith, whole c.before.before c.if-found-end.false)), covered_block c.requires.1 (c.args.j / 64) (from_start (whole c.before.before c.if-found-end.false) c.if-j-b.true))
 
-returns-4 : tie.Need-returns-4
-returns-4 c = ((omega arith, (omega arith, whole c.before.before c.before.if2.false)), c.before.before.before.before.before.before.before.requires.1)
+returns-4 : tie.Need-returns
+returns-4 c = ((omega arith, (omega arith, whole c.before.before c.if-found-end.false)), c.requires.1)
 
-pub pending-in-block-spec : {M : Type 1} → statement M
-pending-in-block-spec =
+pub pending_in_block_spec : {M : Type 1} → statement M
+pending_in_block_spec =
     tie.close
     (tie.spec
     mul-end

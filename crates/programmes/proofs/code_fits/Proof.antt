@@ -16,20 +16,25 @@ other (suc (suc (suc zero))) settled stamped n₁ n₂ n₃ n₄ = absurd (n₃ 
 other (suc (suc (suc (suc zero)))) settled stamped n₁ n₂ n₃ n₄ = absurd (n₄ refl)
 other (suc (suc (suc (suc (suc _))))) settled stamped n₁ n₂ n₃ n₄ = refl
 
-returns : tie.Need-returns
+returns : tie.Need-returns-in-1
 returns c = search rules
 
-returns-2 : tie.Need-returns-2
+returns-2 : tie.Need-returns-in-2
 returns-2 c = search rules
 
-returns-3 : tie.Need-returns-3
+returns-3 : tie.Need-returns-in-3
 returns-3 c = search rules
 
-returns-4 : tie.Need-returns-4
+returns-4 : tie.Need-returns-in-4
 returns-4 c = search rules
 
-returns-5 : tie.Need-returns-5
-returns-5 c = let none = c.match.rest in other _ _ _ none.0.0.0.1 none.0.0.1 none.0.1 none.1
+returns-5 : tie.Need-returns-in_default
+returns-5 c = let none = c.in_default.in_default-own.rest in other _ _ _ none.0.0.0.1 none.0.0.1 none.0.1 none.1
 
-pub code-fits-spec : {M : Type 1} → statement M
-code-fits-spec = tie.close (tie.spec returns returns-2 returns-3 returns-4 returns-5)
+pub code_fits_spec : {M : Type 1} → statement M
+code_fits_spec = tie.close (tie.spec
+    returns
+    returns-2
+    returns-3
+    returns-4
+    returns-5)

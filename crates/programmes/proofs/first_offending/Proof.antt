@@ -8,44 +8,44 @@ use borrow.Author.Rules.{rules}
 use Rattle.programmes.proofs.first_offending.Statement.{statement}
 use Rattle.programmes.proofs.first_offending.Tie as tie
 
-abbrev invariant-loop : tie.invariant-loop
+abbrev invariant-loop : tie.invariant-loop-i
 invariant-loop codes settled₀ stamped₀ i₀ settled stamped i = Walking codes settled stamped i
 
-abbrev decreases-loop : tie.decreases-loop
+abbrev decreases-loop : tie.decreases-loop-i
 decreases-loop codes settled₀ stamped₀ i₀ settled stamped i = length codes - i
 
-loop-holds : tie.Need-loop-init invariant-loop decreases-loop
+loop-holds : tie.Need-loop-i-init invariant-loop decreases-loop
 loop-holds c = walking_none _
 
-mul-code : tie.Need-overflow-mul-code invariant-loop decreases-loop
+mul-code : tie.Need-offset_bounds-codes-at invariant-loop decreases-loop
 mul-code c = search rules
 
-shared-slice-read-code : tie.Need-shared-slice-read-code invariant-loop decreases-loop
+shared-slice-read-code : tie.Need-bounds-codes-at invariant-loop decreases-loop
 shared-slice-read-code c = search rules
 
-add-i : tie.Need-overflow-add-i invariant-loop decreases-loop
+add-i : tie.Need-overflow_add-i invariant-loop decreases-loop
 add-i c = search rules
 
-code-fits-requires : tie.Need-code-fits-requires invariant-loop decreases-loop
+code-fits-requires : tie.Need-code_fits-requires invariant-loop decreases-loop
 code-fits-requires c κs = search rules
 
-returns : tie.Need-returns invariant-loop decreases-loop
-returns c = walking_found c.before.before.before.before.loop.invariant c.before.before.before.loop-test.true (sym c.before.code-fits.ensures ∙ not-true _ c.if1.true)
+returns : tie.Need-returns-then-not-code_fits invariant-loop decreases-loop
+returns c = walking_found c.loop-i.invariant c.loop-i-test.true (sym c.code_fits.ensures ∙ c.if-not-code_fits.true)
 
-stamped-after-requires : tie.Need-stamped-after-requires invariant-loop decreases-loop
+stamped-after-requires : tie.Need-stamped_after-stamped-requires invariant-loop decreases-loop
 stamped-after-requires c κs = search rules
 
-loop-less : tie.Need-loop-smaller invariant-loop decreases-loop
+loop-less : tie.Need-loop-i-smaller invariant-loop decreases-loop
 loop-less c = search rules
 
-loop-again : tie.Need-loop-preserved invariant-loop decreases-loop
-loop-again c = walking_more c.before.before.before.before.before.loop.invariant c.before.before.before.before.loop-test.true (sym c.before.before.code-fits.ensures ∙ not-false _ c.before.if1.false) c.stamped-after.result c.stamped-after.ensures
+loop-again : tie.Need-loop-i-preserved invariant-loop decreases-loop
+loop-again c = walking_more c.loop-i.invariant c.loop-i-test.true (sym c.code_fits.ensures ∙ c.if-not-code_fits.false) c.stamped_after-stamped.result c.stamped_after-stamped.ensures
 
-returns-2 : tie.Need-returns-2 invariant-loop decreases-loop
-returns-2 c = walking_done c.before.loop.invariant c.loop-test.false
+returns-2 : tie.Need-returns invariant-loop decreases-loop
+returns-2 c = walking_done c.loop-i.invariant c.loop-i-test.false
 
-pub first-offending-spec : {M : Type 1} → statement M
-first-offending-spec =
+pub first_offending_spec : {M : Type 1} → statement M
+first_offending_spec =
     tie.close
     (tie.spec
     invariant-loop

@@ -4,20 +4,25 @@ use borrow.Author.Rules.{rules}
 use Rattle.programmes.proofs.judge.Statement.{statement}
 use Rattle.programmes.proofs.judge.Tie as tie
 
-returns : tie.Need-returns
-returns c = judge_none c.before.before.args.codes.now c.if1.true
+returns : tie.Need-returns-then-count-lt1
+returns c = judge_none c.args.codes.now c.if-count-lt1.true
 
-returns-2 : tie.Need-returns-2
-returns-2 c = judge_many c.before.before.before.args.codes.now c.if2.true
+returns-2 : tie.Need-returns-then-count-gt32
+returns-2 c = judge_many c.args.codes.now c.if-count-gt32.true
 
-first-offending-requires : tie.Need-first-offending-requires
+first-offending-requires : tie.Need-first_offending-at-requires
 first-offending-requires c κs = search rules
 
-returns-3 : tie.Need-returns-3
-returns-3 c = judge_found c.before.before.before.before.before.args.codes.now c.before.before.before.if1.false c.before.before.if2.false c.before.first-offending.result c.before.first-offending.ensures c.if3.true
+returns-3 : tie.Need-returns-then-at-count
+returns-3 c = judge_found c.args.codes.now c.if-count-lt1.false c.if-count-gt32.false c.first_offending-at.result c.first_offending-at.ensures c.if-at-count.true
 
-returns-4 : tie.Need-returns-4
-returns-4 c = judge_passes c.before.before.before.before.before.args.codes.now c.before.before.before.if1.false c.before.before.if2.false c.before.first-offending.result c.before.first-offending.ensures c.if3.false
+returns-4 : tie.Need-returns
+returns-4 c = judge_passes c.args.codes.now c.if-count-lt1.false c.if-count-gt32.false c.first_offending-at.result c.first_offending-at.ensures c.if-at-count.false
 
-pub judge-spec : {M : Type 1} → statement M
-judge-spec = tie.close (tie.spec returns returns-2 first-offending-requires returns-3 returns-4)
+pub judge_spec : {M : Type 1} → statement M
+judge_spec = tie.close (tie.spec
+    returns
+    returns-2
+    first-offending-requires
+    returns-3
+    returns-4)

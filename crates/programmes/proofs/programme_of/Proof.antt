@@ -27,23 +27,23 @@ unfolding programme_of
 made codes left few e =
     ap₂ (λ (a b : List ℕ). record { codes = a ++ b; length = length codes }) (e ∙ ap (λ (m : ℕ). take m codes) (front codes few) ∙ take-length codes) (zeros-left 32 (length codes) few)
 
-array-borrow-prefix-places : tie.Need-array-borrow-prefix-places
+array-borrow-prefix-places : tie.Need-slice_bounds-places-end
 array-borrow-prefix-places c = search rules
 
-slice-aggregate-copy-numbers : tie.Need-slice-aggregate-copy-numbers
-slice-aggregate-copy-numbers c = sym (front c.before.before.args.codes.now c.before.before.requires)
+slice-aggregate-copy-numbers : tie.Need-slice_bounds-copy_numbers-end
+slice-aggregate-copy-numbers c = sym (front c.args.codes.now c.requires)
 
-copy-numbers-requires : tie.Need-copy-numbers-requires
-copy-numbers-requires c κs = omega (arith, front c.before.before.args.codes.now c.before.before.requires)
+copy-numbers-requires : tie.Need-copy_numbers-requires
+copy-numbers-requires c κs = omega (arith, front c.args.codes.now c.requires)
 
-cast-t8 : tie.Need-overflow-cast-t8
+cast-t8 : tie.Need-overflow_cast-result
 cast-t8 c = search rules
 
 returns : tie.Need-returns
-returns c = made c.before.before.before.before.args.codes.now c.before.copy-numbers.new.1.0 c.before.before.before.before.requires c.before.copy-numbers.ensures
+returns c = made c.args.codes.now c.copy_numbers.new.to c.requires c.copy_numbers.ensures
 
-pub programme-of-spec : {M : Type 1} → statement M
-programme-of-spec =
+pub programme_of_spec : {M : Type 1} → statement M
+programme_of_spec =
     tie.close
     (tie.spec
     array-borrow-prefix-places

@@ -13,35 +13,35 @@ use Rattle.programmes.proofs.programme_ok.Tie as tie
 places : (s : tie.Start) → length s.args.programme.codes ≡ 32
 places s = search rules
 
-cast-count : tie.Need-overflow-cast-count
+cast-count : tie.Need-overflow_cast-count
 cast-count c = search rules
 
-returns : tie.Need-returns
-returns c = says_no (λ P. omega (arith, c.if1.true, P.within))
+returns : tie.Need-returns-then-count-gt32
+returns c = says_no (λ P. omega (arith, c.if-count-gt32.true, P.within))
 
-array-share-prefix-codes : tie.Need-array-share-prefix-codes
-array-share-prefix-codes c = omega (arith, places c.before.before.before, c.before.if1.false)
+array-share-prefix-codes : tie.Need-slice_bounds-codes-end
+array-share-prefix-codes c = omega (arith, places c.before.before.before, c.if-count-gt32.false)
 
-slice-aggregate-judge : tie.Need-slice-aggregate-judge
-slice-aggregate-judge c = sym (length-take-le c.before.before.before.before.args.programme.length c.before.before.before.before.args.programme.codes (omega (arith, places c.before.before.before.before, c.before.before.if1.false)))
+slice-aggregate-judge : tie.Need-slice_bounds-judge-end
+slice-aggregate-judge c = sym (length-take-le c.args.programme.length c.args.programme.codes (omega (arith, places c.before.before.before.before, c.if-count-gt32.false)))
 
-judge-requires : tie.Need-judge-requires
+judge-requires : tie.Need-judge-judgement-requires
 judge-requires c κs = search rules
 
-enum_told : tie.Need-enum-told
+enum_told : tie.Need-enum_told-1
 enum_told c = search rules
 
-enum-told-2 : tie.Need-enum-told-2
+enum-told-2 : tie.Need-enum_told-in-Offends
 enum-told-2 c = search rules
 
-returns-2 : tie.Need-returns-2
-returns-2 c = says_yes (record { within = c.before.before.before.before.before.if1.false; rules = (judge_exact _).0 (sym c.before.before.judge.ensures ∙ c.enum_told.given.1) })
+returns-2 : tie.Need-returns-in-Passes
+returns-2 c = says_yes (record { within = c.if-count-gt32.false; rules = (judge_exact _).0 (sym c.judge-judgement.ensures ∙ c.in-Passes.is) })
 
-returns-3 : tie.Need-returns-3
-returns-3 c = says_no (λ P. passes_differ (sym c.enum-told2.given.1 ∙ c.before.before.judge.ensures ∙ (judge_exact _).1 P.rules))
+returns-3 : tie.Need-returns-in-Offends
+returns-3 c = says_no (λ P. passes_differ (sym c.in-Offends.is ∙ c.judge-judgement.ensures ∙ (judge_exact _).1 P.rules))
 
-pub programme-ok-spec : {M : Type 1} → statement M
-programme-ok-spec =
+pub programme_ok_spec : {M : Type 1} → statement M
+programme_ok_spec =
     tie.close
     (tie.spec
     cast-count

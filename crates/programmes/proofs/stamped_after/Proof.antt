@@ -16,17 +16,21 @@ other (suc (suc (suc zero))) stamped n₁ n₂ n₄ = refl
 other (suc (suc (suc (suc zero)))) stamped n₁ n₂ n₄ = absurd (n₄ refl)
 other (suc (suc (suc (suc (suc _))))) stamped n₁ n₂ n₄ = refl
 
-returns : tie.Need-returns
+returns : tie.Need-returns-in-1
 returns c = search rules
 
-returns-2 : tie.Need-returns-2
+returns-2 : tie.Need-returns-in-2
 returns-2 c = search rules
 
-returns-3 : tie.Need-returns-3
+returns-3 : tie.Need-returns-in-4
 returns-3 c = search rules
 
-returns-4 : tie.Need-returns-4
-returns-4 c = let none = c.match.rest in other _ _ none.0.0.1 none.0.1 none.1
+returns-4 : tie.Need-returns-in_default
+returns-4 c = let none = c.in_default.in_default-own.rest in other _ _ none.0.0.1 none.0.1 none.1
 
-pub stamped-after-spec : {M : Type 1} → statement M
-stamped-after-spec = tie.close (tie.spec returns returns-2 returns-3 returns-4)
+pub stamped_after_spec : {M : Type 1} → statement M
+stamped_after_spec = tie.close (tie.spec
+    returns
+    returns-2
+    returns-3
+    returns-4)

@@ -25,14 +25,17 @@ module _ (c : tie.Start) where
   stored : to_z w32 (of_z w32 (to_z w32 (of_z w32 c.args.l) +ℤ pos 1024)) ≡ pos (mark_of c.args.l)
   stored = ap (λ (z : ℤ). to_z w32 (of_z w32 z)) sum ∙ back small
 
-add-result : tie.Need-overflow-add-result
+add-result : tie.Need-overflow_add-result
 add-result c = subst (SFits w32) (sym (sum c)) (small_fits (small c))
 
-cast-result : tie.Need-overflow-cast-result
+cast-result : tie.Need-overflow_cast-result
 cast-result c = rw (stored c) (tt, omega (arith, mark_below c.args.l c.requires))
 
 returns : tie.Need-returns
 returns c = ap nat_abs (stored c)
 
-pub mark-of-spec : {M : Type 1} → statement M
-mark-of-spec = tie.close (tie.spec add-result cast-result returns)
+pub mark_of_spec : {M : Type 1} → statement M
+mark_of_spec = tie.close (tie.spec
+    add-result
+    cast-result
+    returns)

@@ -6,35 +6,34 @@ use borrow.Author.Rules.{rules}
 use Rattle.repeats.proofs.remove_repeats.Statement.{statement}
 use Rattle.repeats.proofs.remove_repeats.Tie as tie
 
-keep-first-requires : tie.Need-keep-first-requires
+keep-first-requires : tie.Need-keep_first-kept-requires
 keep-first-requires c κs = search rules
 
-slice-reshare-prefix-unmark : tie.Need-slice-reshare-prefix-unmark
-slice-reshare-prefix-unmark c = let k = c.before.before.before in front_within k.before.before.before.before.requires k.keep-first.ensures
+slice-reshare-prefix-unmark : tie.Need-slice_bounds-unmark-end
+slice-reshare-prefix-unmark c = front_within c.requires c.keep_first-kept.ensures
 
-slice-aggregate-unmark : tie.Need-slice-aggregate-unmark
-slice-aggregate-unmark c = let k = c.before.before.before.before in sym (length-take-le k.keep-first.result.count k.keep-first.new.0 (front_within k.before.before.before.before.requires k.keep-first.ensures))
+slice-aggregate-unmark : tie.Need-slice_bounds-unmark-end-2
+slice-aggregate-unmark c = sym (length-take-le c.keep_first-kept.result.count c.keep_first-kept.new.part (front_within c.requires c.keep_first-kept.ensures))
 
 unmark-requires : tie.Need-unmark-requires
-unmark-requires c κs = let k = c.before.before.before.before.before in front_unmarkable k.before.before.before.before.requires k.keep-first.ensures
+unmark-requires c κs = front_unmarkable c.requires c.keep_first-kept.ensures
 
-zero-from-requires : tie.Need-zero-from-requires
-zero-from-requires c κs = let k = c.before.before.before.before.before.before.before.before.before in front_within k.before.before.before.before.requires k.keep-first.ensures
+zero-from-requires : tie.Need-zero_from-requires
+zero-from-requires c κs = front_within c.requires c.keep_first-kept.ensures
 
-same_length : tie.Need-same-length
+same_length : tie.Need-shape_of-part
 same_length c = search rules
 
-same-length-2 : tie.Need-same-length-2
+same-length-2 : tie.Need-shape_of-marks
 same-length-2 c = search rules
 
 returns : tie.Need-returns
-returns c = let k = c.before.before.before.before.before.before.before.before.before.before.before in
-    let M = k.before.before.before.before.requires in
-    let F = k.keep-first.ensures in
-    (F.count, F.both, firsts_held M F c.before.zero-from.ensures, marks_again M F c.before.before.before.before.before.unmark.ensures)
+returns c = let M = c.requires in
+    let F = c.keep_first-kept.ensures in
+    (F.count, F.both, firsts_held M F c.zero_from.ensures, marks_again M F c.unmark.ensures)
 
-pub remove-repeats-spec : {M : Type 1} → statement M
-remove-repeats-spec =
+pub remove_repeats_spec : {M : Type 1} → statement M
+remove_repeats_spec =
     tie.close
     (tie.spec
     keep-first-requires

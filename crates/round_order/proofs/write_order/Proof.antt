@@ -13,68 +13,68 @@ use Rattle.round_order.proofs.write_order.Statement.{statement}
 use Rattle.round_order.proofs.write_order.Tie as tie
 
 -- the order as it is lent, the turn, and how much comes before it is turned
-abbrev l : tie.After-turn-of → List ℤ
-l c = c.before.before.args.order.now
+abbrev l : tie.After-turn_of-turn → List ℤ
+l c = c.args.order.now
 
-abbrev r : tie.After-turn-of → ℕ
-r c = c.turn-of.result
+abbrev r : tie.After-turn_of-turn → ℕ
+r c = c.turn_of-turn.result
 
-abbrev m : tie.After-turn-of → ℕ
+abbrev m : tie.After-turn_of-turn → ℕ
 m c = length (l c) - r c
 
 -- the turn is below the size
-turn : (c : tie.After-turn-of) → r c < length (l c)
-turn c = omega (arith, c.turn-of.ensures, mod-lt c.before.before.args.k (let z : 0 < length (l c) = omega (arith, c.before.if1.false) in z))
+turn : (c : tie.After-turn_of-turn) → r c < length (l c)
+turn c = omega (arith, c.turn_of-turn.ensures, mod-lt c.args.k (let z : 0 < length (l c) = omega (arith, c.if-size-eq0.false) in z))
 
 -- how much of the order is lent first, and then
-front : (c : tie.After-turn-of) → length (take (m c) (l c)) ≡ m c
+front : (c : tie.After-turn_of-turn) → length (take (m c) (l c)) ≡ m c
 front c = length-take-le (m c) (l c) (omega arith)
 
-back : (c : tie.After-write-slots) → length (take (length (c.write-slots.new.0 ++ drop (m c.before.before) (l c.before.before)) - m c.before.before) (drop (m c.before.before) (c.write-slots.new.0 ++ drop (m c.before.before) (l c.before.before)))) ≡ r c.before.before
-back c = let h = turn c.before.before in rest_length (l c.before.before) c.write-slots.new.0 (m c.before.before) (omega arith) (ap length c.write-slots.ensures ∙ listed_length (r c.before.before) _ ∙ front c.before.before) ∙ (let q : length (l c.before.before) - m c.before.before ≡ r c.before.before = omega arith in q)
+back : (c : tie.After-write_slots) → length (take (length (c.write_slots.new.part ++ drop (m c.before.before) (l c.before.before)) - m c.before.before) (drop (m c.before.before) (c.write_slots.new.part ++ drop (m c.before.before) (l c.before.before)))) ≡ r c.before.before
+back c = let h = turn c.before.before in rest_length (l c.before.before) c.write_slots.new.part (m c.before.before) (omega arith) (ap length c.write_slots.ensures ∙ listed_length (r c.before.before) _ ∙ front c.before.before) ∙ (let q : length (l c.before.before) - m c.before.before ≡ r c.before.before = omega arith in q)
 
-returns : tie.Need-returns
-returns c = order_none c.before.args.v c.before.args.k c.before.args.order.now c.before.requires.0 c.if1.true
+returns : tie.Need-returns-then-size-eq0
+returns c = order_none c.args.v c.args.k c.args.order.now c.requires.0 c.if-size-eq0.true
 
-turn-of-requires : tie.Need-turn-of-requires
+turn-of-requires : tie.Need-turn_of-turn-requires
 turn-of-requires c κs = search rules
 
-sub-rest : tie.Need-overflow-sub-rest
+sub-rest : tie.Need-overflow_sub-rest
 sub-rest c = omega (arith, turn c)
 
-slice-relend-prefix-write-slots : tie.Need-slice-relend-prefix-write-slots
+slice-relend-prefix-write-slots : tie.Need-slice_bounds-write_slots-end
 slice-relend-prefix-write-slots c = search rules
 
-slice-aggregate-write-slots : tie.Need-slice-aggregate-write-slots
+slice-aggregate-write-slots : tie.Need-slice_bounds-write_slots-end-2
 slice-aggregate-write-slots c = sym (front c.before)
 
-write-slots-requires : tie.Need-write-slots-requires
+write-slots-requires : tie.Need-write_slots-requires
 write-slots-requires c κs = omega (arith, front c.before, turn c.before)
 
-mul-write-slots : tie.Need-overflow-mul-write-slots
+mul-write-slots : tie.Need-offset_bounds-order-rest
 mul-write-slots c = search rules
 
-sub-write-slots : tie.Need-overflow-sub-write-slots
+sub-write-slots : tie.Need-slice_bounds-write_slots-count
 sub-write-slots c = search rules
 
-part-write-slots-start : tie.Need-slice-bounds-write-slots-start
+part-write-slots-start : tie.Need-slice_bounds-write_slots-start
 part-write-slots-start c = search rules
 
-part-write-slots-end : tie.Need-slice-bounds-write-slots-end
+part-write-slots-end : tie.Need-slice_bounds-write_slots-end-3
 part-write-slots-end c = search rules
 
-write-slots-requires-2 : tie.Need-write-slots-requires-2
+write-slots-requires-2 : tie.Need-write_slots-requires-2
 write-slots-requires-2 c κs = omega (arith, back c.before.before, turn c.before.before.before.before)
 
-same_length : tie.Need-same-length
+same_length : tie.Need-shape_of-order
 same_length c = search rules
 
-returns-2 : tie.Need-returns-2
-returns-2 c = let s = c.before.before.before.before.before.before.before.before in
-    order_written s.args.v s.args.k s.args.order.now c.before.before.before.before.write-slots.new.0 c.before.write-slots2.new.0 s.requires.0 c.before.before.before.before.before.before.before.if1.false (r c.before.before.before.before.before.before) c.before.before.before.before.before.before.turn-of.ensures _ _ (front c.before.before.before.before.before.before) (back c.before.before.before.before) c.before.before.before.before.write-slots.ensures c.before.write-slots2.ensures
+returns-2 : tie.Need-returns
+returns-2 c = let s = c in
+    order_written s.args.v s.args.k s.args.order.now c.write_slots.new.part c.write_slots-2.new.part s.requires.0 c.if-size-eq0.false (r c.before.before.before.before.before.before) c.turn_of-turn.ensures _ _ (front c.before.before.before.before.before.before) (back c.before.before.before.before) c.write_slots.ensures c.write_slots-2.ensures
 
-pub write-order-spec : {M : Type 1} → statement M
-write-order-spec =
+pub write_order_spec : {M : Type 1} → statement M
+write_order_spec =
     tie.close
     (tie.spec
     returns

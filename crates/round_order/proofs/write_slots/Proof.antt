@@ -8,44 +8,44 @@ use borrow.Author.Rules.{rules}
 use Rattle.round_order.proofs.write_slots.Statement.{statement}
 use Rattle.round_order.proofs.write_slots.Tie as tie
 
-abbrev invariant-loop : tie.invariant-loop
+abbrev invariant-loop : tie.invariant-loop-i
 invariant-loop part₀ slot i₀ part i = Listing slot part₀ part i
 
-abbrev decreases-loop : tie.decreases-loop
+abbrev decreases-loop : tie.decreases-loop-i
 decreases-loop part₀ slot i₀ part i = length part₀ - i
 
-loop-holds : tie.Need-loop-init invariant-loop decreases-loop
+loop-holds : tie.Need-loop-i-init invariant-loop decreases-loop
 loop-holds c = listing_none _ _
 
-add-lit-at : tie.Need-overflow-add-lit-at invariant-loop decreases-loop
+add-lit-at : tie.Need-overflow_add-slot invariant-loop decreases-loop
 add-lit-at c = search rules
 
-lit-at-requires : tie.Need-lit-at-requires invariant-loop decreases-loop
+lit-at-requires : tie.Need-lit_at-requires invariant-loop decreases-loop
 lit-at-requires c κs = search rules
 
-mul-t7 : tie.Need-overflow-mul-t7 invariant-loop decreases-loop
+mul-t7 : tie.Need-offset_bounds-part-i invariant-loop decreases-loop
 mul-t7 c = search rules
 
-slice-set-from-part : tie.Need-slice-set-from-part invariant-loop decreases-loop
+slice-set-from-part : tie.Need-bounds-part-i invariant-loop decreases-loop
 slice-set-from-part c = search rules
 
-add-i : tie.Need-overflow-add-i invariant-loop decreases-loop
+add-i : tie.Need-overflow_add-i invariant-loop decreases-loop
 add-i c = search rules
 
-loop-less : tie.Need-loop-smaller invariant-loop decreases-loop
+loop-less : tie.Need-loop-i-smaller invariant-loop decreases-loop
 loop-less c = search rules
 
-loop-again : tie.Need-loop-preserved invariant-loop decreases-loop
-loop-again c = listing_more c.before.before.loop.invariant c.before.loop-test.true _ (lit_stored (c.before.before.before.args.slot + c.before.before.loop.i) _ (omega arith) c.lit-at.ensures)
+loop-again : tie.Need-loop-i-preserved invariant-loop decreases-loop
+loop-again c = listing_more c.loop-i.invariant c.loop-i-test.true _ (lit_stored (c.args.slot + c.loop-i.i) _ (omega arith) c.lit_at.ensures)
 
-same_length : tie.Need-same-length invariant-loop decreases-loop
+same_length : tie.Need-shape_of-part invariant-loop decreases-loop
 same_length c = search rules
 
 returns : tie.Need-returns invariant-loop decreases-loop
-returns c = listing_all c.before.loop.invariant c.loop-test.false
+returns c = listing_all c.loop-i.invariant c.loop-i-test.false
 
-pub write-slots-spec : {M : Type 1} → statement M
-write-slots-spec =
+pub write_slots_spec : {M : Type 1} → statement M
+write_slots_spec =
     tie.close
     (tie.spec
     invariant-loop

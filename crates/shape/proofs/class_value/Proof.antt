@@ -18,59 +18,59 @@ use Rattle.shape.proofs.class_value.Tie as tie
 abbrev class : tie.Start → ℤ
 class c = class_of c.args.variables.now c.args.w
 
-var : (c : tie.After-var-of) → c.var-of.result ≡ nat_abs (class c.before.before)
-var c = rw (read c.before.before.args.variables.now (2 * c.before.before.args.w - 2) c.before.class.given) at c.var-of.ensures
+var : (c : tie.After-var_of-u) → c.var_of-u.result ≡ nat_abs (class c.before.before)
+var c = rw (read c.args.variables.now (2 * c.args.w - 2) c.class-1.given) at c.var_of-u.ensures
 
-place : (c : tie.After-var-of) → 2 * c.var-of.result - 1 < length c.before.before.args.variables.now
-place c = omega (arith, var c, c.before.before.requires.class.above, c.before.before.requires.class.within, c.before.before.requires.room)
+place : (c : tie.After-var_of-u) → 2 * c.var_of-u.result - 1 < length c.args.variables.now
+place c = omega (arith, var c, c.requires.class.above, c.requires.class.within, c.requires.room)
 
 -- the number that is read
-entry : (c : tie.After-var-of) → Small (get_or c.before.before.args.variables.now (2 * c.var-of.result - 1) (pos 0))
-entry c = rw (var c) (record { small = omega (arith, c.before.before.requires.value) })
+entry : (c : tie.After-var_of-u) → Small (get_or c.args.variables.now (2 * c.var_of-u.result - 1) (pos 0))
+entry c = rw (var c) (record { small = omega (arith, c.requires.value) })
 
-mul-class : tie.Need-overflow-mul-class
+mul-class : tie.Need-overflow_mul-class
 mul-class c = let p = c.requires in omega (arith, p.few)
 
-sub-class : tie.Need-overflow-sub-class
+sub-class : tie.Need-overflow_sub-class
 sub-class c = let p = c.requires in omega (arith, p.class.above, p.class.within)
 
-mul-class-2 : tie.Need-overflow-mul-class-2
+mul-class-2 : tie.Need-offset_bounds-variables-w
 mul-class-2 c = let p = c.requires in omega (arith, p.few)
 
-shared-slice-copy-out-class : tie.Need-shared-slice-copy-out-class
+shared-slice-copy-out-class : tie.Need-bounds-variables-w
 shared-slice-copy-out-class c = let p = c.requires in omega (arith, p.room, p.class.above, p.class.within)
 
-var-of-requires : tie.Need-var-of-requires
-var-of-requires c κs = rw (read c.before.args.variables.now (2 * c.before.args.w - 2) c.class.given) (record { small = omega (arith, c.before.requires.class.within, c.before.requires.few) })
+var-of-requires : tie.Need-var_of-u-requires
+var-of-requires c κs = rw (read c.args.variables.now (2 * c.args.w - 2) c.class-1.given) (record { small = omega (arith, c.requires.class.within, c.requires.few) })
 
-mul-signed-by : tie.Need-overflow-mul-signed-by
-mul-signed-by c = let h = place c in omega (arith, var c, c.before.before.requires.class.within, c.before.before.requires.few)
+mul-signed-by : tie.Need-overflow_mul-u
+mul-signed-by c = let h = place c in omega (arith, var c, c.requires.class.within, c.requires.few)
 
-sub-signed-by : tie.Need-overflow-sub-signed-by
-sub-signed-by c = omega (arith, var c, c.before.before.requires.class.above)
+sub-signed-by : tie.Need-overflow_sub-u
+sub-signed-by c = omega (arith, var c, c.requires.class.above)
 
-mul-signed-by-2 : tie.Need-overflow-mul-signed-by-2
-mul-signed-by-2 c = let h = place c in omega (arith, var c, c.before.before.requires.class.within, c.before.before.requires.few)
+mul-signed-by-2 : tie.Need-offset_bounds-variables-u
+mul-signed-by-2 c = let h = place c in omega (arith, var c, c.requires.class.within, c.requires.few)
 
-shared-slice-copy-out-signed-by : tie.Need-shared-slice-copy-out-signed-by
+shared-slice-copy-out-signed-by : tie.Need-bounds-variables-u
 shared-slice-copy-out-signed-by c = place c
 
-signed-by-requires : tie.Need-signed-by-requires
+signed-by-requires : tie.Need-signed_by-requires
 signed-by-requires c κs = rw (back (entry c.before)) (entry c.before)
 
 -- what is answered: the sign is the class's, and the number the value of its variable
-said : (c : tie.After-signed-by) → c.Signed-by.result ≡ sign_by (non_neg (class c.before.before.before.before)) (value_of c.before.before.before.before.args.variables.now (nat_abs (class c.before.before.before.before)))
+said : (c : tie.After-signed_by) → c.signed_by.result ≡ sign_by (non_neg (class c.before.before.before.before)) (value_of c.args.variables.now (nat_abs (class c.before.before.before.before)))
 said c =
-    let vs = c.before.before.before.before.args.variables.now in
-    c.Signed-by.ensures
-    ∙ ap (λ (z : ℤ). sign_by (non_neg z) (to_z w32 (of_z w32 (get_or vs (2 * c.before.before.var-of.result - 1) (pos 0))))) (read vs (2 * c.before.before.before.before.args.w - 2) c.before.before.before.class.given)
+    let vs = c.args.variables.now in
+    c.signed_by.ensures
+    ∙ ap (λ (z : ℤ). sign_by (non_neg z) (to_z w32 (of_z w32 (get_or vs (2 * c.var_of-u.result - 1) (pos 0))))) (read vs (2 * c.args.w - 2) c.class-1.given)
     ∙ ap (sign_by (non_neg (class c.before.before.before.before))) (back (entry c.before.before) ∙ ap (value_of vs) (var c.before.before))
 
 returns : tie.Need-returns
-returns c = rw (to_z-of_z (sfits_of c.Signed-by.type-inv)) (said c)
+returns c = rw (to_z-of_z {w = w32} (sfits_of c.signed_by.type_inv)) (said c)
 
-pub class-value-spec : {M : Type 1} → statement M
-class-value-spec =
+pub class_value_spec : {M : Type 1} → statement M
+class_value_spec =
     tie.close
     (tie.spec
     mul-class

@@ -10,111 +10,111 @@ use borrow.Author.Rules.{rules}
 use Rattle.shape.proofs.clauses_by.Statement.{statement}
 use Rattle.shape.proofs.clauses_by.Tie as tie
 
-abbrev invariant-loop : tie.invariant-loop
+abbrev invariant-loop : tie.invariant-loop-i
 invariant-loop clauses literals variables v n settled mark last₀ i₀ last i = (i ≤ n) × Clausing v settled mark clauses literals variables i last
 
-abbrev decreases-loop : tie.decreases-loop
+abbrev decreases-loop : tie.decreases-loop-i
 decreases-loop clauses literals variables v n settled mark last₀ i₀ last i = n - i
 
 -- the length at entry
 entry_length : (c : tie.Start invariant-loop decreases-loop) → length c.args.last.now ≡ 1024
 entry_length c = ap length c.requires.6 ∙ length-replicate {A = ℕ} 1024 0
 
-loop-holds : tie.Need-loop-init invariant-loop decreases-loop
-loop-holds c = let a = c.before.before.args in
-    (omega arith, clausing_begin a.v a.settled a.mark a.clauses.now a.literals.now a.variables.now a.last.now c.before.before.requires.6)
+loop-holds : tie.Need-loop-i-init invariant-loop decreases-loop
+loop-holds c = let a = c.args in
+    (omega arith, clausing_begin a.v a.settled a.mark a.clauses.now a.literals.now a.variables.now a.last.now c.requires.6)
 
-mul-start : tie.Need-overflow-mul-start invariant-loop decreases-loop
+mul-start : tie.Need-overflow_mul-start invariant-loop decreases-loop
 mul-start c = search rules
 
-mul-start-2 : tie.Need-overflow-mul-start-2 invariant-loop decreases-loop
+mul-start-2 : tie.Need-offset_bounds-clauses-i invariant-loop decreases-loop
 mul-start-2 c = search rules
 
-shared-slice-read-start : tie.Need-shared-slice-read-start invariant-loop decreases-loop
+shared-slice-read-start : tie.Need-bounds-clauses-i invariant-loop decreases-loop
 shared-slice-read-start c = search rules
 
-cast-start : tie.Need-overflow-cast-start invariant-loop decreases-loop
-cast-start c = omega (arith, c.shared-slice-known2.given (3 * c.before.before.loop.i))
+cast-start : tie.Need-overflow_cast-start invariant-loop decreases-loop
+cast-start c = omega (arith, c.shared_slice_known-in-loop-i-1.given (3 * c.loop-i.i))
 
-mul-len : tie.Need-overflow-mul-len invariant-loop decreases-loop
+mul-len : tie.Need-overflow_mul-len invariant-loop decreases-loop
 mul-len c = search rules
 
-add-len : tie.Need-overflow-add-len invariant-loop decreases-loop
+add-len : tie.Need-overflow_add-len invariant-loop decreases-loop
 add-len c = search rules
 
-mul-len-2 : tie.Need-overflow-mul-len-2 invariant-loop decreases-loop
+mul-len-2 : tie.Need-offset_bounds-clauses-i-in-loop-i invariant-loop decreases-loop
 mul-len-2 c = search rules
 
-shared-slice-read-len : tie.Need-shared-slice-read-len invariant-loop decreases-loop
+shared-slice-read-len : tie.Need-bounds-clauses-i-in-loop-i invariant-loop decreases-loop
 shared-slice-read-len c = search rules
 
-cast-len : tie.Need-overflow-cast-len invariant-loop decreases-loop
-cast-len c = omega (arith, c.shared-slice-known3.given (3 * c.before.before.before.loop.i + 1))
+cast-len : tie.Need-overflow_cast-len invariant-loop decreases-loop
+cast-len c = omega (arith, c.shared_slice_known-in-loop-i-2-1.given (3 * c.loop-i.i + 1))
 
-mul-flag : tie.Need-overflow-mul-flag invariant-loop decreases-loop
+mul-flag : tie.Need-overflow_mul-flag invariant-loop decreases-loop
 mul-flag c = search rules
 
-add-flag : tie.Need-overflow-add-flag invariant-loop decreases-loop
+add-flag : tie.Need-overflow_add-flag invariant-loop decreases-loop
 add-flag c = search rules
 
-mul-flag-2 : tie.Need-overflow-mul-flag-2 invariant-loop decreases-loop
+mul-flag-2 : tie.Need-offset_bounds-clauses-i-in-loop-i-2 invariant-loop decreases-loop
 mul-flag-2 c = search rules
 
-shared-slice-read-flag : tie.Need-shared-slice-read-flag invariant-loop decreases-loop
+shared-slice-read-flag : tie.Need-bounds-clauses-i-in-loop-i-2 invariant-loop decreases-loop
 shared-slice-read-flag c = search rules
 
-empty-ok-requires : tie.Need-empty-ok-requires invariant-loop decreases-loop
+empty-ok-requires : tie.Need-empty_ok-requires invariant-loop decreases-loop
 empty-ok-requires c κs = search rules
 
-same_length : tie.Need-same-length invariant-loop decreases-loop
-same_length c = c.before.before.before.before.before.before.loop.invariant.1.size ∙ sym (entry_length c.before.before.before.before.before.before.before.before.before)
+same_length : tie.Need-shape_of-last-then-not-empty_ok invariant-loop decreases-loop
+same_length c = c.loop-i.invariant.1.size ∙ sym (entry_length c.before.before.before.before.before.before.before.before.before)
 
-returns : tie.Need-returns invariant-loop decreases-loop
-returns c = says_no (λ C. c.before.empty-ok.ensures.fails (not-true _ c.if1.true) (C.empty c.before.before.before.before.before.before.loop.i c.before.before.before.before.before.loop-test.true))
+returns : tie.Need-returns-then-not-empty_ok invariant-loop decreases-loop
+returns c = says_no (λ C. c.empty_ok.ensures.fails c.if-not-empty_ok.true (C.empty c.loop-i.i c.loop-i-test.true))
 
-cast-literals-ok : tie.Need-overflow-cast-literals-ok invariant-loop decreases-loop
+cast-literals-ok : tie.Need-overflow_cast-i invariant-loop decreases-loop
 cast-literals-ok c = search rules
 
-add-literals-ok : tie.Need-overflow-add-literals-ok invariant-loop decreases-loop
+add-literals-ok : tie.Need-overflow_add-i invariant-loop decreases-loop
 add-literals-ok c = search rules
 
-literals-ok-requires : tie.Need-literals-ok-requires invariant-loop decreases-loop
-literals-ok-requires c κs = let p = c.before.before.before.before.before.before.before.before.before.before.requires in
-    let l = c.before.before.before.before.before.before.before.loop in
-    (omega (arith, p.3, p.5.inside l.i c.before.before.before.before.before.before.loop-test.true), p.0, p.4, l.invariant.1.size, l.invariant.1.below)
+literals-ok-requires : tie.Need-literals_ok-requires invariant-loop decreases-loop
+literals-ok-requires c κs = let p = c.requires in
+    let l = c.loop-i in
+    (omega (arith, p.3, p.5.inside l.i c.loop-i-test.true), p.0, p.4, l.invariant.1.size, l.invariant.1.below)
 
-same-length-2 : tie.Need-same-length-2 invariant-loop decreases-loop
-same-length-2 c = c.before.before.before.literals-ok.auto.1.1.1.1.1.1.1.0 ∙ c.before.before.before.before.before.before.before.before.before.before.before.loop.invariant.1.size ∙ sym (entry_length c.before.before.before.before.before.before.before.before.before.before.before.before.before.before)
+same-length-2 : tie.Need-shape_of-last-then-not-literals_ok invariant-loop decreases-loop
+same-length-2 c = c.literals_ok.auto.last ∙ c.loop-i.invariant.1.size ∙ sym (entry_length c.before.before.before.before.before.before.before.before.before.before.before.before.before.before)
 
-returns-2 : tie.Need-returns-2 invariant-loop decreases-loop
-returns-2 c = says_no (λ C. c.before.before.before.literals-ok.ensures.0.fails (not-true _ c.if2.true) (C.each c.before.before.before.before.before.before.before.before.before.before.before.loop.i c.before.before.before.before.before.before.before.before.before.before.loop-test.true))
+returns-2 : tie.Need-returns-then-not-literals_ok invariant-loop decreases-loop
+returns-2 c = says_no (λ C. c.literals_ok.ensures.0.fails c.if-not-literals_ok.true (C.each c.loop-i.i c.loop-i-test.true))
 
-add-i : tie.Need-overflow-add-i invariant-loop decreases-loop
+add-i : tie.Need-overflow_add-i-in-loop-i invariant-loop decreases-loop
 add-i c = search rules
 
-loop-less : tie.Need-loop-smaller invariant-loop decreases-loop
+loop-less : tie.Need-loop-i-smaller invariant-loop decreases-loop
 loop-less c = search rules
 
-loop-again : tie.Need-loop-preserved invariant-loop decreases-loop
-loop-again c = let a = c.before.before.before.before.before.before.before.before.before.before.before.before.before.before.args in
-    let l = c.before.before.before.before.before.before.before.before.before.before.before.loop in
-    let w = c.before.before.before.literals-ok in (
+loop-again : tie.Need-loop-i-preserved invariant-loop decreases-loop
+loop-again c = let a = c.args in
+    let l = c.loop-i in
+    let w = c.literals_ok in (
       omega arith,
       clausing_next a.v a.settled a.mark a.clauses.now a.literals.now a.variables.now l.i l.last l.invariant.1
-          (w.ensures.0.holds (not-false _ c.if2.false)) (c.before.before.before.before.before.before.empty-ok.ensures.holds (not-false _ c.before.before.before.before.before.if1.false))
-          w.new.1.1.1.1.1.1.1.0 w.auto.1.1.1.1.1.1.1.0 w.ensures.1,
+          (w.ensures.0.holds c.if-not-literals_ok.false) (c.empty_ok.ensures.holds c.if-not-empty_ok.false)
+          w.new.last w.auto.last w.ensures.1,
     )
 
-same-length-3 : tie.Need-same-length-3 invariant-loop decreases-loop
-same-length-3 c = c.before.loop.invariant.1.size ∙ sym (entry_length c.before.before.before.before)
+same-length-3 : tie.Need-shape_of-last invariant-loop decreases-loop
+same-length-3 c = c.loop-i.invariant.1.size ∙ sym (entry_length c.before.before.before.before)
 
-returns-3 : tie.Need-returns-3 invariant-loop decreases-loop
-returns-3 c = let a = c.before.before.before.before.args in
-    let l = c.before.loop in
-    says_yes (clausing_done a.v a.n a.settled a.mark a.clauses.now a.literals.now a.variables.now l.i l.last l.invariant.1 c.loop-test.false c.before.before.before.before.requires.5)
+returns-3 : tie.Need-returns invariant-loop decreases-loop
+returns-3 c = let a = c.args in
+    let l = c.loop-i in
+    says_yes (clausing_done a.v a.n a.settled a.mark a.clauses.now a.literals.now a.variables.now l.i l.last l.invariant.1 c.loop-i-test.false c.requires.5)
 
-pub clauses-by-spec : {M : Type 1} → statement M
-clauses-by-spec =
+pub clauses_by_spec : {M : Type 1} → statement M
+clauses_by_spec =
     tie.close
     (tie.spec
     invariant-loop

@@ -5,17 +5,21 @@ use Rattle.base.specs.Decide.{says_yes, says_no}
 use Rattle.shape.proofs.empty_ok.Statement.{statement}
 use Rattle.shape.proofs.empty_ok.Tie as tie
 
-returns : tie.Need-returns
-returns c = says_yes (λ _ _. c.if1.true)
+returns : tie.Need-returns-then-mark
+returns c = says_yes (λ _ _. c.if-mark.true)
 
-returns-2 : tie.Need-returns-2
-returns-2 c = says_yes (λ _ z. absurd (c.if2.true z))
+returns-2 : tie.Need-returns-then-len-ne0
+returns-2 c = says_yes (λ _ z. absurd (c.if-len-ne0.true z))
 
-returns-3 : tie.Need-returns-3
-returns-3 c = says_no (λ f. false≢true (sym c.before.before.if1.false ∙ f c.if3.true c.before.if2.false))
+returns-3 : tie.Need-returns-then-flag-eq1
+returns-3 c = says_no (λ f. false≢true (sym c.if-mark.false ∙ f c.if-flag-eq1.true c.if-len-ne0.false))
 
-returns-4 : tie.Need-returns-4
-returns-4 c = says_yes (λ o. absurd (c.if3.false o))
+returns-4 : tie.Need-returns
+returns-4 c = says_yes (λ o. absurd (c.if-flag-eq1.false o))
 
-pub empty-ok-spec : {M : Type 1} → statement M
-empty-ok-spec = tie.close (tie.spec returns returns-2 returns-3 returns-4)
+pub empty_ok_spec : {M : Type 1} → statement M
+empty_ok_spec = tie.close (tie.spec
+    returns
+    returns-2
+    returns-3
+    returns-4)

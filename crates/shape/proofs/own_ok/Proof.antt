@@ -7,35 +7,36 @@ use borrow.Author.Tests.{not-true, not-false}
 use borrow.Author.Rules.{sfits_of, rules}
 use Rattle.base.specs.Decide.{says_yes, says_no}
 use Rattle.literal.proofs.Signed.{bits_eq}
+use borrow.Author.Rules.{rules}
 use Rattle.shape.proofs.own_ok.Statement.{statement}
 use Rattle.shape.proofs.own_ok.Tie as tie
 
-returns : tie.Need-returns
-returns c = says_yes (λ s. absurd (false≢true (sym (not-true _ c.if1.true) ∙ s)))
+returns : tie.Need-returns-then-not-settled
+returns c = says_yes (λ s. absurd (false≢true (sym c.if-not-settled.true ∙ s)))
 
-mul-if2 : tie.Need-overflow-mul-if2
+mul-if2 : tie.Need-overflow_mul-w
 mul-if2 c = search rules
 
-sub-if2 : tie.Need-overflow-sub-if2
+sub-if2 : tie.Need-overflow_sub-w
 sub-if2 c = search rules
 
-mul-if2-2 : tie.Need-overflow-mul-if2-2
+mul-if2-2 : tie.Need-offset_bounds-variables-w
 mul-if2-2 c = search rules
 
-shared-slice-copy-out-if2 : tie.Need-shared-slice-copy-out-if2
+shared-slice-copy-out-if2 : tie.Need-bounds-variables-w
 shared-slice-copy-out-if2 c = search rules
 
-cast-if2 : tie.Need-overflow-cast-if2
+cast-if2 : tie.Need-overflow_cast-w
 cast-if2 c = search rules
 
-returns-2 : tie.Need-returns-2
-returns-2 c = says_no (λ o. c.if2.true (ap (of_z w32) (o (not-false _ c.before.before.if1.false))))
+returns-2 : tie.Need-returns-then-variables-w
+returns-2 c = says_no (λ o. c.if-variables-w.true (ap (of_z w32) (o c.if-not-settled.false)))
 
-returns-3 : tie.Need-returns-3
-returns-3 c = says_yes (λ s. bits_eq (sfits_of c.before.if22.given) (search rules) c.if2.false)
+returns-3 : tie.Need-returns
+returns-3 c = says_yes (λ s. bits_eq (sfits_of c.t9-1.given) (search rules) c.if-variables-w.false)
 
-pub own-ok-spec : {M : Type 1} → statement M
-own-ok-spec =
+pub own_ok_spec : {M : Type 1} → statement M
+own_ok_spec =
     tie.close
     (tie.spec
     returns

@@ -14,74 +14,75 @@ use Rattle.tables.specs.Tables.{class_of, value_of}
 use Rattle.shape.specs.Shape.{Variable, Spread}
 use Rattle.shape.specs.Row.{Classed}
 use borrow.Author.Rules.{sfits_of, rules}
+use borrow.Author.Rules.{rules}
 use Rattle.shape.proofs.variables_ok.Statement.{statement}
 use Rattle.shape.proofs.variables_ok.Tie as tie
 
-abbrev invariant-loop : tie.invariant-loop
+abbrev invariant-loop : tie.invariant-loop-w
 invariant-loop variables v n w₀ w = (n ≡ v) × (w ≤ v) × ((u : ℕ) → u < w → Variable variables (u + 1)) × Spread w variables
 
-abbrev decreases-loop : tie.decreases-loop
+abbrev decreases-loop : tie.decreases-loop-w
 decreases-loop variables v n w₀ w = n - w
 
-loop-holds : tie.Need-loop-init invariant-loop decreases-loop
+loop-holds : tie.Need-loop-w-init invariant-loop decreases-loop
 loop-holds c = (refl, omega arith, below_none _, below_none _)
 
-add-w : tie.Need-overflow-add-w invariant-loop decreases-loop
+add-w : tie.Need-overflow_add-w invariant-loop decreases-loop
 add-w c = search rules
 
-variable-ok-requires : tie.Need-variable-ok-requires invariant-loop decreases-loop
+variable-ok-requires : tie.Need-variable_ok-requires invariant-loop decreases-loop
 variable-ok-requires c κs = search rules
 
-returns : tie.Need-returns invariant-loop decreases-loop
-returns c = says_no (λ X. c.before.variable-ok.ensures.fails (not-true _ c.if1.true) (X.0 c.before.before.before.loop.w c.before.before.loop-test.true))
+returns : tie.Need-returns-then-not-variable_ok invariant-loop decreases-loop
+returns c = says_no (λ X. c.variable_ok.ensures.fails c.if-not-variable_ok.true (X.0 c.loop-w.w c.loop-w-test.true))
 
 -- the variables up to this one
-passed : (c : tie.Else1 invariant-loop decreases-loop) → (u : ℕ) → u < c.before.before.before.loop.w + 1 → Variable c.before.before.before.before.args.variables.now (u + 1)
-passed c = below_more _ c.before.before.before.loop.w c.before.before.before.loop.invariant.2 (c.before.variable-ok.ensures.holds (not-false _ c.if1.false))
+passed : (c : tie.Else-not-variable_ok invariant-loop decreases-loop) → (u : ℕ) → u < c.loop-w.w + 1 → Variable c.args.variables.now (u + 1)
+passed c = below_more _ c.loop-w.w c.loop-w.invariant.2 (c.variable_ok.ensures.holds c.if-not-variable_ok.false)
 
-classed : (c : tie.Else1 invariant-loop decreases-loop) → Classed c.before.before.before.before.args.variables.now (c.before.before.before.loop.w + 1)
+classed : (c : tie.Else-not-variable_ok invariant-loop decreases-loop) → Classed c.args.variables.now (c.loop-w.w + 1)
 classed c =
-    let vs : List ℤ = c.before.before.before.before.args.variables.now in
-    let w : ℕ = c.before.before.before.loop.w in
+    let vs : List ℤ = c.args.variables.now in
+    let w : ℕ = c.loop-w.w in
     let X : Variable vs (w + 1) = passed c w (omega arith) in
     let u : ℕ = nat_abs (class_of vs (w + 1)) in
     let e : u - 1 + 1 ≡ u = omega (arith, X.class.above) in
     record {
-      few = omega (arith, c.before.before.loop-test.true, c.before.before.before.loop.invariant.0, c.before.before.before.before.requires.0);
-      room = omega (arith, c.before.before.loop-test.true, c.before.before.before.loop.invariant.0, c.before.before.before.before.requires.1);
+      few = omega (arith, c.loop-w-test.true, c.loop-w.invariant.0, c.requires.0);
+      room = omega (arith, c.loop-w-test.true, c.loop-w.invariant.0, c.requires.1);
       class = X.class;
       value = subst (λ (x : ℕ). nat_abs (value_of vs x) ≤ 1) e (passed c (u - 1) (omega (arith, X.class.above, X.class.within))).value;
     }
 
-mul-if2 : tie.Need-overflow-mul-if2 invariant-loop decreases-loop
+mul-if2 : tie.Need-overflow_mul-w invariant-loop decreases-loop
 mul-if2 c = search rules
 
-sub-if2 : tie.Need-overflow-sub-if2 invariant-loop decreases-loop
+sub-if2 : tie.Need-overflow_sub-w invariant-loop decreases-loop
 sub-if2 c = search rules
 
-mul-if2-2 : tie.Need-overflow-mul-if2-2 invariant-loop decreases-loop
+mul-if2-2 : tie.Need-offset_bounds-variables-w invariant-loop decreases-loop
 mul-if2-2 c = search rules
 
-shared-slice-copy-out-if2 : tie.Need-shared-slice-copy-out-if2 invariant-loop decreases-loop
+shared-slice-copy-out-if2 : tie.Need-bounds-variables-w invariant-loop decreases-loop
 shared-slice-copy-out-if2 c = omega (arith, (classed c).room)
 
-class-value-requires : tie.Need-class-value-requires invariant-loop decreases-loop
+class-value-requires : tie.Need-class_value-requires invariant-loop decreases-loop
 class-value-requires c κs = classed c.before
 
-returns-2 : tie.Need-returns-2 invariant-loop decreases-loop
-returns-2 c = says_no (λ X. c.if2.true (ap (of_z w32) (X.1 c.before.before.before.before.before.before.loop.w c.before.before.before.before.before.loop-test.true ∙ sym c.before.class-value.ensures)))
+returns-2 : tie.Need-returns-then-variables-w invariant-loop decreases-loop
+returns-2 c = says_no (λ X. c.if-variables-w.true (ap (of_z w32) (X.1 c.loop-w.w c.loop-w-test.true ∙ sym c.class_value.ensures)))
 
-loop-less : tie.Need-loop-smaller invariant-loop decreases-loop
+loop-less : tie.Need-loop-w-smaller invariant-loop decreases-loop
 loop-less c = search rules
 
-loop-again : tie.Need-loop-preserved invariant-loop decreases-loop
-loop-again c = (refl, omega arith, passed c.before.before.before, below_more _ c.before.before.before.before.before.before.loop.w c.before.before.before.before.before.before.loop.invariant.3 (bits_eq (sfits_of c.before.before.if22.given) (sfits_of c.before.class-value.type-inv) c.if2.false ∙ c.before.class-value.ensures))
+loop-again : tie.Need-loop-w-preserved invariant-loop decreases-loop
+loop-again c = (refl, omega arith, passed c.before.before.before, below_more _ c.loop-w.w c.loop-w.invariant.3 (bits_eq (sfits_of c.t11-1.given) (sfits_of c.class_value.type_inv) c.if-variables-w.false ∙ c.class_value.ensures))
 
-returns-3 : tie.Need-returns-3 invariant-loop decreases-loop
-returns-3 c = says_yes (λ w l. c.before.loop.invariant.2 w (omega (arith, c.loop-test.false)), λ w l. c.before.loop.invariant.3 w (omega (arith, c.loop-test.false)))
+returns-3 : tie.Need-returns invariant-loop decreases-loop
+returns-3 c = says_yes (λ w l. c.loop-w.invariant.2 w (omega (arith, c.loop-w-test.false)), λ w l. c.loop-w.invariant.3 w (omega (arith, c.loop-w-test.false)))
 
-pub variables-ok-spec : {M : Type 1} → statement M
-variables-ok-spec =
+pub variables_ok_spec : {M : Type 1} → statement M
+variables_ok_spec =
     tie.close
     (tie.spec
     invariant-loop

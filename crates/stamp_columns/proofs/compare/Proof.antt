@@ -19,7 +19,11 @@ compare-requires : tie.Need-compare-requires
 compare-requires c κs = search rules
 
 returns : tie.Need-returns
-returns c = c.compare.ensures ∙ (λ i. compare (c.before.before.interval.ensures i) (c.before.interval2.ensures i))
+returns c = c.compare.ensures ∙ (λ i. compare (c.interval.ensures i) (c.interval-2.ensures i))
 
-pub compare-spec : {M : Type 1} → statement M
-compare-spec = tie.close (tie.spec interval-requires interval-requires-2 compare-requires returns)
+pub compare_spec : {M : Type 1} → statement M
+compare_spec = tie.close (tie.spec
+    interval-requires
+    interval-requires-2
+    compare-requires
+    returns)

@@ -8,17 +8,21 @@ use Rattle.stamp_columns.proofs.discovery.Tie as tie
 use Rattle.stamp_columns.proofs.discovery.Reads as reads
 use Rattle.stamp_columns.proofs.discovery.Lts as lts
 
-mul-result : tie.Need-overflow-mul-result
+mul-result : tie.Need-overflow_mul-result
 mul-result c = search rules
 
-mul-result-2 : tie.Need-overflow-mul-result-2
+mul-result-2 : tie.Need-offset_bounds-times-s
 mul-result-2 c = search rules
 
-shared-slice-read-result : tie.Need-shared-slice-read-result
+shared-slice-read-result : tie.Need-bounds-times-s
 shared-slice-read-result c = search rules
 
 returns : tie.Need-returns
-returns c = sym (column_discovery c.before.args.times.now [] c.before.args.s)
+returns c = sym (column_discovery c.args.times.now [] c.args.s)
 
-pub discovery-spec : {M : Type 1} → statement M
-discovery-spec = tie.close (tie.spec mul-result mul-result-2 shared-slice-read-result returns)
+pub discovery_spec : {M : Type 1} → statement M
+discovery_spec = tie.close (tie.spec
+    mul-result
+    mul-result-2
+    shared-slice-read-result
+    returns)

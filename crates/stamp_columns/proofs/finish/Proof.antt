@@ -8,21 +8,26 @@ use Rattle.stamp_columns.proofs.finish.Tie as tie
 use Rattle.stamp_columns.proofs.finish.Reads as reads
 use Rattle.stamp_columns.proofs.finish.Lts as lts
 
-mul-result : tie.Need-overflow-mul-result
+mul-result : tie.Need-overflow_mul-result
 mul-result c = search rules
 
-add-result : tie.Need-overflow-add-result
+add-result : tie.Need-overflow_add-result
 add-result c = search rules
 
-mul-result-2 : tie.Need-overflow-mul-result-2
+mul-result-2 : tie.Need-offset_bounds-times-s
 mul-result-2 c = search rules
 
-shared-slice-read-result : tie.Need-shared-slice-read-result
+shared-slice-read-result : tie.Need-bounds-times-s
 shared-slice-read-result c = search rules
 
 returns : tie.Need-returns
-returns c = sym (column_finishes c.before.args.times.now [] c.before.args.s)
+returns c = sym (column_finishes c.args.times.now [] c.args.s)
 
 pub finish_spec : {M : Type 1} → statement M
 finish_spec =
-    tie.close (tie.spec mul-result add-result mul-result-2 shared-slice-read-result returns)
+    tie.close (tie.spec
+    mul-result
+    add-result
+    mul-result-2
+    shared-slice-read-result
+    returns)

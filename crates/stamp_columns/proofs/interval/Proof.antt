@@ -15,7 +15,10 @@ finish-requires : tie.Need-finish-requires
 finish-requires c κs = search rules
 
 returns : tie.Need-returns
-returns c = λ i. interval (c.before.discovery.ensures i) (c.finish.ensures i)
+returns c = λ i. interval (c.discovery.ensures i) (c.finish.ensures i)
 
-pub interval-spec : {M : Type 1} → statement M
-interval-spec = tie.close (tie.spec discovery-requires finish-requires returns)
+pub interval_spec : {M : Type 1} → statement M
+interval_spec = tie.close (tie.spec
+    discovery-requires
+    finish-requires
+    returns)

@@ -10,33 +10,33 @@ use borrow.Author.Rules.{rules}
 use Rattle.stamps.proofs.stamps_by.Statement.{statement}
 use Rattle.stamps.proofs.stamps_by.Tie as tie
 
-mul-index-times : tie.Need-overflow-mul-index-times
+mul-index-times : tie.Need-overflow_mul-v
 mul-index-times c = search rules
 
-index-times-requires : tie.Need-index-times-requires
+index-times-requires : tie.Need-index_times-requires
 index-times-requires c κs = search rules
 
-same_length : tie.Need-same-length
+same_length : tie.Need-shape_of-index-then-not-index_times
 same_length c = search rules
 
-indexed : (c : tie.Else1) → Indexed (4 * c.before.before.before.before.before.before.before.args.v) c.before.before.before.before.before.before.before.args.times.now c.before.before.before.index-times.new.1.1.0
-indexed c = c.before.before.before.index-times.ensures.0 (not-false _ c.if1.false)
+indexed : (c : tie.Else-not-index_times) → Indexed (4 * c.args.v) c.args.times.now c.index_times.new.index
+indexed c = c.index_times.ensures.0 c.if-not-index_times.false
 
-returns : tie.Need-returns
-returns c = says_no (λ F. c.before.before.before.index-times.ensures.1 (not-true _ c.if1.true) F.every-time)
+returns : tie.Need-returns-then-not-index_times
+returns c = says_no (λ F. c.index_times.ensures.1 c.if-not-index_times.true F.every_time)
 
-scan-times-requires : tie.Need-scan-times-requires
-scan-times-requires c κs = let s = c.before.before.before.before.before.before.before.before in
-    (s.requires.0, s.requires.2, c.before.before.before.before.index-times.auto.1.1.0 ∙ ap length s.requires.3 ∙ length-replicate (4 * s.args.v) 0, indexed_filled (4 * s.args.v) s.args.times.now _ (indexed c.before))
+scan-times-requires : tie.Need-scan_times-requires
+scan-times-requires c κs = let s = c in
+    (s.requires.0, s.requires.2, c.index_times.auto.index ∙ ap length s.requires.3 ∙ length-replicate (4 * s.args.v) 0, indexed_filled (4 * s.args.v) s.args.times.now _ (indexed c))
 
-same-length-2 : tie.Need-same-length-2
+same-length-2 : tie.Need-shape_of-index
 same-length-2 c = search rules
 
-returns-2 : tie.Need-returns-2
-returns-2 c = c.scan-times.ensures c.before.before.before.before.before.before.before.before.before.args.times.now (indexed c.before.before)
+returns-2 : tie.Need-returns
+returns-2 c = c.scan_times.ensures c.args.times.now (indexed c.before)
 
-pub stamps-by-spec : {M : Type 1} → statement M
-stamps-by-spec =
+pub stamps_by_spec : {M : Type 1} → statement M
+stamps_by_spec =
     tie.close
     (tie.spec
     mul-index-times

@@ -16,23 +16,28 @@ negative_fits : (n : ℕ) → n ≤ 15 → SFits w64 (neg_ℤ (pos n))
 negative_fits zero h = record { sfits = omega arith }
 negative_fits (suc n) h = record { sfits = omega arith }
 
-negated : (c : tie.Else1) → pos 0 -ℤ to_z w64 c.before.args.number ≡ neg_ℤ (pos c.before.args.number)
-negated c = ap (λ (z : ℤ). pos 0 -ℤ z) (to_z_pos w64 {n = c.before.args.number} (omega (arith, c.before.requires.0))) ∙ +ℤ_idl (neg_ℤ (pos c.before.args.number))
+negated : (c : tie.Else-number-eq0) → pos 0 -ℤ to_z w64 c.args.number ≡ neg_ℤ (pos c.args.number)
+negated c = ap (λ (z : ℤ). pos 0 -ℤ z) (to_z_pos w64 {n = c.args.number} (omega (arith, c.requires.0))) ∙ +ℤ_idl (neg_ℤ (pos c.args.number))
 
-cast-result : tie.Need-overflow-cast-result
-cast-result c = record { sfits = omega (arith, c.before.requires.1 c.if1.true) }
+cast-result : tie.Need-overflow_cast-result
+cast-result c = record { sfits = omega (arith, c.requires.1 c.if-number-eq0.true) }
 
-returns : tie.Need-returns
-returns c = to_z_pos w64 (omega (arith, c.before.requires.1 c.if1.true)) ∙ ap (λ (n : ℕ). result_by n c.before.args.value) (sym c.if1.true)
+returns : tie.Need-returns-then-number-eq0
+returns c = to_z_pos w64 (omega (arith, c.requires.1 c.if-number-eq0.true)) ∙ ap (λ (n : ℕ). result_by n c.args.value) (sym c.if-number-eq0.true)
 
-cast-result-2 : tie.Need-overflow-cast-result-2
+cast-result-2 : tie.Need-overflow_cast-result-2
 cast-result-2 c = search rules
 
-sub-result : tie.Need-overflow-sub-result
-sub-result c = subst (SFits w64) (sym (negated c)) (negative_fits c.before.args.number c.before.requires.0)
+sub-result : tie.Need-overflow_sub-result
+sub-result c = subst (SFits w64) (sym (negated c)) (negative_fits c.args.number c.requires.0)
 
-returns-2 : tie.Need-returns-2
-returns-2 c = to_z-of_z (sub-result c) ∙ negated c ∙ sym (result_negative c.before.args.number c.before.args.value (omega (arith, c.if1.false)))
+returns-2 : tie.Need-returns
+returns-2 c = to_z-of_z (sub-result c) ∙ negated c ∙ sym (result_negative c.args.number c.args.value (omega (arith, c.if-number-eq0.false)))
 
-pub result-spec : {M : Type 1} → statement M
-result-spec = tie.close (tie.spec cast-result returns cast-result-2 sub-result returns-2)
+pub result_spec : {M : Type 1} → statement M
+result_spec = tie.close (tie.spec
+    cast-result
+    returns
+    cast-result-2
+    sub-result
+    returns-2)

@@ -17,6 +17,7 @@ use Rattle.walk.proofs.+enter_walk_edges.Lts-enter as enter-lts
 use Rattle.walk.proofs.walk_edges.Reads as walk-edges
 use Rattle.walk.proofs.walk_edges.Kinds as walk-edges-kinds
 use Rattle.walk.proofs.+enter_walk_edges.Lts-walk_edges as walk-edges-lts
+use Rattle.walk.proofs.+enter_walk_edges.Lts-walk_edges.{then-discoveries-q-eq0, else-discoveries-q-eq0}
 use Rattle.walk.proofs.+enter_walk_edges.{statement}
 use Rattle.walk.proofs.+enter_walk_edges.Tie.{close}
 
@@ -42,69 +43,67 @@ walk-edges-below t =
 
 enter-add-discovered :
     (t : ℕ) →
-    enter-lts.Need-overflow-add-discovered (walk-edges-below t, walk-edges.Post) (enter-at t) enter.Post
+    enter-lts.Need-overflow_add-discovered (walk-edges-below t, walk-edges.Post) (enter-at t) enter.Post
 enter-add-discovered t c = search rules
 
 enter-mul-discoveries :
     (t : ℕ) →
-    enter-lts.Need-overflow-mul-discoveries (walk-edges-below t, walk-edges.Post) (enter-at t) enter.Post
+    enter-lts.Need-offset_bounds-discoveries-slot (walk-edges-below t, walk-edges.Post) (enter-at t) enter.Post
 enter-mul-discoveries t c = search rules
 
-enter-slice-write-discoveries : (t : ℕ) → enter-lts.Need-slice-write-discoveries (
+enter-slice-write-discoveries : (t : ℕ) → enter-lts.Need-bounds-discoveries-slot (
   walk-edges-below t,
   walk-edges.Post,
 ) (enter-at t) enter.Post
 enter-slice-write-discoveries t c = search rules
 
 enter-mul-parents :
-    (t : ℕ) → enter-lts.Need-overflow-mul-parents (walk-edges-below t, walk-edges.Post) (enter-at t) enter.Post
+    (t : ℕ) → enter-lts.Need-offset_bounds-parents-slot (walk-edges-below t, walk-edges.Post) (enter-at t) enter.Post
 enter-mul-parents t c = search rules
 
-enter-slice-write-parents : (t : ℕ) → enter-lts.Need-slice-write-parents (
+enter-slice-write-parents : (t : ℕ) → enter-lts.Need-bounds-parents-slot (
   walk-edges-below t,
   walk-edges.Post,
 ) (enter-at t) enter.Post
 enter-slice-write-parents t c = search rules
 
 enter-mul-starts :
-    (t : ℕ) → enter-lts.Need-overflow-mul-starts (walk-edges-below t, walk-edges.Post) (enter-at t) enter.Post
+    (t : ℕ) → enter-lts.Need-offset_bounds-starts-slot (walk-edges-below t, walk-edges.Post) (enter-at t) enter.Post
 enter-mul-starts t c = search rules
 
-enter-slice-write-starts : (t : ℕ) → enter-lts.Need-slice-write-starts (
+enter-slice-write-starts : (t : ℕ) → enter-lts.Need-bounds-starts-slot (
   walk-edges-below t,
   walk-edges.Post,
 ) (enter-at t) enter.Post
 enter-slice-write-starts t c = search rules
 
-enter-walk-edges-requires : (t : ℕ) → enter-lts.Need-walk-edges-requires (
+enter-walk-edges-requires : (t : ℕ) → enter-lts.Need-walk_edges-finished-requires (
   walk-edges-below t,
   walk-edges.Post,
 ) (enter-at t) enter.Post
 enter-walk-edges-requires t c κs =
-    let s = c.before.before.before.before.before.before.before.before.before.before in
-    let a = s.args in
-    let pre = s.requires.1 in (
-      omega (arith, s.requires.0, fresh_set a.discoveries.now a.slot a.time pre.1.1.0 pre.1.1.1),
+    let a = c.args in
+    let pre = c.requires.1 in (
+      omega (arith, c.requires.0, fresh_set a.discoveries.now a.slot a.time pre.1.1.0 pre.1.1.1),
       arrived a.offsets.now a.targets.now a.discoveries.now a.finishes.now a.parents.now a.starts.now a.time a.slot a.parent a.start pre.0 pre.1.0 pre.1.1.0 pre.1.1.1,
     )
 
 enter-add-finished :
     (t : ℕ) →
-    enter-lts.Need-overflow-add-finished (walk-edges-below t, walk-edges.Post) (enter-at t) enter.Post
+    enter-lts.Need-overflow_add-finished (walk-edges-below t, walk-edges.Post) (enter-at t) enter.Post
 enter-add-finished t c =
-    let s = c.before.before.before.before.before.before.before.before.before.before.before.before.before.before.before.before.before.before.before in
-    let a = s.args in
-    let pre = s.requires.1 in
-    let w = c.before.before.before.before.before.before.before.before.walk-edges in
+    let a = c.args in
+    let pre = c.requires.1 in
+    let w = c.walk_edges-finished in
     let α = arrived a.offsets.now a.targets.now a.discoveries.now a.finishes.now a.parents.now a.starts.now a.time a.slot a.parent a.start pre.0 pre.1.0 pre.1.1.0 pre.1.1.1 in
     let done = walked a.offsets.now a.targets.now _ (fresh (set a.discoveries.now a.slot (a.time + 1))) a.slot a.start _ _ α.0 α.1.0 α.1.1 (w.ensures (fresh (set a.discoveries.now a.slot (a.time + 1))) (le_refl _)) in
     omega (arith, done.room)
 
 enter-mul-finishes :
-    (t : ℕ) → enter-lts.Need-overflow-mul-finishes (walk-edges-below t, walk-edges.Post) (enter-at t) enter.Post
+    (t : ℕ) → enter-lts.Need-offset_bounds-finishes-slot (walk-edges-below t, walk-edges.Post) (enter-at t) enter.Post
 enter-mul-finishes t c = search rules
 
-enter-slice-write-finishes : (t : ℕ) → enter-lts.Need-slice-write-finishes (
+enter-slice-write-finishes : (t : ℕ) → enter-lts.Need-bounds-finishes-slot (
   walk-edges-below t,
   walk-edges.Post,
 ) (enter-at t) enter.Post
@@ -112,48 +111,47 @@ enter-slice-write-finishes t c = search rules
 
 enter-same-length :
     (t : ℕ) →
-    enter-lts.Need-same-length (walk-edges-below t, walk-edges.Post) (enter-at t) enter.Post
+    enter-lts.Need-shape_of-discoveries (walk-edges-below t, walk-edges.Post) (enter-at t) enter.Post
 enter-same-length t c =
-    c.before.before.before.before.before.before.before.before.walk-edges.auto.1.1.1.1.1.0 ∙ length-set c.before.before.before.before.before.before.before.before.before.before.before.before.before.before.before.before.before.before.before.args.discoveries.now c.before.before.before.before.before.before.before.before.before.before.before.before.before.before.before.before.before.before.before.args.slot (c.before.before.before.before.before.before.before.before.before.before.before.before.before.before.before.before.before.before.before.args.time + 1)
+    c.walk_edges-finished.auto.discoveries ∙ length-set c.args.discoveries.now c.args.slot (c.args.time + 1)
 
 enter-same-length-2 :
     (t : ℕ) →
-    enter-lts.Need-same-length-2 (walk-edges-below t, walk-edges.Post) (enter-at t) enter.Post
+    enter-lts.Need-shape_of-finishes (walk-edges-below t, walk-edges.Post) (enter-at t) enter.Post
 enter-same-length-2 t c = search rules
 
 enter-same-length-3 :
     (t : ℕ) →
-    enter-lts.Need-same-length-3 (walk-edges-below t, walk-edges.Post) (enter-at t) enter.Post
+    enter-lts.Need-shape_of-parents (walk-edges-below t, walk-edges.Post) (enter-at t) enter.Post
 enter-same-length-3 t c =
-    c.before.before.before.before.before.before.before.before.walk-edges.auto.1.1.1.1.1.1.1.0 ∙ length-set c.before.before.before.before.before.before.before.before.before.before.before.before.before.before.before.before.before.before.before.args.parents.now c.before.before.before.before.before.before.before.before.before.before.before.before.before.before.before.before.before.before.before.args.slot c.before.before.before.before.before.before.before.before.before.before.before.before.before.before.before.before.before.before.before.args.parent
+    c.walk_edges-finished.auto.parents ∙ length-set c.args.parents.now c.args.slot c.args.parent
 
 enter-same-length-4 :
     (t : ℕ) →
-    enter-lts.Need-same-length-4 (walk-edges-below t, walk-edges.Post) (enter-at t) enter.Post
+    enter-lts.Need-shape_of-starts (walk-edges-below t, walk-edges.Post) (enter-at t) enter.Post
 enter-same-length-4 t c =
-    c.before.before.before.before.before.before.before.before.walk-edges.auto.1.1.1.1.1.1.1.1.0 ∙ length-set c.before.before.before.before.before.before.before.before.before.before.before.before.before.before.before.before.before.before.before.args.starts.now c.before.before.before.before.before.before.before.before.before.before.before.before.before.before.before.before.before.before.before.args.slot c.before.before.before.before.before.before.before.before.before.before.before.before.before.before.before.before.before.before.before.args.start
+    c.walk_edges-finished.auto.starts ∙ length-set c.args.starts.now c.args.slot c.args.start
 
 enter-returns :
     (t : ℕ) → enter-lts.Need-returns (walk-edges-below t, walk-edges.Post) (enter-at t) enter.Post
 enter-returns t c =
-    let s = c.before.before.before.before.before.before.before.before.before.before.before.before.before.before.before.before.before.before.before in
-    let a = s.args in
-    let pre = s.requires.1 in
-    let w = c.before.before.before.before.before.before.before.before.walk-edges in
+    let a = c.args in
+    let pre = c.requires.1 in
+    let w = c.walk_edges-finished in
     λ n le. finished (adj_of a.offsets.now a.targets.now) n a.slot a.parent a.start a.time w.result a.discoveries.now a.finishes.now a.parents.now a.starts.now
-    w.new.1.1.1.1.1.0 w.new.1.1.1.1.1.1.0 w.new.1.1.1.1.1.1.1.0 w.new.1.1.1.1.1.1.1.1.0 pre.1.1.0 pre.1.1.1 le w.ensures
+    w.new.discoveries w.new.finishes w.new.parents w.new.starts pre.1.1.0 pre.1.1.1 le w.ensures
 
-abbrev walk-edges-Inv-loop : walk-edges-lts.invariant-loop
+abbrev walk-edges-Inv-loop : walk-edges-lts.invariant-loop-at
 walk-edges-Inv-loop slot start time offsets targets discoveries₀ finishes₀ parents₀ starts₀ t₀ at₀ end discoveries finishes parents starts t at =
     Going offsets targets (length discoveries₀) slot start at₀ end at (stamps t₀ discoveries₀ finishes₀ parents₀ starts₀) (stamps t discoveries finishes parents starts)
 
-abbrev walk-edges-μ-loop : walk-edges-lts.decreases-loop
+abbrev walk-edges-μ-loop : walk-edges-lts.decreases-loop-at
 walk-edges-μ-loop slot start time offsets targets discoveries₀ finishes₀ parents₀ starts₀ t₀ at₀ end discoveries finishes parents starts t at =
     end - at
 
 walk-edges-mul-at :
     (t : ℕ) →
-    walk-edges-lts.Need-overflow-mul-at
+    walk-edges-lts.Need-offset_bounds-offsets-slot
     (enter-below t, enter.Post)
     (walk-edges-at t)
     walk-edges.Post
@@ -161,7 +159,7 @@ walk-edges-mul-at :
     walk-edges-μ-loop
 walk-edges-mul-at t c = search rules
 
-walk-edges-shared-slice-read-at : (t : ℕ) → walk-edges-lts.Need-shared-slice-read-at (
+walk-edges-shared-slice-read-at : (t : ℕ) → walk-edges-lts.Need-bounds-offsets-slot (
   enter-below t,
   enter.Post,
 ) (walk-edges-at t) walk-edges.Post walk-edges-Inv-loop walk-edges-μ-loop
@@ -169,17 +167,17 @@ walk-edges-shared-slice-read-at t c = search rules
 
 walk-edges-cast-at :
     (t : ℕ) →
-    walk-edges-lts.Need-overflow-cast-at
+    walk-edges-lts.Need-overflow_cast-at
     (enter-below t, enter.Post)
     (walk-edges-at t)
     walk-edges.Post
     walk-edges-Inv-loop
     walk-edges-μ-loop
-walk-edges-cast-at t c = omega (arith, c.shared-slice-known3.given c.before.before.before.before.before.before.before.args.slot)
+walk-edges-cast-at t c = omega (arith, c.shared_slice_known-3-1.given c.args.slot)
 
 walk-edges-add-end :
     (t : ℕ) →
-    walk-edges-lts.Need-overflow-add-end
+    walk-edges-lts.Need-overflow_add-end
     (enter-below t, enter.Post)
     (walk-edges-at t)
     walk-edges.Post
@@ -189,7 +187,7 @@ walk-edges-add-end t c = search rules
 
 walk-edges-mul-end :
     (t : ℕ) →
-    walk-edges-lts.Need-overflow-mul-end
+    walk-edges-lts.Need-offset_bounds-offsets-slot-2
     (enter-below t, enter.Post)
     (walk-edges-at t)
     walk-edges.Post
@@ -197,7 +195,7 @@ walk-edges-mul-end :
     walk-edges-μ-loop
 walk-edges-mul-end t c = search rules
 
-walk-edges-shared-slice-read-end : (t : ℕ) → walk-edges-lts.Need-shared-slice-read-end (
+walk-edges-shared-slice-read-end : (t : ℕ) → walk-edges-lts.Need-bounds-offsets-slot-2 (
   enter-below t,
   enter.Post,
 ) (walk-edges-at t) walk-edges.Post walk-edges-Inv-loop walk-edges-μ-loop
@@ -205,78 +203,74 @@ walk-edges-shared-slice-read-end t c = search rules
 
 walk-edges-cast-end :
     (t : ℕ) →
-    walk-edges-lts.Need-overflow-cast-end
+    walk-edges-lts.Need-overflow_cast-end
     (enter-below t, enter.Post)
     (walk-edges-at t)
     walk-edges.Post
     walk-edges-Inv-loop
     walk-edges-μ-loop
-walk-edges-cast-end t c = omega (arith, c.shared-slice-known4.given (c.before.before.before.before.before.before.before.before.args.slot + 1))
+walk-edges-cast-end t c = omega (arith, c.shared_slice_known-4-1.given (c.args.slot + 1))
 
 walk-edges-loop-holds :
     (t : ℕ) →
-    walk-edges-lts.Need-loop-init
+    walk-edges-lts.Need-loop-at-init
     (enter-below t, enter.Post)
     (walk-edges-at t)
     walk-edges.Post
     walk-edges-Inv-loop
     walk-edges-μ-loop
 walk-edges-loop-holds t c =
-    let s = c.before.before.before.before.before.before.before.before in
-    let pre = s.requires.1 in
-    record { within = pre.0.rising s.args.slot pre.1.1; cols = pre.1.0; fewer = le_refl _; same = λ n le. refl }
+    let pre = c.requires.1 in
+    record { within = pre.0.rising c.args.slot pre.1.1; cols = pre.1.0; fewer = le_refl _; same = λ n le. refl }
 
 walk-edges-mul-q :
     (t : ℕ) →
-    walk-edges-lts.Need-overflow-mul-q
+    walk-edges-lts.Need-offset_bounds-targets-at
     (enter-below t, enter.Post)
     (walk-edges-at t)
     walk-edges.Post
     walk-edges-Inv-loop
     walk-edges-μ-loop
 walk-edges-mul-q t c =
-    let s = c.before.before.before.before.before.before.before.before.before.before in
-    omega (arith, s.requires.1.0.inside s.args.slot s.requires.1.1.1, s.well-formed)
+    omega (arith, c.requires.1.0.inside c.args.slot c.requires.1.1.1, c.well_formed)
 
-walk-edges-shared-slice-read-q : (t : ℕ) → walk-edges-lts.Need-shared-slice-read-q (
+walk-edges-shared-slice-read-q : (t : ℕ) → walk-edges-lts.Need-bounds-targets-at (
   enter-below t,
   enter.Post,
 ) (walk-edges-at t) walk-edges.Post walk-edges-Inv-loop walk-edges-μ-loop
 walk-edges-shared-slice-read-q t c =
-    let s = c.before.before.before.before.before.before.before.before.before.before.before in
-    omega (arith, s.requires.1.0.inside s.args.slot s.requires.1.1.1)
+    omega (arith, c.requires.1.0.inside c.args.slot c.requires.1.1.1)
 
 walk-edges-cast-q :
     (t : ℕ) →
-    walk-edges-lts.Need-overflow-cast-q
+    walk-edges-lts.Need-overflow_cast-q
     (enter-below t, enter.Post)
     (walk-edges-at t)
     walk-edges.Post
     walk-edges-Inv-loop
     walk-edges-μ-loop
-walk-edges-cast-q t c = omega (arith, c.shared-slice-known5.given c.before.before.loop.at)
+walk-edges-cast-q t c = omega (arith, c.shared_slice_known-in-loop-at-1.given c.loop-at.at)
 
 walk-edges-mul-if1 :
     (t : ℕ) →
-    walk-edges-lts.Need-overflow-mul-if1
+    walk-edges-lts.Need-offset_bounds-discoveries-q
     (enter-below t, enter.Post)
     (walk-edges-at t)
     walk-edges.Post
     walk-edges-Inv-loop
     walk-edges-μ-loop
-walk-edges-mul-if1 t c = omega (arith, c.shared-slice-known5.given c.before.before.loop.at)
+walk-edges-mul-if1 t c = omega (arith, c.shared_slice_known-in-loop-at-1.given c.loop-at.at)
 
-walk-edges-slice-read-if1 : (t : ℕ) → walk-edges-lts.Need-slice-read-if1 (
+walk-edges-slice-read-if1 : (t : ℕ) → walk-edges-lts.Need-bounds-discoveries-q (
   enter-below t,
   enter.Post,
 ) (walk-edges-at t) walk-edges.Post walk-edges-Inv-loop walk-edges-μ-loop
 walk-edges-slice-read-if1 t c =
-    let s = c.before.before.before.before.before.before.before.before.before.before.before.before in
-    omega (arith, s.requires.1.0.inside s.args.slot s.requires.1.1.1, s.requires.1.0.below c.before.before.before.loop.at (omega (arith, s.requires.1.0.inside s.args.slot s.requires.1.1.1)))
+    omega (arith, c.requires.1.0.inside c.args.slot c.requires.1.1.1, c.requires.1.0.below c.loop-at.at (omega (arith, c.requires.1.0.inside c.args.slot c.requires.1.1.1)))
 
 walk-edges-cast-enter :
     (t : ℕ) →
-    walk-edges-lts.Need-overflow-cast-enter
+    walk-edges-lts.Need-overflow_cast-slot
     (enter-below t, enter.Post)
     (walk-edges-at t)
     walk-edges.Post
@@ -284,40 +278,38 @@ walk-edges-cast-enter :
     walk-edges-μ-loop
 walk-edges-cast-enter t c = search rules
 
-walk-edges-enter-requires : (t : ℕ) → walk-edges-lts.Need-enter-requires (
+walk-edges-enter-requires : (t : ℕ) → walk-edges-lts.Need-enter-t-requires (
   enter-below t,
   enter.Post,
 ) (walk-edges-at t) walk-edges.Post walk-edges-Inv-loop walk-edges-μ-loop
 walk-edges-enter-requires t c κs =
-    let s = c.before.before.before.before.before.before.before.before.before.before.before.before.before.before.before.before.before in
-    let pre = s.requires.1 in
-    let l = c.before.before.before.before.before.before.before.before.loop in
-    let below = pre.0.below l.at (omega (arith, pre.0.inside s.args.slot pre.1.1)) in (
-      omega (arith, s.requires.0, l.invariant.fewer),
+    let pre = c.requires.1 in
+    let l = c.loop-at in
+    let below = pre.0.below l.at (omega (arith, pre.0.inside c.args.slot pre.1.1)) in (
+      omega (arith, c.requires.0, l.invariant.fewer),
       (
-        subst (Graph s.args.offsets.now s.args.targets.now) (sym l.invariant.cols.discs) pre.0,
+        subst (Graph c.args.offsets.now c.args.targets.now) (sym l.invariant.cols.discs) pre.0,
         (
           subst (λ (k : ℕ). Columns k (stamps l.t l.discoveries l.finishes l.parents l.starts)) (sym l.invariant.cols.discs) l.invariant.cols,
-          (subst (λ (k : ℕ). get_or s.args.targets.now l.at 0 < k) (sym l.invariant.cols.discs) below, c.before.before.before.before.if1.true),
+          (subst (λ (k : ℕ). get_or c.args.targets.now l.at 0 < k) (sym l.invariant.cols.discs) below, c.if-discoveries-q-eq0.true),
         ),
       ),
     )
 
 walk-edges-add-at :
     (t : ℕ) →
-    walk-edges-lts.Need-overflow-add-at
+    walk-edges-lts.Need-overflow_add-at
     (enter-below t, enter.Post)
     (walk-edges-at t)
     walk-edges.Post
     walk-edges-Inv-loop
     walk-edges-μ-loop
 walk-edges-add-at t c =
-    let s = c.before.before.before.before.before.before.before.before.before.before.before.before.before in
-    omega (arith, s.requires.1.0.inside s.args.slot s.requires.1.1.1, s.well-formed)
+    omega (arith, c.requires.1.0.inside c.args.slot c.requires.1.1.1, c.well_formed)
 
 walk-edges-loop-less :
     (t : ℕ) →
-    walk-edges-lts.Need-loop-smaller
+    walk-edges-lts.Need-loop-at-smaller
     (enter-below t, enter.Post)
     (walk-edges-at t)
     walk-edges.Post
@@ -327,28 +319,32 @@ walk-edges-loop-less t c = search rules
 
 walk-edges-loop-again :
     (t : ℕ) →
-    walk-edges-lts.Need-loop-preserved
+    walk-edges-lts.Need-loop-at-preserved
     (enter-below t, enter.Post)
     (walk-edges-at t)
     walk-edges.Post
     walk-edges-Inv-loop
     walk-edges-μ-loop
 walk-edges-loop-again t c =
-    let s = c.before.before.before.before.before.before.before.before.before.before.before.before.before in
-    let pre = s.requires.1 in
-    let a = s.args in
-    let l = c.before.before.before.before.loop in
+    let pre = c.requires.1 in
+    let a = c.args in
+    let l = c.loop-at in
     going_step a.offsets.now a.targets.now (length a.discoveries.now) a.slot a.start (get_or a.offsets.now a.slot 0) (get_or a.offsets.now (a.slot + 1) 0) l.at
-    (stamps a.time a.discoveries.now a.finishes.now a.parents.now a.starts.now) (stamps l.t l.discoveries l.finishes l.parents l.starts) (stamps c.if1.t c.if1.discoveries c.if1.finishes c.if1.parents c.if1.starts)
-    pre.0 pre.1.1 (pre.0.inside a.slot pre.1.1) c.before.before.before.loop-test.true l.invariant
-    (λ n le. ⊎_elim (λ w. stamps_eq w.14 w.15 w.16 w.17 w.18
-    ∙ w.5.ensures n (le_trans l.invariant.fewer le)
-    ∙ sym (edge_new (λ q. enters n (adj_of a.offsets.now a.targets.now) a.start a.slot q) (get_or a.targets.now l.at 0) (stamps l.t l.discoveries l.finishes l.parents l.starts) w.0.taken)) (λ w. stamps_eq w.1 w.2 w.3 w.4 w.5
-    ∙ sym (edge_old (λ q. enters n (adj_of a.offsets.now a.targets.now) a.start a.slot q) (get_or a.targets.now l.at 0) (stamps l.t l.discoveries l.finishes l.parents l.starts) w.0.left)) c.if1.branch)
+    (stamps a.time a.discoveries.now a.finishes.now a.parents.now a.starts.now) (stamps l.t l.discoveries l.finishes l.parents l.starts) (stamps c.if-discoveries-q-eq0.t c.if-discoveries-q-eq0.discoveries c.if-discoveries-q-eq0.finishes c.if-discoveries-q-eq0.parents c.if-discoveries-q-eq0.starts)
+    pre.0 pre.1.1 (pre.0.inside a.slot pre.1.1) c.loop-at-test.true l.invariant
+    (λ n le. elim c.if-discoveries-q-eq0.branch [
+      | then-discoveries-q-eq0 w ↦
+        stamps_eq w.discoveries-is w.finishes-is w.parents-is w.starts-is w.t-is
+        ∙ w.enter-t.ensures n (le_trans l.invariant.fewer le)
+        ∙ sym (edge_new (λ q. enters n (adj_of a.offsets.now a.targets.now) a.start a.slot q) (get_or a.targets.now l.at 0) (stamps l.t l.discoveries l.finishes l.parents l.starts) w.if-discoveries-q-eq0.true)
+      | else-discoveries-q-eq0 w ↦
+        stamps_eq w.discoveries-is w.finishes-is w.parents-is w.starts-is w.t-is
+        ∙ sym (edge_old (λ q. enters n (adj_of a.offsets.now a.targets.now) a.start a.slot q) (get_or a.targets.now l.at 0) (stamps l.t l.discoveries l.finishes l.parents l.starts) w.if-discoveries-q-eq0.false)
+    ])
 
 walk-edges-same-length :
     (t : ℕ) →
-    walk-edges-lts.Need-same-length
+    walk-edges-lts.Need-shape_of-discoveries
     (enter-below t, enter.Post)
     (walk-edges-at t)
     walk-edges.Post
@@ -358,7 +354,7 @@ walk-edges-same-length t c = search rules
 
 walk-edges-same-length-2 :
     (t : ℕ) →
-    walk-edges-lts.Need-same-length-2
+    walk-edges-lts.Need-shape_of-finishes
     (enter-below t, enter.Post)
     (walk-edges-at t)
     walk-edges.Post
@@ -368,7 +364,7 @@ walk-edges-same-length-2 t c = search rules
 
 walk-edges-same-length-3 :
     (t : ℕ) →
-    walk-edges-lts.Need-same-length-3
+    walk-edges-lts.Need-shape_of-parents
     (enter-below t, enter.Post)
     (walk-edges-at t)
     walk-edges.Post
@@ -378,7 +374,7 @@ walk-edges-same-length-3 t c = search rules
 
 walk-edges-same-length-4 :
     (t : ℕ) →
-    walk-edges-lts.Need-same-length-4
+    walk-edges-lts.Need-shape_of-starts
     (enter-below t, enter.Post)
     (walk-edges-at t)
     walk-edges.Post
@@ -395,14 +391,13 @@ walk-edges-returns :
     walk-edges-Inv-loop
     walk-edges-μ-loop
 walk-edges-returns t c =
-    let s = c.before.before.before.before.before.before.before.before.before.before in
-    let a = s.args in
-    let l = c.before.loop in
+    let a = c.args in
+    let l = c.loop-at in
     going_done a.offsets.now a.targets.now (length a.discoveries.now) a.slot a.start (get_or a.offsets.now (a.slot + 1) 0) l.at
-    (stamps a.time a.discoveries.now a.finishes.now a.parents.now a.starts.now) (stamps l.t l.discoveries l.finishes l.parents l.starts) c.loop-test.false refl l.invariant
+    (stamps a.time a.discoveries.now a.finishes.now a.parents.now a.starts.now) (stamps l.t l.discoveries l.finishes l.parents l.starts) c.loop-at-test.false refl l.invariant
 
-pub +enter-walk-edges-spec : {M : Type 1} → statement M
-+enter-walk-edges-spec = close μ-enter μ-walk-edges (λ t. enter-lts.spec (
+pub +enter_walk_edges_spec : {M : Type 1} → statement M
++enter_walk_edges_spec = close μ-enter μ-walk-edges (λ t. enter-lts.spec (
   walk-edges-below t,
   walk-edges.Post,
 )

@@ -13,32 +13,32 @@ use Rattle.window.proofs.keep.Lts as lts
 use Rattle.window.proofs.leave.Reads as leave-reads
 use Rattle.window.proofs.put.Reads as put_reads
 
-leave-requires : tie.Need-leave-requires
-leave-requires c κs = let s = c.before.before.before.before.before in rule_full s.requires.0.rule c.before.before.if1.true
+leave-requires : tie.Need-leave-left-requires
+leave-requires c κs = rule_full c.requires.0.rule c.if-window-eq64.true
 
 put-requires : tie.Need-put-requires
-put-requires c κs = let s = c.before.before.before.before.before.before.before.before.before.before.before in let full = c.before.before.before.before.before.before.before.before.if1.true in (subst Room (sym c.before.before.before.before.before.leave.ensures) (rule_room (left_ruled s.requires.0.rule full) (left_few (places s.args.sizes.now s.args.learnt.now s.args.window) full)), s.requires.1, s.requires.2)
+put-requires c κs = let full = c.if-window-eq64.true in (subst Room (sym c.leave-left.ensures) (rule_room (left_ruled c.requires.0.rule full) (left_few (places c.args.sizes.now c.args.learnt.now c.args.window) full)), c.requires.1, c.requires.2)
 
-same_length : tie.Need-same-length
+same_length : tie.Need-shape_of-sizes-then-window-eq64
 same_length c = search rules
 
-same-length-2 : tie.Need-same-length-2
+same-length-2 : tie.Need-shape_of-learnt-then-window-eq64
 same-length-2 c = search rules
 
-returns : tie.Need-returns
-returns c = let s = c.before.before.before.before.before.before.before.before.before.before.before.before.before.before.before in λ C r e. c.before.before.before.put.ensures ∙ ap (put_record s.args.row.now s.args.size) c.before.before.before.before.before.before.before.before.before.leave.ensures ∙ keep_full C s.args.row.now s.args.size (places s.args.sizes.now s.args.learnt.now s.args.window) r e c.before.before.before.before.before.before.before.before.before.before.before.before.if1.true
+returns : tie.Need-returns-then-window-eq64
+returns c = λ C r e. c.put.ensures ∙ ap (put_record c.args.row.now c.args.size) c.leave-left.ensures ∙ keep_full C c.args.row.now c.args.size (places c.args.sizes.now c.args.learnt.now c.args.window) r e c.if-window-eq64.true
 
 put-requires-2 : tie.Need-put-requires-2
-put-requires-2 c κs = let s = c.before.before.before.before.before in (rule_room s.requires.0.rule (omega (arith, s.requires.0.rule.few, c.before.before.if1.false)), s.requires.1, s.requires.2)
+put-requires-2 c κs = (rule_room c.requires.0.rule (omega (arith, c.requires.0.rule.few, c.if-window-eq64.false)), c.requires.1, c.requires.2)
 
-same-length-3 : tie.Need-same-length-3
+same-length-3 : tie.Need-shape_of-sizes
 same-length-3 c = search rules
 
-same-length-4 : tie.Need-same-length-4
+same-length-4 : tie.Need-shape_of-learnt
 same-length-4 c = search rules
 
-returns-2 : tie.Need-returns-2
-returns-2 c = let s = c.before.before.before.before.before.before.before.before.before in λ C r e. c.before.before.before.put2.ensures ∙ keep_room C s.args.row.now s.args.size (places s.args.sizes.now s.args.learnt.now s.args.window) r e c.before.before.before.before.before.before.if1.false
+returns-2 : tie.Need-returns
+returns-2 c = λ C r e. c.put-2.ensures ∙ keep_room C c.args.row.now c.args.size (places c.args.sizes.now c.args.learnt.now c.args.window) r e c.if-window-eq64.false
 
 pub keep_spec : {M : Type 1} → statement M
 keep_spec =

@@ -11,47 +11,47 @@ use Rattle.window.proofs.move_records.Tie as tie
 use Rattle.window.proofs.move_records.Reads as reads
 use Rattle.window.proofs.move_records.Lts as lts
 
-abbrev invariant-loop : tie.invariant-loop
+abbrev invariant-loop : tie.invariant-loop-i
 invariant-loop learnt₀ i₀ learnt i = Moving (pos 0) 64 4096 learnt₀ learnt i × (4096 ≤ length learnt₀)
 
-abbrev decreases-loop : tie.decreases-loop
+abbrev decreases-loop : tie.decreases-loop-i
 decreases-loop learnt₀ i₀ learnt i = 4032 - i
 
-loop-holds : tie.Need-loop-init invariant-loop decreases-loop
+loop-holds : tie.Need-loop-i-init invariant-loop decreases-loop
 loop-holds c = (moving_begin (pos 0) c.args.learnt.now, c.requires)
 
-add-learnt : tie.Need-overflow-add-learnt invariant-loop decreases-loop
+add-learnt : tie.Need-overflow_add-learnt invariant-loop decreases-loop
 add-learnt c = search rules
 
-mul-learnt : tie.Need-overflow-mul-learnt invariant-loop decreases-loop
+mul-learnt : tie.Need-offset_bounds-learnt-i invariant-loop decreases-loop
 mul-learnt c = search rules
 
-slice-copy-out-learnt : tie.Need-slice-copy-out-learnt invariant-loop decreases-loop
-slice-copy-out-learnt c = omega (arith, c.before.loop.invariant.0.length, c.before.loop.invariant.1)
+slice-copy-out-learnt : tie.Need-slice_copy_out-learnt invariant-loop decreases-loop
+slice-copy-out-learnt c = omega (arith, c.loop-i.invariant.0.length, c.loop-i.invariant.1)
 
-mul-t8 : tie.Need-overflow-mul-t8 invariant-loop decreases-loop
+mul-t8 : tie.Need-offset_bounds-learnt-i-in-loop-i invariant-loop decreases-loop
 mul-t8 c = search rules
 
-slice-set-from-learnt : tie.Need-slice-set-from-learnt invariant-loop decreases-loop
-slice-set-from-learnt c = omega (arith, c.before.before.loop.invariant.0.length, c.before.before.loop.invariant.1)
+slice-set-from-learnt : tie.Need-bounds-learnt-i invariant-loop decreases-loop
+slice-set-from-learnt c = omega (arith, c.loop-i.invariant.0.length, c.loop-i.invariant.1)
 
-add-i : tie.Need-overflow-add-i invariant-loop decreases-loop
+add-i : tie.Need-overflow_add-i invariant-loop decreases-loop
 add-i c = search rules
 
-loop-less : tie.Need-loop-smaller invariant-loop decreases-loop
+loop-less : tie.Need-loop-i-smaller invariant-loop decreases-loop
 loop-less c = search rules
 
-loop-again : tie.Need-loop-preserved invariant-loop decreases-loop
-loop-again c = (rw (read c.before.before.loop.learnt (c.before.before.loop.i + 64) c.learnt.given) (moving_next (pos 0) c.before.before.loop.invariant.0 (omega arith) c.before.before.loop.invariant.1), c.before.before.loop.invariant.1)
+loop-again : tie.Need-loop-i-preserved invariant-loop decreases-loop
+loop-again c = (rw (read c.loop-i.learnt (c.loop-i.i + 64) c.learnt-1.given) (moving_next (pos 0) c.loop-i.invariant.0 (omega arith) c.loop-i.invariant.1), c.loop-i.invariant.1)
 
-same_length : tie.Need-same-length invariant-loop decreases-loop
-same_length c = c.before.loop.invariant.0.length
+same_length : tie.Need-shape_of-learnt invariant-loop decreases-loop
+same_length c = c.loop-i.invariant.0.length
 
 returns : tie.Need-returns invariant-loop decreases-loop
-returns c = moving_end (pos 0) c.before.loop.invariant.0 (omega arith) (omega arith) c.before.loop.invariant.1
+returns c = moving_end (pos 0) c.loop-i.invariant.0 (omega arith) (omega arith) c.loop-i.invariant.1
 
-pub move-records-spec : {M : Type 1} → statement M
-move-records-spec =
+pub move_records_spec : {M : Type 1} → statement M
+move_records_spec =
     tie.close
     (tie.spec
     invariant-loop

@@ -10,14 +10,17 @@ use Rattle.window.proofs.newcomer_ok.Reads as reads
 use Rattle.window.proofs.newcomer_ok.Lts as lts
 use Rattle.window.proofs.clause_ok.Reads as clause-ok-reads
 
-slice-aggregate-clause-ok : tie.Need-slice-aggregate-clause-ok
+slice-aggregate-clause-ok : tie.Need-slice_bounds-clause_ok-end
 slice-aggregate-clause-ok c = search rules
 
-clause-ok-requires : tie.Need-clause-ok-requires
-clause-ok-requires c κs = let n = none_below 1 (omega arith) (replicate 1024 0) refl in (λ few. omega arith, c.before.requires.0, c.before.requires.1, refl, n.1)
+clause-ok-requires : tie.Need-clause_ok-requires
+clause-ok-requires c κs = let n = none_below 1 (omega arith) (replicate 1024 0) refl in (λ few. omega arith, c.requires.0, c.requires.1, refl, n.1)
 
 returns : tie.Need-returns
 returns c = search rules
 
-pub newcomer-ok-spec : {M : Type 1} → statement M
-newcomer-ok-spec = tie.close (tie.spec slice-aggregate-clause-ok clause-ok-requires returns)
+pub newcomer_ok_spec : {M : Type 1} → statement M
+newcomer_ok_spec = tie.close (tie.spec
+    slice-aggregate-clause-ok
+    clause-ok-requires
+    returns)

@@ -5,36 +5,36 @@ use borrow.Author.Rules.{rules}
 use Rattle.state.proofs.Programme.constant.Statement.{statement}
 use Rattle.state.proofs.Programme.constant.Tie as tie
 
-array-read-codes : tie.Need-array-read-codes
+array-read-codes : tie.Need-bounds-0
 array-read-codes c = search rules
 
-array-write-codes : tie.Need-array-write-codes
+array-write-codes : tie.Need-bounds-codes-0
 array-write-codes c = search rules
 
-array-read-codes-2 : tie.Need-array-read-codes-2
+array-read-codes-2 : tie.Need-bounds-1
 array-read-codes-2 c = search rules
 
-array-write-codes-2 : tie.Need-array-write-codes-2
+array-write-codes-2 : tie.Need-bounds-codes-1
 array-write-codes-2 c = search rules
 
-array-read-codes-3 : tie.Need-array-read-codes-3
+array-read-codes-3 : tie.Need-bounds-2
 array-read-codes-3 c = search rules
 
-array-write-codes-3 : tie.Need-array-write-codes-3
+array-write-codes-3 : tie.Need-bounds-codes-2
 array-write-codes-3 c = search rules
 
-array-read-codes-4 : tie.Need-array-read-codes-4
+array-read-codes-4 : tie.Need-bounds-3
 array-read-codes-4 c = search rules
 
-array-write-codes-4 : tie.Need-array-write-codes-4
+array-write-codes-4 : tie.Need-bounds-codes-3
 array-write-codes-4 c = search rules
 
 returns : tie.Need-returns
 unfolding constant_programme programme_of
 returns c = refl
 
-pub constant-spec : {M : Type 1} → statement M
-constant-spec =
+pub constant_spec : {M : Type 1} → statement M
+constant_spec =
     tie.close
     (tie.spec
     array-read-codes

@@ -15,7 +15,10 @@ of-requires : tie.Need-of-requires
 of-requires c κs = search rules
 
 returns : tie.Need-returns
-returns c = c.of.ensures ∙ ap (λ (p : Programme). state 0 0 Idle false false p) c.before.constant.ensures
+returns c = c.of.ensures ∙ ap (λ (p : Programme). state 0 0 Idle false false p) c.constant.ensures
 
-pub empty-spec : {M : Type 1} → statement M
-empty-spec = tie.close (tie.spec constant-requires of-requires returns)
+pub empty_spec : {M : Type 1} → statement M
+empty_spec = tie.close (tie.spec
+    constant-requires
+    of-requires
+    returns)

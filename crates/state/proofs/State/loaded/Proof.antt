@@ -8,14 +8,17 @@ use borrow.Author.Rules.{rules}
 use Rattle.state.proofs.State.loaded.Statement.{statement}
 use Rattle.state.proofs.State.loaded.Tie as tie
 
-constant-requires : tie.Need-constant-requires
+constant-requires : tie.Need-constant-programme-requires
 constant-requires c κs = search rules
 
 of-requires : tie.Need-of-requires
 of-requires c κs = search rules
 
 returns : tie.Need-returns
-returns c = c.of.ensures ∙ ap (λ (p : Programme). state c.before.before.args.v c.before.before.args.n Idle false c.before.before.args.mark p) c.before.constant.ensures
+returns c = c.of.ensures ∙ ap (λ (p : Programme). state c.args.v c.args.n Idle false c.args.mark p) c.constant-programme.ensures
 
-pub loaded-spec : {M : Type 1} → statement M
-loaded-spec = tie.close (tie.spec constant-requires of-requires returns)
+pub loaded_spec : {M : Type 1} → statement M
+loaded_spec = tie.close (tie.spec
+    constant-requires
+    of-requires
+    returns)
