@@ -274,6 +274,16 @@ def turn(text, entry, function, said, tie_name="tie", cycle=False):
                 for i, at in where.items():
                     if i < len(words):
                         env[words[i]] = at
+        # a name for an earlier place in a module over a place
+        if mod:
+            for mm in list(re.finditer(r"(?m)^  abbrev (%s) : tie\.(%s)[^\n]*\n  \1 = (%s)((?:\.before)*)$" % (W, W, W), body)):
+                q = places.by_old.get(norm(mm.group(2)))
+                if mm.group(3) in env and q is not None and env[mm.group(3)] is not None:
+                    n = places.steps(env[mm.group(3)], q)
+                    if n is not None:
+                        head = mm.group(0).rsplit(" = ", 1)[0]
+                        body = body.replace(mm.group(0), head + " = " + mm.group(3) + ".BEFORE" * n)
+                        env[mm.group(1)] = q
         # names of earlier places, by let
         for _ in range(6):
             for mm in re.finditer(r"let (%s) = (%s)((?:\.before)*) in" % (W, W), body):
@@ -323,6 +333,13 @@ def turn(text, entry, function, said, tie_name="tie", cycle=False):
             def flat(mm):
                 v, field = mm.group(1), mm.group(2)
                 new = places.field_at(env[v], field) if field else None
+                if not new and field in OLD_WORDS:
+                    new = OLD_WORDS[field]
+                if new and new.endswith("-1") and mm.string[mm.end() :].startswith(".given.1") and env[v] is not None:
+                    # the equation of an arm
+                    arm = next((places.field[i][1] for i in places.up(env[v]) if places.field[i][1].startswith("in-")), None)
+                    if arm:
+                        return v + "." + arm + ".ARM"
                 return v + ("." + (new or field) if field else "")
 
             def positions(mm):
@@ -341,7 +358,7 @@ def turn(text, entry, function, said, tie_name="tie", cycle=False):
                 if not fields:
                     return mm.group(0)
                 f, rest = by_place(fields, tail)
-                return f"{v}{step or ''}.{kind}.{f}{rest}" if f else mm.group(0)
+                return f"{v}{step or ''}.{'new' if kind == 'last' else kind}.{f}{rest}" if f else mm.group(0)
 
             body = re.sub(r"(?<![\w.'-])(%s)(?:\.before)*(?:\.(?!before|BEFORE)(%s))?(?![\w'-])" % (names, W), flat, body)
             for mm in re.finditer(r"let (%s) = (%s)((?:\.%s)*) in" % (W, names, W), body):
@@ -360,8 +377,9 @@ def turn(text, entry, function, said, tie_name="tie", cycle=False):
                     return a + got2[len(f"{v}{step or ''}{kind or ''}") :] if got2 != probe else mm.group(0)
 
                 body = re.sub(r"(?<![\w.'-])%s((?:\.(?:new|auto|last|requires|ensures))?(?:\.[01])+)" % re.escape(a), through, body)
-            body = body.replace(".BEFORE", ".before")
+            body = body.replace(".BEFORE", ".before").replace(".ARM.given.1", ".is")
             # a name that an earlier place had is the place itself now
+        body = re.sub(r"(?<=\.args\.)(%s)" % W, lambda mm: mm.group(1).replace("-", "_"), body)
         body = body.replace(".type-inv", ".type_inv").replace(".well-formed", ".well_formed")
         body = re.sub(r"(?<=\.)(%s)" % W, lambda mm: mm.group(1).replace("-", "_") if "-" in mm.group(1) and mm.group(1).replace("-", "_") in FIELDS else mm.group(1), body)
         body = re.sub(r"(?<=[{;] )(%s)(?= =)" % W, lambda mm: mm.group(1).replace("-", "_") if "-" in mm.group(1) and mm.group(1).replace("-", "_") in FIELDS else mm.group(1), body)
@@ -403,6 +421,8 @@ def turn(text, entry, function, said, tie_name="tie", cycle=False):
     order = [back.get(i, needs[i][1] + "'") for i in range(len(needs))]
     if listed and not cycle:
         text = re.sub(r"\(tie\.spec\s[^()]*\)", lambda _: "(tie.spec\n    " + "\n    ".join(others + order) + ")", text)
+    if "{w = w32}" in text and not re.search(r"(?m)^use .*[{ ]w32[,}]", text):
+        text = re.sub(r"(?m)^use ", "use mir.Syntax.{w32}\nuse ", text, count=1)
     if cycle:
         return text
     text = re.sub(r"(?m)^pub (\S+)-spec( :| =)", lambda q: "pub " + function + "_spec" + q.group(2), text)
@@ -433,6 +453,7 @@ def own_fields():
 
 
 FIELDS = set()
+OLD_WORDS = {"pre": "requires", "fits": "ranges"}
 
 
 def main(args):

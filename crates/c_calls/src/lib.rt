@@ -36,8 +36,8 @@ pub extern "C" fn unhide_load(
     learnt: &mut [i32],
     window: &mut [u32],
 ) -> i64
-    ensures { after_load_c (after_c result answer.new state.new (returned clauses literals variables times links)) sizes.new learnt.new window.new
-        ≡ load_c (load_with text.now) (lent clauses literals variables times links) state.old answer.old sizes.old learnt.old window.old }
+    ensures { after_load_c (after_c result answer.new state.new (returned clauses.new literals.new variables.new times.now links.now)) sizes.new learnt.new window.new
+        ≡ load_c (load_with text.now) (lent clauses.old literals.old variables.old times.now links.now) state.old answer.old sizes.old learnt.old window.old }
 {
     if !c_numbers::ready_with(state, answer, window) {
         return c_numbers::refuse_unread(answer);
@@ -70,8 +70,8 @@ pub extern "C" fn unhide_join(
     learnt: &mut [i32],
     window: &mut [u32],
 ) -> i64
-    ensures { after_load_c (after_c result answer.new state.new (returned clauses literals variables times links)) sizes.new learnt.new window.new
-        ≡ load_c (join_with left.now right.now pairs.now) (lent clauses literals variables times links) state.old answer.old sizes.old learnt.old window.old }
+    ensures { after_load_c (after_c result answer.new state.new (returned clauses.new literals.new variables.new times.now links.now)) sizes.new learnt.new window.new
+        ≡ load_c (join_with left.now right.now pairs.now) (lent clauses.old literals.old variables.old times.now links.now) state.old answer.old sizes.old learnt.old window.old }
 {
     if !c_numbers::ready_with(state, answer, window) {
         return c_numbers::refuse_unread(answer);
@@ -99,8 +99,8 @@ pub extern "C" fn unhide_propagate(
     answer: &mut [u64],
     n: u16,
 ) -> i64
-    ensures { after_c result answer.new state.new (returned clauses literals variables times links)
-        ≡ call_c (propagate_call n) (lent clauses literals variables times links) state.old answer.old }
+    ensures { after_c result answer.new state.new (returned clauses.new literals.new variables.new times.now links.now)
+        ≡ call_c (propagate_call n) (lent clauses.old literals.old variables.old times.now links.now) state.old answer.old }
 {
     if !c_numbers::ready(state, answer) {
         return c_numbers::refuse_unread(answer);
@@ -122,8 +122,8 @@ pub extern "C" fn unhide_merge(
     answer: &mut [u64],
     n: u16,
 ) -> i64
-    ensures { after_c result answer.new state.new (returned clauses literals variables times links)
-        ≡ call_c (merge_call n) (lent clauses literals variables times links) state.old answer.old }
+    ensures { after_c result answer.new state.new (returned clauses.new literals.new variables.new times.now links.now)
+        ≡ call_c (merge_call n) (lent clauses.old literals.old variables.old times.now links.now) state.old answer.old }
 {
     if !c_numbers::ready(state, answer) {
         return c_numbers::refuse_unread(answer);
@@ -145,8 +145,8 @@ pub extern "C" fn unhide_stamp(
     answer: &mut [u64],
     order: &[i32],
 ) -> i64
-    ensures { after_c result answer.new state.new (returned clauses literals variables times links)
-        ≡ call_c (stamp_call order.now) (lent clauses literals variables times links) state.old answer.old }
+    ensures { after_c result answer.new state.new (returned clauses.now literals.now variables.now times.new links.new)
+        ≡ call_c (stamp_call order.now) (lent clauses.now literals.now variables.now times.old links.old) state.old answer.old }
 {
     if !c_numbers::ready(state, answer) {
         return c_numbers::refuse_unread(answer);
@@ -167,8 +167,8 @@ pub extern "C" fn unhide_failed(
     state: &mut [u32],
     answer: &mut [u64],
 ) -> i64
-    ensures { after_c result answer.new state.new (returned clauses literals variables times links)
-        ≡ call_c failed_call (lent clauses literals variables times links) state.old answer.old }
+    ensures { after_c result answer.new state.new (returned clauses.now literals.now variables.new times.now links.now)
+        ≡ call_c failed_call (lent clauses.now literals.now variables.old times.now links.now) state.old answer.old }
 {
     if !c_numbers::ready(state, answer) {
         return c_numbers::refuse_unread(answer);
@@ -190,8 +190,8 @@ pub extern "C" fn unhide_sweep(
     answer: &mut [u64],
     n: u16,
 ) -> i64
-    ensures { after_c result answer.new state.new (returned clauses literals variables times links)
-        ≡ call_c (sweep_call n) (lent clauses literals variables times links) state.old answer.old }
+    ensures { after_c result answer.new state.new (returned clauses.new literals.new variables.now times.now links.now)
+        ≡ call_c (sweep_call n) (lent clauses.old literals.old variables.now times.now links.now) state.old answer.old }
 {
     if !c_numbers::ready(state, answer) {
         return c_numbers::refuse_unread(answer);
@@ -217,7 +217,7 @@ pub extern "C" fn unhide_learn(
     window: &mut [u32],
 ) -> i64
     ensures { after_learn_c result answer.new sizes.new learnt.new window.new
-        ≡ learn_c (learn_call newcomer.now) (lent clauses literals variables times links) state.now answer.old sizes.old learnt.old window.old }
+        ≡ learn_c (learn_call newcomer.now) (lent clauses.now literals.now variables.now times.now links.now) state.now answer.old sizes.old learnt.old window.old }
 {
     if !c_numbers::ready_with(state, answer, window) {
         return c_numbers::refuse_unread(answer);
@@ -245,8 +245,8 @@ pub extern "C" fn unhide_run(
     answer: &mut [u64],
     count: u16,
 ) -> i64
-    ensures { after_c result answer.new state.new (returned clauses literals variables times links)
-        ≡ call_c (run_call count) (lent clauses literals variables times links) state.old answer.old }
+    ensures { after_c result answer.new state.new (returned clauses.new literals.new variables.new times.new links.new)
+        ≡ call_c (run_call count) (lent clauses.old literals.old variables.old times.old links.old) state.old answer.old }
 {
     if !c_numbers::ready(state, answer) {
         return c_numbers::refuse_unread(answer);
@@ -268,8 +268,8 @@ pub extern "C" fn unhide_set_programme(
     answer: &mut [u64],
     codes: &[u32],
 ) -> i64
-    ensures { after_c result answer.new state.new (returned clauses literals variables times links)
-        ≡ call_c (set_call codes.now) (lent clauses literals variables times links) state.old answer.old }
+    ensures { after_c result answer.new state.new (returned clauses.now literals.now variables.now times.now links.now)
+        ≡ call_c (set_call codes.now) (lent clauses.now literals.now variables.now times.now links.now) state.old answer.old }
 {
     if !c_numbers::ready(state, answer) {
         return c_numbers::refuse_unread(answer);
@@ -294,7 +294,7 @@ pub extern "C" fn unhide_write(
     out: &mut [u8],
 ) -> i64
     ensures { after_write_c result answer.new out.new
-        ≡ text_c write_call (lent clauses literals variables times links) state.now answer.old out.old }
+        ≡ text_c write_call (lent clauses.now literals.now variables.now times.now links.now) state.now answer.old out.old }
 {
     if !c_numbers::ready(state, answer) {
         return c_numbers::refuse_unread(answer);
@@ -318,7 +318,7 @@ pub extern "C" fn unhide_explain(
     out: &mut [u8],
 ) -> i64
     ensures { after_write_c result answer.new out.new
-        ≡ text_c (explain_call number) (lent clauses literals variables times links) state.now answer.old out.old }
+        ≡ text_c (explain_call number) (lent clauses.now literals.now variables.now times.now links.now) state.now answer.old out.old }
 {
     if !c_numbers::ready(state, answer) {
         return c_numbers::refuse_unread(answer);

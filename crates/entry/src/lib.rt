@@ -73,7 +73,7 @@ pub fn entry_of(
     st: State,
     own: PassName,
 ) -> Entry
-    ensures { result ≡ entry_of own (lent clauses literals variables times links) st }
+    ensures { result ≡ entry_of own (lent clauses.now literals.now variables.now times.now links.now) st }
 {
     if !shape::shape_ok(clauses, literals, variables, times, links, st) {
         return Entry::No(Refusal::Shape);
@@ -108,7 +108,7 @@ pub fn may_open(
     links: &[i32],
     st: State,
 ) -> Opening
-    ensures { result ≡ opening_of (lent clauses literals variables times links) st }
+    ensures { result ≡ opening_of (lent clauses.now literals.now variables.now times.now links.now) st }
 {
     if !shape::shape_ok(clauses, literals, variables, times, links, st) {
         return Opening::Denied(Refusal::Shape);

@@ -7,7 +7,7 @@ ghost use Rattle.stamp_columns.specs.Columns.{columns};
 ghost use Rattle.hidden.specs.Hidden.{holds, unhidden};
 ghost use Rattle.clause_slots.specs.Stamped.{Stamped};
 ghost use Rattle.state.specs.declared.Verdict.TheVariants.{Nothing, Drop};
-ghost use Rattle.tables.specs.Lent.{lent, unlent};
+ghost use Rattle.tables.specs.Lent.{lent};
 ghost use Rattle.visits.specs.Visited.{part_of, part_after};
 ghost use Rattle.sweep_visits.specs.Clause.{sweep_clause};
 ghost use Rattle.write.specs.Write.{after_write};
@@ -320,7 +320,7 @@ fn unless_stale(
     out: &mut [u8],
 ) -> Answer
     requires { Ready clauses.now literals.now times.now links.now st }
-    ensures { (variables : List ℤ) → after_write result out.new ≡ explain_unless_stale st.fresh number (lent clauses literals (unlent variables) times links) st out.old }
+    ensures { (variables : List ℤ) → after_write result out.new ≡ explain_unless_stale st.fresh number (lent clauses.now literals.now variables times.now links.now) st out.old }
 {
     if !st.fresh {
         return Answer::Refused(Refusal::Stale);
@@ -345,7 +345,7 @@ pub fn explain(
     number: u32,
     out: &mut [u8],
 ) -> Answer
-    ensures { after_write result out.new ≡ explain_call number (lent clauses literals variables times links) st out.old }
+    ensures { after_write result out.new ≡ explain_call number (lent clauses.now literals.now variables.now times.now links.now) st out.old }
 {
     match entry::may_open(clauses, literals, variables, times, links, st) {
         Opening::Denied(refusal) => Answer::Refused(refusal),

@@ -5,7 +5,7 @@ ghost use Rattle.std.specs.Prelude.{◌≡◌, false, List, ℕ, ◌+◌, ◌*�
 ghost use Rattle.literal.specs.Literals.{twin};
 ghost use Rattle.stamp_columns.specs.Columns.{columns};
 ghost use Rattle.hidden.specs.Failed.{same_start, failed_slot};
-ghost use Rattle.tables.specs.Lent.{lent, returned, unlent};
+ghost use Rattle.tables.specs.Lent.{lent, returned};
 ghost use Rattle.tables.specs.Calls.{after};
 ghost use Rattle.visits.specs.Formed.{Variables, Known};
 ghost use Rattle.failed.specs.Failed.{found, assert, failed_at, failed_from, failed_fresh, failed_unless_stale, failed_call, state_after};
@@ -132,8 +132,8 @@ fn state_after(st: State, opposite: bool) -> State
 // The call on fresh stamps, for every content of the clause and literal tables, which it does not read. Values are set at class literals, and then every variable gets its own.
 fn failed_fresh(variables: &mut [i32], times: &[u32], links: &[i32], st: State) -> Outcome
     requires { FullStamps st.v times.now links.now × Variables st.v variables.old }
-    ensures { (clauses : List ℕ) (literals : List ℤ) → after result (returned (unlent clauses) (unlent literals) variables times links)
-        ≡ failed_fresh (lent (unlent clauses) (unlent literals) variables times links) st }
+    ensures { (clauses : List ℕ) (literals : List ℤ) → after result (returned clauses literals variables.new times.now links.now)
+        ≡ failed_fresh (lent clauses literals variables.old times.now links.now) st }
 {
     let v = st.v;
     let tally = fail_from(variables, times, links, v);
@@ -148,8 +148,8 @@ fn failed_fresh(variables: &mut [i32], times: &[u32], links: &[i32], st: State) 
 // Refusal 9 where the stamps are not fresh, and otherwise the call. Run enters here. Where stamps are fresh, the shape rule has them so: `entry::may_open` has checked it for the call, and for a run the passes before keep it.
 pub fn unless_stale(variables: &mut [i32], times: &[u32], links: &[i32], st: State) -> Outcome
     requires { Callable st variables.old times.now links.now }
-    ensures { (clauses : List ℕ) (literals : List ℤ) → after result (returned (unlent clauses) (unlent literals) variables times links)
-        ≡ failed_unless_stale st.fresh (lent (unlent clauses) (unlent literals) variables times links) st }
+    ensures { (clauses : List ℕ) (literals : List ℤ) → after result (returned clauses literals variables.new times.now links.now)
+        ≡ failed_unless_stale st.fresh (lent clauses literals variables.old times.now links.now) st }
 {
     if st.fresh {
         return failed_fresh(variables, times, links, st);
@@ -169,8 +169,8 @@ pub fn failed(
     links: &[i32],
     st: State,
 ) -> Outcome
-    ensures { after result (returned clauses literals variables times links)
-        ≡ failed_call (lent clauses literals variables times links) st }
+    ensures { after result (returned clauses.now literals.now variables.new times.now links.now)
+        ≡ failed_call (lent clauses.now literals.now variables.old times.now links.now) st }
 {
     let opening = entry::may_open(clauses, literals, variables, times, links, st);
     match opening {

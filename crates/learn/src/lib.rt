@@ -5,7 +5,7 @@ ghost use Rattle.std.specs.Prelude.{◌≡◌, List, ℕ, ◌≤◌, length, rep
 ghost use Rattle.stamp_columns.specs.Columns.{columns};
 ghost use Rattle.hidden_tautologies.specs.Judged.{Judged};
 ghost use Rattle.tables.specs.Tables.{Tables};
-ghost use Rattle.tables.specs.Lent.{lent, returned, unlent};
+ghost use Rattle.tables.specs.Lent.{lent, returned};
 ghost use Rattle.tables.specs.Fates.{Fate};
 ghost use Rattle.visits.specs.Visited.{visited_as};
 ghost use Rattle.sweep_visits.specs.Clause.{sweep_clause};
@@ -144,8 +144,8 @@ fn learn_entered(
     window: Window,
 ) -> Windowed
     requires { Ready variables.now times.now links.now st × Ruled (places sizes.old learnt.old window) }
-    ensures { (clauses : List ℕ) (literals : List ℤ) → after_with result (returned (unlent clauses) (unlent literals) variables times links) sizes.new learnt.new
-        ≡ learn_unless_stale st.fresh newcomer.now (lent (unlent clauses) (unlent literals) variables times links) st (places sizes.old learnt.old window) }
+    ensures { (clauses : List ℕ) (literals : List ℤ) → after_with result (returned clauses literals variables.now times.now links.now) sizes.new learnt.new
+        ≡ learn_unless_stale st.fresh newcomer.now (lent clauses literals variables.now times.now links.now) st (places sizes.old learnt.old window) }
 {
     if !st.fresh {
         return refused(Refusal::Stale, st, window);
@@ -169,8 +169,8 @@ pub fn learn(
     learnt: &mut [i32],
     window: Window,
 ) -> Windowed
-    ensures { after_with result (returned clauses literals variables times links) sizes.new learnt.new
-        ≡ learn_call newcomer.now (lent clauses literals variables times links) st (places sizes.old learnt.old window) }
+    ensures { after_with result (returned clauses.now literals.now variables.now times.now links.now) sizes.new learnt.new
+        ≡ learn_call newcomer.now (lent clauses.now literals.now variables.now times.now links.now) st (places sizes.old learnt.old window) }
 {
     if !shape::shape_ok(clauses, literals, variables, times, links, st) {
         return refused(Refusal::Shape, st, window);

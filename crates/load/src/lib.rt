@@ -11,7 +11,7 @@ ghost use Rattle.repeats.specs.Marks.{no_marks};
 ghost use Rattle.dimacs.specs.Numbers.{first_clause, clauses_in, clauses_kept, Judged};
 ghost use Rattle.state.specs.declared.State.{State};
 ghost use Rattle.tables.specs.Tables.{Tables};
-ghost use Rattle.tables.specs.Lent.{lent, returned, unlent};
+ghost use Rattle.tables.specs.Lent.{lent, returned};
 ghost use Rattle.tables.specs.Calls.{after};
 ghost use Rattle.window.specs.Window.{places, after_with};
 ghost use Rattle.window.specs.Rule.{LongWindow};
@@ -201,8 +201,8 @@ fn lay(
     st: State,
 ) -> Outcome
     requires { (v ≤ 1024) × (Layable n numbers.now (length clauses.old) (length literals.old) × (2048 ≤ length variables.old)) }
-    ensures { (times : List ℕ) (links : List ℤ) → after result (returned clauses literals variables (unlent times) (unlent links))
-        ≡ accept v n (clauses_in n numbers.now) (lent clauses literals variables (unlent times) (unlent links)) }
+    ensures { (times : List ℕ) (links : List ℤ) → after result (returned clauses.new literals.new variables.new times links)
+        ≡ accept v n (clauses_in n numbers.now) (lent clauses.old literals.old variables.old times links) }
 {
     let mut marks = [0u32; 2049];
     let p = lay_clauses(numbers, n as usize, clauses, literals, &mut marks);
@@ -225,8 +225,8 @@ fn lay_judged(
     st: State,
 ) -> Outcome
     requires { LayableBy verdict numbers.now (length clauses.old) (length literals.old) × (2048 ≤ length variables.old) }
-    ensures { (times : List ℕ) (links : List ℤ) → after result (returned clauses literals variables (unlent times) (unlent links))
-        ≡ load_by verdict (clauses_kept verdict numbers.now) (lent clauses literals variables (unlent times) (unlent links)) st }
+    ensures { (times : List ℕ) (links : List ℤ) → after result (returned clauses.new literals.new variables.new times links)
+        ≡ load_by verdict (clauses_kept verdict numbers.now) (lent clauses.old literals.old variables.old times links) st }
 {
     match verdict {
         Verdict::Refused(r) => Outcome {
@@ -263,8 +263,8 @@ fn load_formula(
     links: &[i32],
     st: State,
 ) -> Outcome
-    ensures { after result (returned clauses literals variables times links)
-        ≡ load_formula (either_verdict joined left.now right.now pairs.now) (either_clauses joined left.now right.now pairs.now) (lent clauses literals variables times links) st }
+    ensures { after result (returned clauses.new literals.new variables.new times.now links.now)
+        ≡ load_formula (either_verdict joined left.now right.now pairs.now) (either_clauses joined left.now right.now pairs.now) (lent clauses.old literals.old variables.old times.now links.now) st }
 {
     if !tables::long_ok(clauses, literals, variables, times, links) {
         return Outcome {
@@ -288,8 +288,8 @@ pub fn load_tables(
     links: &[i32],
     st: State,
 ) -> Outcome
-    ensures { after result (returned clauses literals variables times links)
-        ≡ load_call text.now (lent clauses literals variables times links) st }
+    ensures { after result (returned clauses.new literals.new variables.new times.now links.now)
+        ≡ load_call text.now (lent clauses.old literals.old variables.old times.now links.now) st }
 {
     load_formula(
         text,
@@ -338,9 +338,9 @@ fn load_with(
     learnt: &mut [i32],
     window: Window,
 ) -> Windowed
-    ensures { after_with result (returned clauses literals variables times links) sizes.new learnt.new
-        ≡ with_window (load_formula (either_verdict joined left.now right.now pairs.now) (either_clauses joined left.now right.now pairs.now) (lent clauses literals variables times links) st)
-        (lent clauses literals variables times links) st (places sizes.old learnt.old window) }
+    ensures { after_with result (returned clauses.new literals.new variables.new times.now links.now) sizes.new learnt.new
+        ≡ with_window (load_formula (either_verdict joined left.now right.now pairs.now) (either_clauses joined left.now right.now pairs.now) (lent clauses.old literals.old variables.old times.now links.now) st)
+        (lent clauses.old literals.old variables.old times.now links.now) st (places sizes.old learnt.old window) }
 {
     if !window::long_ok(sizes, learnt) {
         return Windowed {
@@ -370,8 +370,8 @@ pub fn load(
     learnt: &mut [i32],
     window: Window,
 ) -> Windowed
-    ensures { after_with result (returned clauses literals variables times links) sizes.new learnt.new
-        ≡ load_with text.now (lent clauses literals variables times links) st (places sizes.old learnt.old window) }
+    ensures { after_with result (returned clauses.new literals.new variables.new times.now links.now) sizes.new learnt.new
+        ≡ load_with text.now (lent clauses.old literals.old variables.old times.now links.now) st (places sizes.old learnt.old window) }
 {
     load_with(
         text,
@@ -405,8 +405,8 @@ pub fn join(
     learnt: &mut [i32],
     window: Window,
 ) -> Windowed
-    ensures { after_with result (returned clauses literals variables times links) sizes.new learnt.new
-        ≡ join_with left.now right.now pairs.now (lent clauses literals variables times links) st (places sizes.old learnt.old window) }
+    ensures { after_with result (returned clauses.new literals.new variables.new times.now links.now) sizes.new learnt.new
+        ≡ join_with left.now right.now pairs.now (lent clauses.old literals.old variables.old times.now links.now) st (places sizes.old learnt.old window) }
 {
     load_with(
         left, right, pairs, true, clauses, literals, variables, times, links, st, sizes, learnt,

@@ -3,7 +3,7 @@
 #![tactic(auto)]
 
 ghost use Rattle.std.specs.Prelude.{◌≡◌, false, List, ℕ, ◌*◌, length, ℤ};
-ghost use Rattle.tables.specs.Lent.{lent, returned, unlent};
+ghost use Rattle.tables.specs.Lent.{lent, returned};
 ghost use Rattle.tables.specs.Calls.{after};
 ghost use Rattle.visits.specs.Formed.{Formed};
 ghost use Rattle.implications.specs.Clauses.{implications};
@@ -85,8 +85,8 @@ fn merge_from(
     cursor: u32,
 ) -> Outcome
     requires { Resumable st cursor clauses.old literals.old variables.now }
-    ensures { (times : List ℕ) (links : List ℤ) → after result (returned clauses literals variables (unlent times) (unlent links))
-        ≡ merge_from fresh steps cursor (lent clauses literals variables (unlent times) (unlent links)) st }
+    ensures { (times : List ℕ) (links : List ℤ) → after result (returned clauses.new literals.new variables.now times links)
+        ≡ merge_from fresh steps cursor (lent clauses.old literals.old variables.now times links) st }
 {
     let n = st.n;
     let visits = visits::fewer(steps, n - cursor);
@@ -107,8 +107,8 @@ pub fn merge_open(
     steps: u32,
 ) -> Outcome
     requires { Openable st clauses.old literals.old variables.old }
-    ensures { (times : List ℕ) (links : List ℤ) → after result (returned clauses literals variables (unlent times) (unlent links))
-        ≡ merge_open steps (lent clauses literals variables (unlent times) (unlent links)) st }
+    ensures { (times : List ℕ) (links : List ℤ) → after result (returned clauses.new literals.new variables.new times links)
+        ≡ merge_open steps (lent clauses.old literals.old variables.old times links) st }
 {
     let v = st.v;
     let n = st.n;
@@ -135,8 +135,8 @@ fn merge_settled(
     steps: u32,
 ) -> Outcome
     requires { Formed st.v st.n st.n false clauses.old literals.old variables.old }
-    ensures { (times : List ℕ) (links : List ℤ) → after result (returned clauses literals variables (unlent times) (unlent links))
-        ≡ merge_settled steps (lent clauses literals variables (unlent times) (unlent links)) st }
+    ensures { (times : List ℕ) (links : List ℤ) → after result (returned clauses.new literals.new variables.new times links)
+        ≡ merge_settled steps (lent clauses.old literals.old variables.old times links) st }
 {
     let n = st.n as usize;
     let first = visits::first_unsettled(clauses, literals, variables, n);
@@ -159,8 +159,8 @@ pub fn merge(
     st: State,
     n: u16,
 ) -> Outcome
-    ensures { after result (returned clauses literals variables times links)
-        ≡ merge_call n (lent clauses literals variables times links) st }
+    ensures { after result (returned clauses.new literals.new variables.new times.now links.now)
+        ≡ merge_call n (lent clauses.old literals.old variables.old times.now links.now) st }
 {
     let own = PassName::Merge;
     let entry = entry::entry_of(clauses, literals, variables, times, links, st, own);

@@ -3,7 +3,7 @@
 
 ghost use Rattle.std.specs.Prelude.{◌≡◌, List, map, ℕ, ◌-◌, ◌≤◌, length, ℤ};
 ghost use Rattle.repeats.specs.Marks.{no_marks};
-ghost use Rattle.tables.specs.Lent.{lent, returned, unlent};
+ghost use Rattle.tables.specs.Lent.{lent, returned};
 ghost use Rattle.tables.specs.Values.{class_literal};
 ghost use Rattle.tables.specs.Fates.{visits};
 ghost use Rattle.visits.specs.Formed.{EachKnown};
@@ -50,8 +50,8 @@ fn visit_clause(
     k: usize,
 ) -> Visited
     requires { Visitable k clauses.old literals.old variables.now × (marks.old ≡ no_marks) }
-    ensures { ((times : List ℕ) (links : List ℤ) → visit_of result (returned clauses literals variables (unlent times) (unlent links))
-        ≡ visit_at (merge_clause variables.now) k (lent clauses literals variables (unlent times) (unlent links))) × (marks.new ≡ no_marks) }
+    ensures { ((times : List ℕ) (links : List ℤ) → visit_of result (returned clauses.new literals.new variables.now times links)
+        ≡ visit_at (merge_clause variables.now) k (lent clauses.old literals.old variables.now times links)) × (marks.new ≡ no_marks) }
 {
     let flag = visits::flag_of(clauses, k);
     if flag == 0 {
@@ -67,8 +67,8 @@ fn visit_clause(
 // The visits to the clauses from `k` on, up to clause `end`. They share the marks, which each leaves as it found them. The tables keep the shape rule: `entry::entry_of` has checked it, and the opening of Merge keeps it.
 pub fn visit_some(clauses: &mut [u32], literals: &mut [i32], variables: &[i32], k: u32, end: u32)
     requires { Mergeable k end clauses.old literals.old variables.now }
-    ensures { (times : List ℕ) (links : List ℤ) → returned clauses literals variables (unlent times) (unlent links)
-        ≡ visits (merge_clause variables.now) (end - k) k (lent clauses literals variables (unlent times) (unlent links)) }
+    ensures { (times : List ℕ) (links : List ℤ) → returned clauses.new literals.new variables.now times links
+        ≡ visits (merge_clause variables.now) (end - k) k (lent clauses.old literals.old variables.now times links) }
 {
     let mut marks = [0u32; 2049];
     let mut i = k;

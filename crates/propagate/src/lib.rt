@@ -13,7 +13,7 @@ ghost use Rattle.propagate.specs.Steps.{replied_with};
 ghost use Rattle.propagate.specs.Listed.{Listed};
 ghost use Rattle.tables.specs.Calls.{after};
 ghost use Rattle.tables.specs.Tables.{Tables};
-ghost use Rattle.tables.specs.Lent.{lent, returned, unlent};
+ghost use Rattle.tables.specs.Lent.{lent, returned};
 
 use entry::{Entry, PassName};
 use propagate_visits::{Reach, Stand};
@@ -34,8 +34,8 @@ fn visit_pending(
 ) -> Visited
     requires stands_before { StandsBefore n k clauses.old literals.old variables.old }
     requires listed { Listed n heads.now places.now pending.old blocks.old clauses.old literals.old variables.old }
-    ensures by_index { (times : List ℕ) (links : List ℤ) → visit_of result (returned clauses literals variables (unlent times) (unlent links))
-        ≡ visit_at (propagate_clause variables.old) k (lent clauses literals variables (unlent times) (unlent links)) }
+    ensures by_index { (times : List ℕ) (links : List ℤ) → visit_of result (returned clauses.new literals.new variables.new times links)
+        ≡ visit_at (propagate_clause variables.old) k (lent clauses.old literals.old variables.old times links) }
     ensures listed_2 { (result ≡ Conflict → ⊥) → Listed n heads.now places.now pending.new blocks.new clauses.new literals.new variables.new }
 {
     let at = k as usize;
@@ -97,8 +97,8 @@ fn visit_skipping(
 ) -> Reach
     requires stands_before { StandsBefore n cursor clauses.old literals.old variables.old }
     requires listed { Listed n heads.now places.now pending.old blocks.old clauses.old literals.old variables.old }
-    ensures { (times : List ℕ) (links : List ℤ) → reached_as result (returned clauses literals variables (unlent times) (unlent links))
-        ≡ propagate_visits n steps 0 (going cursor flag (lent clauses literals variables (unlent times) (unlent links))) }
+    ensures { (times : List ℕ) (links : List ℤ) → reached_as result (returned clauses.new literals.new variables.new times links)
+        ≡ propagate_visits n steps 0 (going cursor flag (lent clauses.old literals.old variables.old times links)) }
 {
     let mut visits: u32 = 0;
     let mut k = cursor;
@@ -133,8 +133,8 @@ fn visit_listed(
     flag: bool,
 ) -> Reach
     requires { StandsBefore n cursor clauses.old literals.old variables.old }
-    ensures { (times : List ℕ) (links : List ℤ) → reached_as result (returned clauses literals variables (unlent times) (unlent links))
-        ≡ propagate_visits n steps 0 (going cursor flag (lent clauses literals variables (unlent times) (unlent links))) }
+    ensures { (times : List ℕ) (links : List ℤ) → reached_as result (returned clauses.new literals.new variables.new times links)
+        ≡ propagate_visits n steps 0 (going cursor flag (lent clauses.old literals.old variables.old times links)) }
 {
     let mut heads = [0u32; 1025];
     let mut places = [0u32; 32768];
@@ -167,8 +167,8 @@ fn visit_some(
     flag: bool,
 ) -> Reach
     requires { StandsBefore n cursor clauses.old literals.old variables.old }
-    ensures { (times : List ℕ) (links : List ℤ) → reached_as result (returned clauses literals variables (unlent times) (unlent links))
-        ≡ propagate_visits n steps 0 (going cursor flag (lent clauses literals variables (unlent times) (unlent links))) }
+    ensures { (times : List ℕ) (links : List ℤ) → reached_as result (returned clauses.new literals.new variables.new times links)
+        ≡ propagate_visits n steps 0 (going cursor flag (lent clauses.old literals.old variables.old times links)) }
 {
     let first = visits::fewer(4 * n, steps);
     let reach = propagate_visits::visit_each(clauses, literals, variables, n, first, cursor, flag);
@@ -219,9 +219,9 @@ fn propagate_from(
     flag: bool,
 ) -> Outcome
     requires { Formed st.v st.n st.n false clauses.old literals.old variables.old × (cursor < st.n) }
-    ensures { (times : List ℕ) (links : List ℤ) → after result (returned clauses literals variables (unlent times) (unlent links))
-        ≡ propagate_from fresh steps (going cursor flag (lent clauses literals variables (unlent times) (unlent links)))
-        (lent clauses literals variables (unlent times) (unlent links)) st }
+    ensures { (times : List ℕ) (links : List ℤ) → after result (returned clauses.new literals.new variables.new times links)
+        ≡ propagate_from fresh steps (going cursor flag (lent clauses.old literals.old variables.old times links))
+        (lent clauses.old literals.old variables.old times links) st }
 {
     let n = st.n;
     let before = visits::count_standing(clauses, n as usize);
@@ -243,9 +243,9 @@ pub fn open_pass(
     steps: u32,
 ) -> Outcome
     requires { Formed st.v st.n st.n false clauses.old literals.old variables.old }
-    ensures { (times : List ℕ) (links : List ℤ) → after result (returned clauses literals variables (unlent times) (unlent links))
-        ≡ propagate_from false steps (begin st.n (lent clauses literals variables (unlent times) (unlent links)))
-        (lent clauses literals variables (unlent times) (unlent links)) st }
+    ensures { (times : List ℕ) (links : List ℤ) → after result (returned clauses.new literals.new variables.new times links)
+        ≡ propagate_from false steps (begin st.n (lent clauses.old literals.old variables.old times links))
+        (lent clauses.old literals.old variables.old times links) st }
 {
     let n = st.n;
     if n == 0 {
@@ -270,8 +270,8 @@ pub fn propagate(
     st: State,
     n: u16,
 ) -> Outcome
-    ensures { after result (returned clauses literals variables times links)
-        ≡ propagate_call n (lent clauses literals variables times links) st }
+    ensures { after result (returned clauses.new literals.new variables.new times.now links.now)
+        ≡ propagate_call n (lent clauses.old literals.old variables.old times.now links.now) st }
 {
     let own = PassName::Propagate;
     let entry = entry::entry_of(clauses, literals, variables, times, links, st, own);

@@ -10,7 +10,7 @@ ghost use Rattle.visits.specs.Visited.{Visitable, part_of, part_after, variables
 ghost use Rattle.propagate_visits.specs.Visits.{not_false, propagate_clause, going, onward, propagate_visit, propagate_visits};
 ghost use Rattle.propagate_visits.specs.Steps.{progress_of, stand_after, reached_as, StandsBefore};
 ghost use Rattle.tables.specs.Tables.{Tables};
-ghost use Rattle.tables.specs.Lent.{lent, returned, unlent};
+ghost use Rattle.tables.specs.Lent.{lent, returned};
 
 use visits::Visited;
 
@@ -96,8 +96,8 @@ pub fn visit_clause(
     k: usize,
 ) -> Visited
     requires { Visitable k clauses.old literals.old variables.old }
-    ensures { (times : List ℕ) (links : List ℤ) → visit_of result (returned clauses literals variables (unlent times) (unlent links))
-        ≡ visit_at (propagate_clause variables.old) k (lent clauses literals variables (unlent times) (unlent links)) }
+    ensures { (times : List ℕ) (links : List ℤ) → visit_of result (returned clauses.new literals.new variables.new times links)
+        ≡ visit_at (propagate_clause variables.old) k (lent clauses.old literals.old variables.old times links) }
 {
     let flag = visits::flag_of(clauses, k);
     if flag == 0 {
@@ -147,8 +147,8 @@ fn step(
     changed: bool,
 ) -> Stand
     requires { StandsBefore n k clauses.old literals.old variables.old }
-    ensures { (times : List ℕ) (links : List ℤ) → progress_of result (returned clauses literals variables (unlent times) (unlent links))
-        ≡ propagate_visit n k changed (lent clauses literals variables (unlent times) (unlent links)) }
+    ensures { (times : List ℕ) (links : List ℤ) → progress_of result (returned clauses.new literals.new variables.new times links)
+        ≡ propagate_visit n k changed (lent clauses.old literals.old variables.old times links) }
 {
     let at = k as usize;
     let size = clauses[3 * at + 1];
@@ -167,8 +167,8 @@ pub fn visit_each(
     flag: bool,
 ) -> Reach
     requires { StandsBefore n cursor clauses.old literals.old variables.old }
-    ensures { (times : List ℕ) (links : List ℤ) → reached_as result (returned clauses literals variables (unlent times) (unlent links))
-        ≡ propagate_visits n steps 0 (going cursor flag (lent clauses literals variables (unlent times) (unlent links))) }
+    ensures { (times : List ℕ) (links : List ℤ) → reached_as result (returned clauses.new literals.new variables.new times links)
+        ≡ propagate_visits n steps 0 (going cursor flag (lent clauses.old literals.old variables.old times links)) }
 {
     let mut visits: u32 = 0;
     let mut k = cursor;

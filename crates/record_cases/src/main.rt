@@ -143,11 +143,9 @@ fn print_record(rt: &impl Print, r: StampRecord) -> io::Result<()> {
 
 // The records of the first eight literals, 1, -1, 2, -2, .., and the last one, which no call may change.
 fn print_records(rt: &impl Print, records: [StampRecord; 2049]) -> io::Result<()> {
-    let mut i: usize = 0;
-    while i < 8 {
+    for i in 0..8 {
         let r = records[i];
         print_record(rt, r)?;
-        i += 1;
     }
     let last = records[2048];
     print_record(rt, last)
@@ -268,8 +266,24 @@ fn simplify(
     let stamped = stamp_reported(rt, order, lent, clauses, literals, variables, st)?;
     let records = stamped.records;
     let outcome = stamped.outcome;
-    learn_reported(rt, lent, clauses, literals, variables, records, outcome.state)?;
-    explain_reported(rt, lent, clauses, literals, variables, records, outcome.state)?;
+    learn_reported(
+        rt,
+        lent,
+        clauses,
+        literals,
+        variables,
+        records,
+        outcome.state,
+    )?;
+    explain_reported(
+        rt,
+        lent,
+        clauses,
+        literals,
+        variables,
+        records,
+        outcome.state,
+    )?;
     let swept = sweep_lent(
         clauses,
         literals,

@@ -37,12 +37,7 @@ fn print_value(rt: &impl Print, word: &[u8], value: u64) -> io::Result<()> {
 }
 
 // The verdict on a clause, how many literals it takes out, and the length written.
-fn print_explained(
-    rt: &impl Print,
-    verdict: Verdict,
-    out: u32,
-    length: usize,
-) -> io::Result<()> {
+fn print_explained(rt: &impl Print, verdict: Verdict, out: u32, length: usize) -> io::Result<()> {
     print_value(rt, b"explained", verdict.number())?;
     print_number(rt, out as u64)?;
     print_number(rt, length as u64)

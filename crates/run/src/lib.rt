@@ -6,7 +6,7 @@ ghost use Rattle.base.specs.Lists.{all_below, same_list};
 ghost use Rattle.literal.specs.Literals.{eq_z};
 ghost use Rattle.state.specs.Programmes.{codes_of};
 ghost use Rattle.state.specs.declared.State.{State};
-ghost use Rattle.tables.specs.Lent.{handed, lent, returned, unlent};
+ghost use Rattle.tables.specs.Lent.{handed, lent, returned};
 ghost use Rattle.tables.specs.Clauses.{literals_of};
 ghost use Rattle.tables.specs.Calls.{after};
 ghost use Rattle.stamp.specs.Stamp.{stamp_ordered};
@@ -87,8 +87,8 @@ fn same_tables(
 ) -> bool
     requires { Comparable v n kept.now parts.now rows.now clauses.now literals.now variables.now }
     ensures { (st st' : State) (times times' : List ℕ) (links links' : List ℤ) → st.v ≡ v → st.n ≡ n →
-        result ≡ unchanged (standing_in (lent kept parts rows (unlent times) (unlent links)) st)
-        (standing_in (lent clauses literals variables (unlent times') (unlent links')) st') }
+        result ≡ unchanged (standing_in (lent kept.now parts.now rows.now times links) st)
+        (standing_in (lent clauses.now literals.now variables.now times' links') st') }
 {
     let records = 3 * n as usize;
     if !slices::same_numbers(&kept[..records], &clauses[..records]) {
@@ -113,9 +113,9 @@ fn stamp_ordered(
     st: State,
     order: &[i32],
 ) -> State
-    requires { Runs (standing_in (handed clauses literals variables times links) st) }
-    ensures { standing_in (returned clauses literals variables times links) result
-        ≡ between (stamp_ordered order.now (lent clauses literals variables times links) st) }
+    requires { Runs (standing_in (handed clauses.now literals.now variables.now times.old links.old) st) }
+    ensures { standing_in (returned clauses.now literals.now variables.now times.new links.new) result
+        ≡ between (stamp_ordered order.now (lent clauses.now literals.now variables.now times.old links.old) st) }
 {
     let ruling = stamp::ask_ordered(clauses, literals, variables, st, order);
     match ruling {
@@ -138,9 +138,9 @@ fn stamp_turned(
     st: State,
     place: &mut [i32],
 ) -> State
-    requires { Runs (standing_in (handed clauses literals variables times links) st) × (length place.old ≡ 2048) }
-    ensures { standing_in (returned clauses literals variables times links) result
-        ≡ between (stamp_ordered (order_of st.v k) (lent clauses literals variables times links) st) }
+    requires { Runs (standing_in (handed clauses.now literals.now variables.now times.old links.old) st) × (length place.old ≡ 2048) }
+    ensures { standing_in (returned clauses.now literals.now variables.now times.new links.new) result
+        ≡ between (stamp_ordered (order_of st.v k) (lent clauses.now literals.now variables.now times.old links.old) st) }
 {
     let v = st.v;
     let size = 2 * v as usize;
@@ -166,9 +166,9 @@ fn follow_stamp(
     links: &mut [i32],
     st: State,
 ) -> State
-    requires { Runs (standing_in (handed clauses literals variables times links) st) }
-    ensures { standing_in (returned clauses literals variables times links) result
-        ≡ between (stamp_ordered (order_of st.v k) (lent clauses literals variables times links) st) }
+    requires { Runs (standing_in (handed clauses.now literals.now variables.now times.old links.old) st) }
+    ensures { standing_in (returned clauses.now literals.now variables.now times.new links.new) result
+        ≡ between (stamp_ordered (order_of st.v k) (lent clauses.now literals.now variables.now times.old links.old) st) }
 {
     let mut place = [0i32; 2048];
     stamp_turned(
@@ -179,8 +179,8 @@ fn follow_stamp(
 // FAILED.
 fn follow_failed(variables: &mut [i32], times: &[u32], links: &[i32], st: State) -> State
     requires { Callable st variables.old times.now links.now }
-    ensures { (clauses : List ℕ) (literals : List ℤ) → standing_in (returned (unlent clauses) (unlent literals) variables times links) result
-        ≡ between (failing.failed_unless_stale st.fresh (lent (unlent clauses) (unlent literals) variables times links) st) }
+    ensures { (clauses : List ℕ) (literals : List ℤ) → standing_in (returned clauses literals variables.new times.now links.now) result
+        ≡ between (failing.failed_unless_stale st.fresh (lent clauses literals variables.old times.now links.now) st) }
 {
     let outcome = failed::unless_stale(variables, times, links, st);
     outcome.state
@@ -195,8 +195,8 @@ fn follow_sweep(
     st: State,
 ) -> State
     requires { st.fresh ≡ true → Sweepable st.n clauses.old literals.old times.now links.now }
-    ensures { (variables : List ℤ) → standing_in (returned clauses literals (unlent variables) times links) result
-        ≡ between (sweeping.sweep_unless_stale st.fresh st.n 0 (lent clauses literals (unlent variables) times links) st) }
+    ensures { (variables : List ℤ) → standing_in (returned clauses.new literals.new variables times.now links.now) result
+        ≡ between (sweeping.sweep_unless_stale st.fresh st.n 0 (lent clauses.old literals.old variables times.now links.now) st) }
 {
     let n = st.n;
     let outcome = sweep::sweep_entered(clauses, literals, times, links, st, 0, n);
@@ -214,8 +214,8 @@ fn follow(
     links: &mut [i32],
     st: State,
 ) -> State
-    requires { Runs (standing_in (handed clauses literals variables times links) st) }
-    ensures { standing_in (returned clauses literals variables times links) result ≡ follow k code (standing_in (lent clauses literals variables times links) st) }
+    requires { Runs (standing_in (handed clauses.old literals.old variables.old times.old links.old) st) }
+    ensures { standing_in (returned clauses.new literals.new variables.new times.new links.new) result ≡ follow k code (standing_in (lent clauses.old literals.old variables.old times.old links.old) st) }
 {
     if code == SETTLE {
         return settle::settle(clauses, literals, variables, st);
@@ -245,8 +245,8 @@ fn round(
     st: State,
     programme: Programme,
 ) -> State
-    requires { Runs (standing_in (handed clauses literals variables times links) st) × (programme.length ≤ 32) }
-    ensures { standing_in (returned clauses literals variables times links) result ≡ round k (codes_of programme) (standing_in (lent clauses literals variables times links) st) }
+    requires { Runs (standing_in (handed clauses.old literals.old variables.old times.old links.old) st) × (programme.length ≤ 32) }
+    ensures { standing_in (returned clauses.new literals.new variables.new times.new links.new) result ≡ round k (codes_of programme) (standing_in (lent clauses.old literals.old variables.old times.old links.old) st) }
 {
     let codes = programme.codes;
     let count = programme.length as usize;
@@ -277,9 +277,9 @@ fn make_round(
     parts: &mut [i32],
     rows: &mut [i32],
 ) -> Turn
-    requires { Runs (standing_in (handed clauses literals variables times links) st) × (programme.length ≤ 32) × Places kept.old parts.old rows.old }
-    ensures { (standing_in (returned clauses literals variables times links) result.state ≡ round k (codes_of programme) (standing_in (lent clauses literals variables times links) st))
-        × (result.stop ≡ (result.state.mark || unchanged (standing_in (lent clauses literals variables times links) st) (standing_in (returned clauses literals variables times links) result.state))) }
+    requires { Runs (standing_in (handed clauses.old literals.old variables.old times.old links.old) st) × (programme.length ≤ 32) × Places kept.old parts.old rows.old }
+    ensures { (standing_in (returned clauses.new literals.new variables.new times.new links.new) result.state ≡ round k (codes_of programme) (standing_in (lent clauses.old literals.old variables.old times.old links.old) st))
+        × (result.stop ≡ (result.state.mark || unchanged (standing_in (lent clauses.old literals.old variables.old times.old links.old) st) (standing_in (returned clauses.new literals.new variables.new times.new links.new) result.state))) }
 {
     save(clauses, literals, variables, kept, parts, rows);
     let v = st.v;
@@ -304,8 +304,8 @@ fn make_rounds(
     parts: &mut [i32],
     rows: &mut [i32],
 ) -> Made
-    requires { Runs (standing_in (handed clauses literals variables times links) st) × (programme.length ≤ 32) × Places kept.old parts.old rows.old }
-    ensures { rounds result.made (standing_in (returned clauses literals variables times links) result.state) ≡ run_from (codes_of programme) count 0 (standing_in (lent clauses literals variables times links) st) }
+    requires { Runs (standing_in (handed clauses.old literals.old variables.old times.old links.old) st) × (programme.length ≤ 32) × Places kept.old parts.old rows.old }
+    ensures { rounds result.made (standing_in (returned clauses.new literals.new variables.new times.new links.new) result.state) ≡ run_from (codes_of programme) count 0 (standing_in (lent clauses.old literals.old variables.old times.old links.old) st) }
 {
     let mut state = st;
     let mut k: u32 = 0;
@@ -334,8 +334,8 @@ fn run_rounds(
     st: State,
     programme: Programme,
 ) -> Made
-    requires { Runs (standing_in (handed clauses literals variables times links) st) × (programme.length ≤ 32) }
-    ensures { rounds result.made (standing_in (returned clauses literals variables times links) result.state) ≡ run_from (codes_of programme) count 0 (standing_in (lent clauses literals variables times links) st) }
+    requires { Runs (standing_in (handed clauses.old literals.old variables.old times.old links.old) st) × (programme.length ≤ 32) }
+    ensures { rounds result.made (standing_in (returned clauses.new literals.new variables.new times.new links.new) result.state) ≡ run_from (codes_of programme) count 0 (standing_in (lent clauses.old literals.old variables.old times.old links.old) st) }
 {
     let mut kept = [0u32; 12288];
     let mut parts = [0i32; 16384];
@@ -358,8 +358,8 @@ fn run_entered(
     links: &mut [i32],
     st: State,
 ) -> Outcome
-    requires { Runs (standing_in (handed clauses literals variables times links) st) }
-    ensures { after result (returned clauses literals variables times links) ≡ run_reply (run_from (codes_of st.programme) count 0 (standing_in (lent clauses literals variables times links) st)) }
+    requires { Runs (standing_in (handed clauses.old literals.old variables.old times.old links.old) st) }
+    ensures { after result (returned clauses.new literals.new variables.new times.new links.new) ≡ run_reply (run_from (codes_of st.programme) count 0 (standing_in (lent clauses.old literals.old variables.old times.old links.old) st)) }
 {
     let programme = st.programme;
     let made = run_rounds(
@@ -383,7 +383,7 @@ pub fn run(
     st: State,
     n: u16,
 ) -> Outcome
-    ensures { after result (returned clauses literals variables times links) ≡ run_call n (lent clauses literals variables times links) st }
+    ensures { after result (returned clauses.new literals.new variables.new times.new links.new) ≡ run_call n (lent clauses.old literals.old variables.old times.old links.old) st }
 {
     let opening = entry::may_open(clauses, literals, variables, times, links, st);
     match opening {

@@ -19,7 +19,7 @@ pub fn set_programme(
     st: State,
     codes: &[u32],
 ) -> Outcome
-    ensures { after result (returned clauses literals variables times links) ≡ set_call codes.now (lent clauses literals variables times links) st }
+    ensures { after result (returned clauses.now literals.now variables.now times.now links.now) ≡ set_call codes.now (lent clauses.now literals.now variables.now times.now links.now) st }
 {
     if !shape::shape_ok(clauses, literals, variables, times, links, st) {
         return Outcome {

@@ -2,7 +2,7 @@
 #![tactic(auto)]
 
 ghost use Rattle.std.specs.Prelude.{◌≡◌, false, List, ℕ, ℤ};
-ghost use Rattle.tables.specs.Lent.{lent, returned, unlent};
+ghost use Rattle.tables.specs.Lent.{lent, returned};
 ghost use Rattle.visits.specs.Formed.{Variables, Formed};
 ghost use Rattle.merge.specs.Steps.{Openable};
 ghost use Rattle.settle.specs.Settle.{propagated, merged, settle};
@@ -44,8 +44,8 @@ fn propagate_whole(
     st: State,
 ) -> State
     requires { Formed st.v st.n st.n false clauses.old literals.old variables.old }
-    ensures { (times : List ℕ) (links : List ℤ) → standing_in (returned clauses literals variables (unlent times) (unlent links)) result
-        ≡ propagated (standing_in (lent clauses literals variables (unlent times) (unlent links)) st) }
+    ensures { (times : List ℕ) (links : List ℤ) → standing_in (returned clauses.new literals.new variables.new times links) result
+        ≡ propagated (standing_in (lent clauses.old literals.old variables.old times links) st) }
 {
     let n = st.n;
     let totals = visits::count_standing(clauses, n as usize);
@@ -57,8 +57,8 @@ fn propagate_whole(
 // A whole Merge: a visit to each clause.
 fn merge_whole(clauses: &mut [u32], literals: &mut [i32], variables: &mut [i32], st: State) -> State
     requires { Openable st clauses.old literals.old variables.old }
-    ensures { (times : List ℕ) (links : List ℤ) → standing_in (returned clauses literals variables (unlent times) (unlent links)) result
-        ≡ merged (standing_in (lent clauses literals variables (unlent times) (unlent links)) st) }
+    ensures { (times : List ℕ) (links : List ℤ) → standing_in (returned clauses.new literals.new variables.new times links) result
+        ≡ merged (standing_in (lent clauses.old literals.old variables.old times links) st) }
 {
     let n = st.n;
     let outcome = merge::merge_open(clauses, literals, variables, st, n);
@@ -68,8 +68,8 @@ fn merge_whole(clauses: &mut [u32], literals: &mut [i32], variables: &mut [i32],
 // A Propagate and, unless it sets the mark, a Merge, which has found a group exactly if fewer variables are their own class after it.
 fn settle_once(clauses: &mut [u32], literals: &mut [i32], variables: &mut [i32], st: State) -> Step
     requires { Formed st.v st.n st.n false clauses.old literals.old variables.old }
-    ensures { (times : List ℕ) (links : List ℤ) → passed (standing_in (returned clauses literals variables (unlent times) (unlent links)) result.state) result.again
-        ≡ both_passes (standing_in (lent clauses literals variables (unlent times) (unlent links)) st) }
+    ensures { (times : List ℕ) (links : List ℤ) → passed (standing_in (returned clauses.new literals.new variables.new times links) result.state) result.again
+        ≡ both_passes (standing_in (lent clauses.old literals.old variables.old times links) st) }
 {
     let v = st.v;
     let propagated = propagate_whole(clauses, literals, variables, st);
@@ -97,8 +97,8 @@ fn settle_once(clauses: &mut [u32], literals: &mut [i32], variables: &mut [i32],
 // The whole of Settle, on tables without the mark in which no pass is open. They keep the shape rule: `entry::may_open` has checked it, and for later rounds the passes before keep it.
 pub fn settle(clauses: &mut [u32], literals: &mut [i32], variables: &mut [i32], st: State) -> State
     requires { Formed st.v st.n st.n false clauses.old literals.old variables.old }
-    ensures { (times : List ℕ) (links : List ℤ) → standing_in (returned clauses literals variables (unlent times) (unlent links)) result
-        ≡ settle (standing_in (lent clauses literals variables (unlent times) (unlent links)) st) }
+    ensures { (times : List ℕ) (links : List ℤ) → standing_in (returned clauses.new literals.new variables.new times links) result
+        ≡ settle (standing_in (lent clauses.old literals.old variables.old times links) st) }
 {
     let mut state = st;
     loop {

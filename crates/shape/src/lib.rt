@@ -323,7 +323,7 @@ pub fn shape_ok(
     links: &[i32],
     st: State,
 ) -> bool
-    ensures { result ≡ shape_ok (lent clauses literals variables times links) st }
+    ensures { result ≡ shape_ok (lent clauses.now literals.now variables.now times.now links.now) st }
 {
     if !tables::long_ok(clauses, literals, variables, times, links) {
         return false;

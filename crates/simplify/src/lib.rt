@@ -20,8 +20,8 @@ fn run_loaded(
     loaded: Outcome,
     rounds: u16,
 ) -> Outcome
-    ensures { after result (returned clauses literals variables times links)
-        ≡ run_unless loaded.state.mark rounds (after loaded (lent clauses literals variables times links)) }
+    ensures { after result (returned clauses.new literals.new variables.new times.new links.new)
+        ≡ run_unless loaded.state.mark rounds (after loaded (lent clauses.old literals.old variables.old times.old links.old)) }
 {
     let st = loaded.state;
     if st.mark {
@@ -42,7 +42,7 @@ fn run_and_write(
     out: &mut [u8],
 ) -> Answer
     ensures out_after { after_write result out.new
-        ≡ write_after 0 (run_unless loaded.state.mark rounds (after loaded (lent clauses literals variables times links))) out.old }
+        ≡ write_after 0 (run_unless loaded.state.mark rounds (after loaded (lent clauses.old literals.old variables.old times.old links.old))) out.old }
     ensures fits { fits (reply_of result) (length out.old) }
 {
     let ran = run_loaded(clauses, literals, variables, times, links, loaded, rounds);
@@ -61,7 +61,7 @@ fn simplify(
     times: &mut [u32],
     links: &mut [i32],
 ) -> Answer
-    ensures out_after { after_write result out.new ≡ simplify_in (lent clauses literals variables times links) text.now rounds out.old }
+    ensures out_after { after_write result out.new ≡ simplify_in (lent clauses.old literals.old variables.old times.old links.old) text.now rounds out.old }
     ensures fits { fits (reply_of result) (length out.old) }
 {
     let st = State::empty();

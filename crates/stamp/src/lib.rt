@@ -5,7 +5,7 @@ ghost use Rattle.std.specs.Prelude.{◌≡◌, false, List, map, ℕ, ◌*◌, �
 ghost use Rattle.literal.specs.Literals.{slot_of};
 ghost use Rattle.implications.specs.Clauses.{implications};
 ghost use Rattle.scc.specs.Groups.{cyclic};
-ghost use Rattle.tables.specs.Lent.{lent, returned, unlent};
+ghost use Rattle.tables.specs.Lent.{lent, returned};
 ghost use Rattle.tables.specs.Clauses.{slots_from};
 ghost use Rattle.tables.specs.Calls.{after};
 ghost use Rattle.visits.specs.Formed.{Formed};
@@ -55,7 +55,7 @@ pub fn ask_ordered(
 ) -> Ruling
     requires { Formed st.v st.n st.n false clauses.now literals.now variables.now }
     ensures { (times : List ℕ) (links : List ℤ) →
-        result ≡ ask_ordered order.now (lent clauses literals variables (unlent times) (unlent links)) st }
+        result ≡ ask_ordered order.now (lent clauses.now literals.now variables.now times links) st }
 {
     let v = st.v;
     let slots = 2 * v as usize;
@@ -84,7 +84,7 @@ fn ask(
     st: State,
     order: &[i32],
 ) -> Ruling
-    ensures { result ≡ ask_of order.now (lent clauses literals variables times links) st }
+    ensures { result ≡ ask_of order.now (lent clauses.now literals.now variables.now times.now links.now) st }
 {
     let opening = entry::may_open(clauses, literals, variables, times, links, st);
     match opening {
@@ -111,9 +111,9 @@ fn write_stamps(
     requires proper { Proper v n clauses.now literals.now × Full v order.now }
     requires blank { Blank v slots.old discoveries.old finishes.old parents.old starts.old × Records v times.old links.old }
     ensures { (result ≡ cyclic (implications (slots_from clauses.now literals.now n 0)) (2 * v))
-        × ((variables : List ℤ) → returned clauses literals (unlent variables) times links
+        × ((variables : List ℤ) → returned clauses.now literals.now variables times.new links.new
         ≡ written_tables result v (stamps_of (slots_from clauses.now literals.now n 0) (2 * v) (map slot_of order.now))
-        (lent clauses literals (unlent variables) times links)) }
+        (lent clauses.now literals.now variables times.old links.old)) }
 {
     stamp_walk::list_slots(order, slots);
     if stamp_walk::stamp_columns(
@@ -161,8 +161,8 @@ pub fn stamp_acyclic(
 ) -> Outcome
     requires proper { Proper st.v st.n clauses.now literals.now × Full st.v order.now }
     requires records { Records st.v times.old links.old }
-    ensures { (variables : List ℤ) → after result (returned clauses literals (unlent variables) times links)
-        ≡ stamp_acyclic order.now (lent clauses literals (unlent variables) times links) st }
+    ensures { (variables : List ℤ) → after result (returned clauses.now literals.now variables times.new links.new)
+        ≡ stamp_acyclic order.now (lent clauses.now literals.now variables times.old links.old) st }
 {
     let v = st.v as usize;
     let n = st.n as usize;
@@ -199,8 +199,8 @@ pub fn stamp(
     st: State,
     order: &[i32],
 ) -> Outcome
-    ensures { after result (returned clauses literals variables times links)
-        ≡ stamp_call order.now (lent clauses literals variables times links) st }
+    ensures { after result (returned clauses.now literals.now variables.now times.new links.new)
+        ≡ stamp_call order.now (lent clauses.now literals.now variables.now times.old links.old) st }
 {
     let ruling = ask(clauses, literals, variables, times, links, st, order);
     match ruling {

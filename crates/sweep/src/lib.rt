@@ -2,7 +2,7 @@
 #![tactic(auto)]
 
 ghost use Rattle.std.specs.Prelude.{◌≡◌, true, List, ◌≤◌, ℤ};
-ghost use Rattle.tables.specs.Lent.{lent, returned, unlent};
+ghost use Rattle.tables.specs.Lent.{lent, returned};
 ghost use Rattle.tables.specs.Calls.{after};
 ghost use Rattle.sweep_visits.specs.Visits.{Sweepable};
 ghost use Rattle.sweep.specs.Sweep.{sweep_from, sweep_unless_stale, sweep_call};
@@ -21,8 +21,8 @@ fn sweep_from(
     steps: u32,
 ) -> Outcome
     requires { Sweepable st.n clauses.old literals.old times.now links.now × (cursor ≤ st.n) }
-    ensures { (variables : List ℤ) → after result (returned clauses literals (unlent variables) times links)
-        ≡ sweep_from steps cursor (lent clauses literals (unlent variables) times links) st }
+    ensures { (variables : List ℤ) → after result (returned clauses.new literals.new variables times.now links.now)
+        ≡ sweep_from steps cursor (lent clauses.old literals.old variables times.now links.now) st }
 {
     let mut slots = [0u32; 16384];
     let mut twins = [0u32; 16384];
@@ -56,8 +56,8 @@ pub fn sweep_entered(
     n: u32,
 ) -> Outcome
     requires { (st.fresh ≡ true → Sweepable st.n clauses.old literals.old times.now links.now) × (cursor ≤ st.n) }
-    ensures { (variables : List ℤ) → after result (returned clauses literals (unlent variables) times links)
-        ≡ sweep_unless_stale st.fresh n cursor (lent clauses literals (unlent variables) times links) st }
+    ensures { (variables : List ℤ) → after result (returned clauses.new literals.new variables times.now links.now)
+        ≡ sweep_unless_stale st.fresh n cursor (lent clauses.old literals.old variables times.now links.now) st }
 {
     if !st.fresh {
         return Outcome {
@@ -78,8 +78,8 @@ pub fn sweep(
     st: State,
     n: u16,
 ) -> Outcome
-    ensures { after result (returned clauses literals variables times links)
-        ≡ sweep_call n (lent clauses literals variables times links) st }
+    ensures { after result (returned clauses.new literals.new variables.now times.now links.now)
+        ≡ sweep_call n (lent clauses.old literals.old variables.now times.now links.now) st }
 {
     let own = PassName::Sweep;
     let e = entry::entry_of(clauses, literals, variables, times, links, st, own);

@@ -3,7 +3,7 @@
 
 ghost use Rattle.std.specs.Prelude.{◌≡◌, List, ℕ, ◌+◌, ◌≤◌, length, ℤ};
 ghost use Rattle.stamp_columns.specs.Columns.{columns};
-ghost use Rattle.tables.specs.Lent.{lent, returned, unlent};
+ghost use Rattle.tables.specs.Lent.{lent, returned};
 ghost use Rattle.tables.specs.Fates.{visits};
 ghost use Rattle.visits.specs.Visited.{part_of, part_after, visit_of, visit_at};
 ghost use Rattle.hidden_tautologies.specs.Judged.{Judged};
@@ -45,8 +45,8 @@ fn visit_clause(
     k: usize,
 ) -> Visited
     requires { SweepableFrom k 1 clauses.old literals.old times.now links.now × (16384 ≤ length slots.old) × (16384 ≤ length twins.old) }
-    ensures { (variables : List ℤ) → visit_of result (returned clauses literals (unlent variables) times links)
-        ≡ visit_at (sweep_clause (columns times.now links.now)) k (lent clauses literals (unlent variables) times links) }
+    ensures { (variables : List ℤ) → visit_of result (returned clauses.new literals.new variables times.now links.now)
+        ≡ visit_at (sweep_clause (columns times.now links.now)) k (lent clauses.old literals.old variables times.now links.now) }
 {
     let flag = visits::flag_of(clauses, k);
     if flag == 0 {
@@ -79,8 +79,8 @@ pub fn sweep_visits(
 )
     requires { SweepableFrom k m clauses.old literals.old times.now links.now × (16384 ≤ length slots.old) × (16384 ≤ length twins.old) }
     ensures { ((n : ℕ) → k + m ≤ n → Sweepable n clauses.old literals.old times.now links.now → Sweepable n clauses.new literals.new times.now links.now)
-        × ((variables : List ℤ) → returned clauses literals (unlent variables) times links
-        ≡ visits (sweep_clause (columns times.now links.now)) m k (lent clauses literals (unlent variables) times links)) }
+        × ((variables : List ℤ) → returned clauses.new literals.new variables times.now links.now
+        ≡ visits (sweep_clause (columns times.now links.now)) m k (lent clauses.old literals.old variables times.now links.now)) }
 {
     let mut i = 0;
     while i < m {

@@ -13,7 +13,7 @@ pub fn long_ok(
     times: &[u32],
     links: &[i32],
 ) -> bool
-    ensures { Decides result (Long (lent clauses literals variables times links)) }
+    ensures { Decides result (Long (lent clauses.now literals.now variables.now times.now links.now)) }
 {
     if clauses.len() < 12288 {
         return false;

@@ -50,4 +50,4 @@ module _ {w : List ℤ} {l : ℤ} (K : Known w l) where
   known_class = record { count = K.count; rows = K.rows; ranged = class_ranged }
 
   pub class_own : class_of w (nat_abs (class_literal w l)) ≡ pos (nat_abs (class_literal w l))
-  class_own = ap (class_of w) class_abs ∙ known_row.own_val ∙ ap pos (sym class_abs)
+  class_own = ap (class_of w) class_abs ∙ known_row.own ∙ ap pos (sym class_abs)

@@ -6,7 +6,7 @@ ghost use Rattle.tables.specs.Values.{class_literal, own_truth, truth, is_true, 
 ghost use Rattle.tables.specs.Clauses.{standing_count, literal_count};
 ghost use Rattle.visits.specs.Formed.{Known, Counted, EachKnown};
 ghost use Rattle.base.specs.Lists.{any};
-ghost use Rattle.tables.specs.Lent.{lent, unlent};
+ghost use Rattle.tables.specs.Lent.{lent};
 ghost use Rattle.tables.specs.Passes.{valued, unsettled, first_unsettled};
 ghost use Rattle.tables.specs.Tables.{Tables, start_of, length_of, standing};
 ghost use Rattle.tables.specs.Calls.{after};
@@ -251,7 +251,7 @@ fn any_valued(part: &[i32], variables: &[i32]) -> bool
 // Whether clause i stands and has one literal, or a valued variable.
 fn is_unsettled(clauses: &[u32], literals: &[i32], variables: &[i32], i: usize) -> bool
     requires { Asked i clauses.now literals.now variables.now }
-    ensures { (times : List ℕ) (links : List ℤ) → result ≡ unsettled (lent clauses literals variables (unlent times) (unlent links)) i }
+    ensures { (times : List ℕ) (links : List ℤ) → result ≡ unsettled (lent clauses.now literals.now variables.now times links) i }
 {
     let flag = flag_of(clauses, i);
     if flag != 1 {
@@ -269,7 +269,7 @@ fn is_unsettled(clauses: &[u32], literals: &[i32], variables: &[i32], i: usize) 
 // The first such clause of n, counted from 0; n if there is none. The clauses lie in the tables by the shape rule.
 pub fn first_unsettled(clauses: &[u32], literals: &[i32], variables: &[i32], n: usize) -> usize
     requires { ((i : ℕ) → i < n → Asked i clauses.now literals.now variables.now) × (n ≤ 4096) }
-    ensures { (times : List ℕ) (links : List ℤ) → result ≡ first_unsettled (lent clauses literals variables (unlent times) (unlent links)) n }
+    ensures { (times : List ℕ) (links : List ℤ) → result ≡ first_unsettled (lent clauses.now literals.now variables.now times links) n }
 {
     let mut i = 0;
     while i < n {

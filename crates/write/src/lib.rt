@@ -6,7 +6,7 @@ ghost use Rattle.std.specs.Prelude.{◌≡◌, ℕ, ◌+◌, ◌*◌, ◌≤◌,
 ghost use Rattle.std.specs.Int.Signed.{non_neg};
 ghost use Rattle.literal.specs.Literals.{Literal, lit_by, EachSmall};
 ghost use Rattle.tables.specs.Tables.{class_of, value_of};
-ghost use Rattle.tables.specs.Lent.{lent, unlent};
+ghost use Rattle.tables.specs.Lent.{lent};
 ghost use Rattle.printing.specs.Printing.{clauses_text};
 ghost use Rattle.printing.specs.Stored.{Stored};
 ghost use Rattle.write.specs.Write.{write_text, after_write, write_into, write_call};
@@ -198,7 +198,7 @@ fn put_formula(
     st: State,
 ) -> usize
     requires { Printable clauses.now literals.now variables.now st.v st.n }
-    ensures { (times : List ℕ) (links : List ℤ) → Stored (write_text (lent clauses literals variables (unlent times) (unlent links)) st) 0 out.old out.new result }
+    ensures { (times : List ℕ) (links : List ℤ) → Stored (write_text (lent clauses.now literals.now variables.now times links) st) 0 out.old out.new result }
 {
     if st.mark {
         let none = 0;
@@ -223,7 +223,7 @@ fn write_text(
     out: &mut [u8],
 ) -> Answer
     requires { Printable clauses.now literals.now variables.now st.v st.n }
-    ensures { (times : List ℕ) (links : List ℤ) → after_write result out.new ≡ write_into (write_text (lent clauses literals variables (unlent times) (unlent links)) st) out.old }
+    ensures { (times : List ℕ) (links : List ℤ) → after_write result out.new ≡ write_into (write_text (lent clauses.now literals.now variables.now times links) st) out.old }
 {
     // measured first, on an empty part of the output, so that a refused call stores nothing
     let none = 0;
@@ -245,7 +245,7 @@ pub fn write(
     st: State,
     out: &mut [u8],
 ) -> Answer
-    ensures { after_write result out.new ≡ write_call (lent clauses literals variables times links) st out.old }
+    ensures { after_write result out.new ≡ write_call (lent clauses.now literals.now variables.now times.now links.now) st out.old }
 {
     if !shape::shape_ok(clauses, literals, variables, times, links, st) {
         return Answer::Refused(Refusal::Shape);

@@ -9,23 +9,23 @@ use Rattle.c_numbers.proofs.finish_window.Tie as tie
 number-requires : tie.Need-number-requires
 number-requires c κs = search rules
 
-returns : tie.Need-returns
-returns c = let s = c.before.before.before in window_refused (reply_of s.args.a).number s.args.left s.args.window.now (λ z. omega (arith, c.if1.true, c.before.number.ensures.0, z))
+returns : tie.Need-returns-then-number-gt0
+returns c = window_refused (reply_of c.args.a).number c.args.left c.args.window.now (λ z. omega (arith, c.if-number-gt0.true, c.number.ensures.0, z))
 
-slice-write-window : tie.Need-slice-write-window
+slice-write-window : tie.Need-bounds-window-0
 slice-write-window c = search rules
 
-slice-write-window-2 : tie.Need-slice-write-window-2
+slice-write-window-2 : tie.Need-bounds-window-1
 slice-write-window-2 c = search rules
 
-same_length : tie.Need-same-length
+same_length : tie.Need-shape_of-window
 same_length c = search rules
 
-returns-2 : tie.Need-returns-2
-returns-2 c = let s = c.before.before.before in window_made (reply_of s.args.a).number s.args.left s.args.window.now s.requires (omega (arith, c.if1.false, c.before.number.ensures.0))
+returns-2 : tie.Need-returns
+returns-2 c = window_made (reply_of c.args.a).number c.args.left c.args.window.now c.requires (omega (arith, c.if-number-gt0.false, c.number.ensures.0))
 
-pub finish-window-spec : {M : Type 1} → statement M
-finish-window-spec =
+pub finish_window_spec : {M : Type 1} → statement M
+finish_window_spec =
     tie.close
     (tie.spec
     number-requires

@@ -4,23 +4,29 @@ use Rattle.c_numbers.proofs.Reading.{pass_above}
 use Rattle.c_numbers.proofs.pass_readable.Statement.{statement}
 use Rattle.c_numbers.proofs.pass_readable.Tie as tie
 
-returns : tie.Need-returns
-returns c = rw (c.before.match.keys1, ne_eqb _ _ c.if1.true)
+returns : tie.Need-returns-then-cursor-ne0
+returns c = rw (c.in-0.keys1, ne_eqb _ _ c.if-cursor-ne0.true)
 
-returns-2 : tie.Need-returns-2
-returns-2 c = rw (c.before.match.keys1, eq-eqb _ _ c.if1.false)
+returns-2 : tie.Need-returns-else-cursor-ne0
+returns-2 c = rw (c.in-0.keys1, eq-eqb _ _ c.if-cursor-ne0.false)
 
-returns-3 : tie.Need-returns-3
-returns-3 c = rw c.match.keys2
+returns-3 : tie.Need-returns-in-1
+returns-3 c = rw c.in-1.keys2
 
-returns-4 : tie.Need-returns-4
-returns-4 c = rw c.match.keys3
+returns-4 : tie.Need-returns-in-2
+returns-4 c = rw c.in-2.keys3
 
-returns-5 : tie.Need-returns-5
-returns-5 c = rw c.match.keys4
+returns-5 : tie.Need-returns-in-3
+returns-5 c = rw c.in-3.keys4
 
-returns-6 : tie.Need-returns-6
-returns-6 c = let none = c.match.rest in pass_above _ _ _ none.0.0.0.1 none.0.0.1 none.0.1 none.1
+returns-6 : tie.Need-returns-in_default
+returns-6 c = let none = c.in_default.rest in pass_above _ _ _ none.0.0.0.1 none.0.0.1 none.0.1 none.1
 
-pub pass-readable-spec : {M : Type 1} → statement M
-pass-readable-spec = tie.close (tie.spec returns returns-2 returns-3 returns-4 returns-5 returns-6)
+pub pass_readable_spec : {M : Type 1} → statement M
+pass_readable_spec = tie.close (tie.spec
+    returns
+    returns-2
+    returns-3
+    returns-4
+    returns-5
+    returns-6)

@@ -9,42 +9,42 @@ use borrow.Author.Rules.{rules}
 use Rattle.c_numbers.proofs.readable.Statement.{statement}
 use Rattle.c_numbers.proofs.readable.Tie as tie
 
-returns : tie.Need-returns
+returns : tie.Need-returns-then-state-lt40
 unfolding readable
-returns c = let s = c.before.before.args.state.now in fails (leb 40 (length s)) _ (lt-leb 40 (length s) c.if1.true)
+returns c = let s = c.args.state.now in fails (leb 40 (length s)) _ (lt-leb 40 (length s) c.if-state-lt40.true)
 
-shared-slice-read-if2 : tie.Need-shared-slice-read-if2
+shared-slice-read-if2 : tie.Need-bounds-state-5
 shared-slice-read-if2 c = search rules
 
-returns-2 : tie.Need-returns-2
+returns-2 : tie.Need-returns-then-state-gt1
 unfolding readable
-returns-2 c = let s = c.before.before.before.before.args.state.now in passes (leb 40 (length s)) _ _ (le-leb 40 (length s) (omega (arith, c.before.before.if1.false))) (fails (leb (get_or s 5 0) 1) _ (lt-leb _ _ c.if2.true))
+returns-2 c = let s = c.args.state.now in passes (leb 40 (length s)) _ _ (le-leb 40 (length s) (omega (arith, c.if-state-lt40.false))) (fails (leb (get_or s 5 0) 1) _ (lt-leb _ _ c.if-state-gt1.true))
 
-shared-slice-read-if3 : tie.Need-shared-slice-read-if3
+shared-slice-read-if3 : tie.Need-bounds-state-6
 shared-slice-read-if3 c = search rules
 
-returns-3 : tie.Need-returns-3
+returns-3 : tie.Need-returns-then-state-gt1-2
 unfolding readable
-returns-3 c = let s = c.before.before.before.before.before.before.args.state.now in passes (leb 40 (length s)) _ _ (le-leb 40 (length s) (omega (arith, c.before.before.before.before.if1.false))) (passes (leb (get_or s 5 0) 1) _ _ (le-leb _ _ c.before.before.if2.false) (fails (leb (get_or s 6 0) 1) _ (lt-leb _ _ c.if3.true)))
+returns-3 c = let s = c.args.state.now in passes (leb 40 (length s)) _ _ (le-leb 40 (length s) (omega (arith, c.if-state-lt40.false))) (passes (leb (get_or s 5 0) 1) _ _ (le-leb _ _ c.if-state-gt1.false) (fails (leb (get_or s 6 0) 1) _ (lt-leb _ _ c.if-state-gt1-2.true)))
 
-shared-slice-read-pass-readable : tie.Need-shared-slice-read-pass-readable
+shared-slice-read-pass-readable : tie.Need-bounds-state-2
 shared-slice-read-pass-readable c = search rules
 
-shared-slice-read-pass-readable-2 : tie.Need-shared-slice-read-pass-readable-2
+shared-slice-read-pass-readable-2 : tie.Need-bounds-state-3
 shared-slice-read-pass-readable-2 c = search rules
 
-shared-slice-read-pass-readable-3 : tie.Need-shared-slice-read-pass-readable-3
+shared-slice-read-pass-readable-3 : tie.Need-bounds-state-4
 shared-slice-read-pass-readable-3 c = search rules
 
-pass-readable-requires : tie.Need-pass-readable-requires
+pass-readable-requires : tie.Need-pass_readable-requires
 pass-readable-requires c κs = search rules
 
-returns-4 : tie.Need-returns-4
+returns-4 : tie.Need-returns
 unfolding readable
-returns-4 c = let s = c.before.before.before.before.before.before.before.before.before.before.args.state.now in passes (leb 40 (length s)) _ _ (le-leb 40 (length s) (omega (arith, c.before.before.before.before.before.before.before.before.if1.false))) (passes (leb (get_or s 5 0) 1) _ _ (le-leb _ _ c.before.before.before.before.before.before.if2.false) (passes (leb (get_or s 6 0) 1) _ _ (le-leb _ _ c.before.before.before.before.if3.false) c.pass-readable.ensures))
+returns-4 c = let s = c.args.state.now in passes (leb 40 (length s)) _ _ (le-leb 40 (length s) (omega (arith, c.if-state-lt40.false))) (passes (leb (get_or s 5 0) 1) _ _ (le-leb _ _ c.if-state-gt1.false) (passes (leb (get_or s 6 0) 1) _ _ (le-leb _ _ c.if-state-gt1-2.false) c.pass_readable.ensures))
 
-pub readable-spec : {M : Type 1} → statement M
-readable-spec =
+pub readable_spec : {M : Type 1} → statement M
+readable_spec =
     tie.close
     (tie.spec
     returns

@@ -9,16 +9,19 @@ use borrow.Author.Rules.{rules}
 use Rattle.c_numbers.proofs.ready.Statement.{statement}
 use Rattle.c_numbers.proofs.ready.Tie as tie
 
-returns : tie.Need-returns
+returns : tie.Need-returns-then-answer-lt4
 unfolding ready
-returns c = let a = c.before.before.before.args.answer.now in fails (leb 4 (length a)) _ (lt-leb 4 (length a) c.if1.true)
+returns c = let a = c.args.answer.now in fails (leb 4 (length a)) _ (lt-leb 4 (length a) c.if-answer-lt4.true)
 
 readable-requires : tie.Need-readable-requires
 readable-requires c κs = search rules
 
-returns-2 : tie.Need-returns-2
+returns-2 : tie.Need-returns
 unfolding ready
-returns-2 c = let a = c.before.before.before.before.args.answer.now in passes (leb 4 (length a)) _ _ (le-leb 4 (length a) (omega (arith, c.before.if1.false))) c.readable.ensures
+returns-2 c = let a = c.args.answer.now in passes (leb 4 (length a)) _ _ (le-leb 4 (length a) (omega (arith, c.if-answer-lt4.false))) c.readable.ensures
 
-pub ready-spec : {M : Type 1} → statement M
-ready-spec = tie.close (tie.spec returns readable-requires returns-2)
+pub ready_spec : {M : Type 1} → statement M
+ready_spec = tie.close (tie.spec
+    returns
+    readable-requires
+    returns-2)

@@ -5,20 +5,25 @@ use mir.Syntax.{w64}
 use mir.Facts.{to_z-of_z}
 use borrow.Author.Rules.{sfits_of, rules}
 use Rattle.c_numbers.proofs.Answered.{short_stays, long_told}
+use borrow.Author.Rules.{rules}
 use Rattle.c_numbers.proofs.refuse_unread.Statement.{statement}
 use Rattle.c_numbers.proofs.refuse_unread.Tie as tie
 
-returns : tie.Need-returns
-returns c = (refl, short_stays c.before.before.args.answer.now c.if1.true)
+returns : tie.Need-returns-then-answer-lt4
+returns c = (refl, short_stays c.args.answer.now c.if-answer-lt4.true)
 
-put-answer-requires : tie.Need-put-answer-requires
+put-answer-requires : tie.Need-put_answer-requires
 put-answer-requires c κs = search rules
 
-same_length : tie.Need-same-length
+same_length : tie.Need-shape_of-answer
 same_length c = search rules
 
-returns-2 : tie.Need-returns-2
-returns-2 c = (to_z-of_z {w = w64} {z = c.before.before.put-answer.result} (sfits_of c.before.before.put-answer.type-inv) ∙ c.before.before.put-answer.ensures.0, c.before.before.put-answer.ensures.1 ∙ long_told c.before.before.before.before.before.before.args.answer.now (omega (arith, c.before.before.before.before.if1.false)))
+returns-2 : tie.Need-returns
+returns-2 c = (to_z-of_z {w = w64} {z = c.put_answer.result} (sfits_of c.put_answer.type_inv) ∙ c.put_answer.ensures.0, c.put_answer.ensures.1 ∙ long_told c.args.answer.now (omega (arith, c.if-answer-lt4.false)))
 
-pub refuse-unread-spec : {M : Type 1} → statement M
-refuse-unread-spec = tie.close (tie.spec returns put-answer-requires same_length returns-2)
+pub refuse_unread_spec : {M : Type 1} → statement M
+refuse_unread_spec = tie.close (tie.spec
+    returns
+    put-answer-requires
+    same_length
+    returns-2)

@@ -5,15 +5,18 @@ use borrow.Author.Rules.{rules}
 use Rattle.c_numbers.proofs.window_at.Statement.{statement}
 use Rattle.c_numbers.proofs.window_at.Tie as tie
 
-shared-slice-read-t3 : tie.Need-shared-slice-read-t3
+shared-slice-read-t3 : tie.Need-bounds-window-0
 shared-slice-read-t3 c = search rules
 
-shared-slice-read-t5 : tie.Need-shared-slice-read-t5
+shared-slice-read-t5 : tie.Need-bounds-window-1
 shared-slice-read-t5 c = search rules
 
 returns : tie.Need-returns
 unfolding window_at
 returns c = refl
 
-pub window-at-spec : {M : Type 1} → statement M
-window-at-spec = tie.close (tie.spec shared-slice-read-t3 shared-slice-read-t5 returns)
+pub window_at_spec : {M : Type 1} → statement M
+window_at_spec = tie.close (tie.spec
+    shared-slice-read-t3
+    shared-slice-read-t5
+    returns)

@@ -16,7 +16,7 @@ enum-known-v c = search rules
 
 judge-right-requires : tie.Need-judge_right-requires
 judge-right-requires c κs =
-    text_kept c.args.left.now _ c.judge_text.ensures c.v-1.given.1 (search rules)
+    text_kept c.args.left.now _ c.judge_text.ensures c.in-Fits.is (search rules)
 
 same_length : tie.Need-shape_of-numbers-in-Refused
 same_length c = search rules
@@ -25,7 +25,7 @@ returns : tie.Need-returns-in-Refused
 returns c =
     let a = c.args in
     let judged = c.judge_text.ensures in
-    left_refused a.left.now a.right.now a.pairs.now _ (sym judged.is ∙ c.r-1.given.1)
+    left_refused a.left.now a.right.now a.pairs.now _ (sym judged.is ∙ c.in-Refused.is)
 
 same-length-2 : tie.Need-shape_of-numbers-in-Fits
 same-length-2 c = search rules
@@ -34,7 +34,7 @@ returns-2 : tie.Need-returns-in-Fits
 returns-2 c =
     let a = c.args in
     let judged = c.judge_text.ensures in
-    let is = c.v-1.given.1 in
+    let is = c.in-Fits.is in
     left_judged a.left.now a.right.now a.pairs.now _ _ (sym judged.is ∙ is) (judged.kept _ _ _ is) c.judge_right.ensures
 
 pub judge_join_spec : {M : Type 1} → statement M

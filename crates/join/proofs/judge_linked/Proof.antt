@@ -25,21 +25,21 @@ clauses s = let a = s.args in both_in a.v a.n a.pairs.now a.m a.numbers.now a.ot
 -- past the links, with the right variables' numbers and where the numbers of both texts end
 module _ (d : tie.After-size_in-size) where
   abbrev start : tie.Start
-  start = d
+  start = d.before.before.before.before.before.before.before.before.before.before
 
   good : pair_count start.args.pairs.now ≤ first_bad start.args.v start.args.w start.args.pairs.now
   good = omega (arith, d.if-bad-pairs.false, d.link-bad.ensures.0, pairs_are (length start.args.pairs.now))
 
-  put : LinksPut start.args.pairs.now d.link-bad.last.numbering
+  put : LinksPut start.args.pairs.now d.link-bad.new.numbering
   put = d.link-bad.ensures.1 (omega (arith, d.if-bad-pairs.false, pairs_are (length start.args.pairs.now)))
 
   all_are : d.number_rest-all.result ≡ joined_variables start.args.v start.args.w start.args.pairs.now
   all_are = (d.number_rest-all.ensures start.args.pairs.now put).0
 
-  both : Both start.args.v start.args.n start.args.w start.args.m start.args.pairs.now d.number_rest-all.last.numbering start.args.numbers.now start.args.others.now d.size_in-end.result d.size_in-size.result
+  both : Both start.args.v start.args.n start.args.w start.args.m start.args.pairs.now d.number_rest-all.new.numbering start.args.numbers.now start.args.others.now d.size_in-end.result d.size_in-size.result
   both = record {
-    lefts = start.pre.0;
-    rights = start.pre.1;
+    lefts = start.requires.0;
+    rights = start.requires.1;
     linked = links_right start.args.v start.args.w start.args.pairs.now good;
     numbered = (d.number_rest-all.ensures start.args.pairs.now put).1;
     ends = d.size_in-end.ensures;

@@ -23,13 +23,13 @@ slice-aggregate-judge-linked c = search rules
 judge-linked-requires : tie.Need-judge_linked-requires
 judge-linked-requires c κs =
     let judged = c.judge_text in
-    (c.requires, text_kept c.args.right.now _ judged.ensures c.w-1.given.1 (search rules))
+    (c.requires, text_kept c.args.right.now _ judged.ensures c.in-Fits.is (search rules))
 
 returns : tie.Need-returns-in-Refused
 returns c =
     let a = c.args in
     let judged = c.judge_text.ensures in
-    right_refused a.v a.n a.numbers.now a.right.now a.pairs.now _ (sym judged.is ∙ c.r-1.given.1)
+    right_refused a.v a.n a.numbers.now a.right.now a.pairs.now _ (sym judged.is ∙ c.in-Refused.is)
 
 same_length : tie.Need-shape_of-numbers
 same_length c = search rules
@@ -38,7 +38,7 @@ returns-2 : tie.Need-returns-in-Fits
 returns-2 c =
     let a = c.args in
     let judged = c.judge_text.ensures in
-    let is = c.w-1.given.1 in
+    let is = c.in-Fits.is in
     right_judged a.v a.n a.numbers.now a.right.now a.pairs.now _ _ (sym judged.is ∙ is) (judged.kept _ _ _ is) c.judge_linked.ensures
 
 pub judge_right_spec : {M : Type 1} → statement M

@@ -5,6 +5,7 @@ use mathlib.Core.List.{List}
 use mathlib.Core.Logic.{⊎_elim}
 use borrow.Author.Rules.{rules}
 use Rattle.join.proofs.Numbering.{Loop, loop_none, loop_linked, loop_numbered, loop_all}
+use Rattle.join.proofs.number_rest.Lts.{then-numbering-i-eq0, else-numbering-i-eq0}
 use Rattle.join.proofs.number_rest.Statement.{statement}
 use Rattle.join.proofs.number_rest.Tie as tie
 use Rattle.join.proofs.number_rest.Reads as reads
@@ -61,10 +62,10 @@ loop-less c = omega (arith, c.loop-i-test.true)
 -- src/lib.rt:71:5
 loop-again : tie.Need-loop-i-preserved invariant-loop decreases-loop
 loop-again c =
-    ⊎_elim
-    (λ r. subst₂ (λ (ns : List ℕ) (k : ℕ). Loop c.args.v c.args.w c.args.numbering.now ns k (c.loop-i.i + 1)) (sym r.1) (sym r.2) (loop_numbered c.loop-i.invariant c.loop-i-test.true r.0.taken))
-    (λ r. subst₂ (λ (ns : List ℕ) (k : ℕ). Loop c.args.v c.args.w c.args.numbering.now ns k (c.loop-i.i + 1)) (sym r.1) (sym r.2) (loop_linked c.loop-i.invariant c.loop-i-test.true r.0.left))
-    c.if-numbering-i-eq0.branch
+    elim c.if-numbering-i-eq0.branch [
+      | then-numbering-i-eq0 w ↦ subst₂ (λ (ns : List ℕ) (k : ℕ). Loop c.args.v c.args.w c.args.numbering.now ns k (c.loop-i.i + 1)) (sym w.numbering-is) (sym w.last-is) (loop_numbered c.loop-i.invariant c.loop-i-test.true w.if-numbering-i-eq0.true)
+      | else-numbering-i-eq0 w ↦ subst₂ (λ (ns : List ℕ) (k : ℕ). Loop c.args.v c.args.w c.args.numbering.now ns k (c.loop-i.i + 1)) (sym w.numbering-is) (sym w.last-is) (loop_linked c.loop-i.invariant c.loop-i-test.true w.if-numbering-i-eq0.false)
+    ]
 
 -- src/lib.rt:64:1
 same_length : tie.Need-shape_of-numbering invariant-loop decreases-loop

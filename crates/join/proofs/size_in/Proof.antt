@@ -10,6 +10,7 @@ use Rattle.literal.proofs.Signed.{is_lit}
 use borrow.Author.Rules.{sfits_of, rules}
 use Rattle.join.proofs.Counting.{Counting, counting_none, inside, counting_nought, counting_literal, counted}
 use borrow.Author.Rules.{rules}
+use Rattle.join.proofs.size_in.Lts.{then-numbers-i-eq0, else-numbers-i-eq0}
 use Rattle.join.proofs.size_in.Statement.{statement}
 use Rattle.join.proofs.size_in.Tie as tie
 use Rattle.join.proofs.size_in.Reads as reads
@@ -48,12 +49,12 @@ loop-less c = omega (arith, inside c.loop-left.invariant c.loop-left-test.true)
 -- src/lib.rt:88:5
 loop-again : tie.Need-loop-left-preserved invariant-loop decreases-loop
 loop-again c =
-    ⊎_elim
-    (λ r. subst (λ (k : ℕ). Counting c.args.numbers.now c.args.n k (c.loop-left.i + 1)) (sym r.1)
-    (counting_nought c.loop-left.invariant c.loop-left-test.true (is_lit (sfits_of c.t8-1.given) (pos 0) tt r.0.taken)))
-    (λ r. subst (λ (k : ℕ). Counting c.args.numbers.now c.args.n k (c.loop-left.i + 1)) (sym r.1)
-    (counting_literal c.loop-left.invariant c.loop-left-test.true (λ e. r.0.left (ap (of_z w32) e))))
-    c.if-numbers-i-eq0.branch
+    elim c.if-numbers-i-eq0.branch [
+      | then-numbers-i-eq0 w ↦ subst (λ (k : ℕ). Counting c.args.numbers.now c.args.n k (c.loop-left.i + 1)) (sym w.left-is)
+          (counting_nought c.loop-left.invariant c.loop-left-test.true (is_lit (sfits_of c.t8-1.given) (pos 0) tt w.if-numbers-i-eq0.true))
+      | else-numbers-i-eq0 w ↦ subst (λ (k : ℕ). Counting c.args.numbers.now c.args.n k (c.loop-left.i + 1)) (sym w.left-is)
+          (counting_literal c.loop-left.invariant c.loop-left-test.true (λ e. w.if-numbers-i-eq0.false (ap (of_z w32) e)))
+    ]
 
 -- src/lib.rt:82:1
 returns : tie.Need-returns invariant-loop decreases-loop

@@ -1,4 +1,5 @@
 -- `occurrences::link_clause` meets its contract. Assumes nothing.
+use mir.Syntax.{w32}
 use Prim.Native.Nat.{ℕ, ◌+◌, ◌≤◌, ◌-◌}
 use mathlib.Core.Path.{◌≡◌, refl, subst, ◌∙◌}
 use lib.ListN.{length}

@@ -25,7 +25,7 @@ abbrev put-number-below : ℕ → In 1 put-number-kinds.ps
 put-number-below t =
     and 1 put-number-kinds.ps (falls 1 put-number-kinds.ps ◌<◌ μ-put-number t) put-number.Pre
 
-put-number-cast-put-byte : (t : ℕ) → put-number-lts.Need-overflow-cast-put-byte (
+put-number-cast-put-byte : (t : ℕ) → put-number-lts.Need-overflow_cast-n (
   put-byte-reads.Asked,
   put-byte-reads.Learnt,
   put-number-below t,
@@ -33,7 +33,7 @@ put-number-cast-put-byte : (t : ℕ) → put-number-lts.Need-overflow-cast-put-b
 ) (put-number-at t) put-number.Post
 put-number-cast-put-byte t c = search rules
 
-put-number-add-put-byte : (t : ℕ) → put-number-lts.Need-overflow-add-put-byte (
+put-number-add-put-byte : (t : ℕ) → put-number-lts.Need-overflow_add-n (
   put-byte-reads.Asked,
   put-byte-reads.Learnt,
   put-number-below t,
@@ -41,7 +41,7 @@ put-number-add-put-byte : (t : ℕ) → put-number-lts.Need-overflow-add-put-byt
 ) (put-number-at t) put-number.Post
 put-number-add-put-byte t c = search rules
 
-put-number-put-byte-requires : (t : ℕ) → put-number-lts.Need-put-byte-requires (
+put-number-put-byte-requires : (t : ℕ) → put-number-lts.Need-put_byte-requires (
   put-byte-reads.Asked,
   put-byte-reads.Learnt,
   put-number-below t,
@@ -49,7 +49,7 @@ put-number-put-byte-requires : (t : ℕ) → put-number-lts.Need-put-byte-requir
 ) (put-number-at t) put-number.Post
 put-number-put-byte-requires t c κs = search rules
 
-put-number-same-length : (t : ℕ) → put-number-lts.Need-same-length (
+put-number-same-length : (t : ℕ) → put-number-lts.Need-shape_of-out-then-n-lt10 (
   put-byte-reads.Asked,
   put-byte-reads.Learnt,
   put-number-below t,
@@ -57,23 +57,23 @@ put-number-same-length : (t : ℕ) → put-number-lts.Need-same-length (
 ) (put-number-at t) put-number.Post
 put-number-same-length t c = search rules
 
-put-number-returns : (t : ℕ) → put-number-lts.Need-returns (
+put-number-returns : (t : ℕ) → put-number-lts.Need-returns-then-n-lt10 (
   put-byte-reads.Asked,
   put-byte-reads.Learnt,
   put-number-below t,
   put-number.Post,
 ) (put-number-at t) put-number.Post
-put-number-returns t c = rw (digits_small c.before.before.before.before.before.before.args.n c.before.before.before.before.if1.true) c.before.before.put_byte.ensures
+put-number-returns t c = rw (digits_small c.args.n c.if-n-lt10.true) c.put_byte.ensures
 
-put-number-put-number-requires : (t : ℕ) → put-number-lts.Need-put-number-requires (
+put-number-put-number-requires : (t : ℕ) → put-number-lts.Need-put_number-next-requires (
   put-byte-reads.Asked,
   put-byte-reads.Learnt,
   put-number-below t,
   put-number.Post,
 ) (put-number-at t) put-number.Post
-put-number-put-number-requires t c κs = (omega (arith, c.before.before.before.requires.0, c.before.if1.false), omega (arith, digits_length c.before.before.before.args.n c.before.if1.false, c.before.before.before.requires.1))
+put-number-put-number-requires t c κs = (omega (arith, c.requires.0, c.if-n-lt10.false), omega (arith, digits_length c.args.n c.if-n-lt10.false, c.requires.1))
 
-put-number-cast-put-byte-2 : (t : ℕ) → put-number-lts.Need-overflow-cast-put-byte-2 (
+put-number-cast-put-byte-2 : (t : ℕ) → put-number-lts.Need-overflow_cast-n-2 (
   put-byte-reads.Asked,
   put-byte-reads.Learnt,
   put-number-below t,
@@ -81,7 +81,7 @@ put-number-cast-put-byte-2 : (t : ℕ) → put-number-lts.Need-overflow-cast-put
 ) (put-number-at t) put-number.Post
 put-number-cast-put-byte-2 t c = search rules
 
-put-number-add-put-byte-2 : (t : ℕ) → put-number-lts.Need-overflow-add-put-byte-2 (
+put-number-add-put-byte-2 : (t : ℕ) → put-number-lts.Need-overflow_add-n-2 (
   put-byte-reads.Asked,
   put-byte-reads.Learnt,
   put-number-below t,
@@ -89,15 +89,15 @@ put-number-add-put-byte-2 : (t : ℕ) → put-number-lts.Need-overflow-add-put-b
 ) (put-number-at t) put-number.Post
 put-number-add-put-byte-2 t c = search rules
 
-put-number-put-byte-requires-2 : (t : ℕ) → put-number-lts.Need-put-byte-requires-2 (
+put-number-put-byte-requires-2 : (t : ℕ) → put-number-lts.Need-put_byte-requires-2 (
   put-byte-reads.Asked,
   put-byte-reads.Learnt,
   put-number-below t,
   put-number.Post,
 ) (put-number-at t) put-number.Post
-put-number-put-byte-requires-2 t c κs = omega (arith, c.before.before.before.put-number.ensures.0, digits_length c.before.before.before.before.before.before.before.args.n c.before.before.before.before.before.if1.false, c.before.before.before.before.before.before.before.requires.1)
+put-number-put-byte-requires-2 t c κs = omega (arith, c.put_number-next.ensures.0, digits_length c.args.n c.if-n-lt10.false, c.requires.1)
 
-put-number-same-length-2 : (t : ℕ) → put-number-lts.Need-same-length-2 (
+put-number-same-length-2 : (t : ℕ) → put-number-lts.Need-shape_of-out (
   put-byte-reads.Asked,
   put-byte-reads.Learnt,
   put-number-below t,
@@ -105,21 +105,21 @@ put-number-same-length-2 : (t : ℕ) → put-number-lts.Need-same-length-2 (
 ) (put-number-at t) put-number.Post
 put-number-same-length-2 t c = search rules
 
-put-number-returns-2 : (t : ℕ) → put-number-lts.Need-returns-2 (
+put-number-returns-2 : (t : ℕ) → put-number-lts.Need-returns (
   put-byte-reads.Asked,
   put-byte-reads.Learnt,
   put-number-below t,
   put-number.Post,
 ) (put-number-at t) put-number.Post
-put-number-returns-2 t c = let a = c.before.before.before.before.before.before.before.before.before.before.args in
-    let f = c.before.before.before.before.before.before.put-number.ensures in
-    let g = c.before.before.put-byte2.ensures in (
-      omega (arith, g.0, f.0, digits_length a.n c.before.before.before.before.before.before.before.before.if1.false),
-      g.1 ∙ (λ i. set (f.1 i) (f.0 i) (48 + a.n % 10)) ∙ digits_stored a.out.now a.at a.n c.before.before.before.before.before.before.before.before.if1.false,
+put-number-returns-2 t c = let a = c.args in
+    let f = c.put_number-next.ensures in
+    let g = c.put_byte-2.ensures in (
+      omega (arith, g.0, f.0, digits_length a.n c.if-n-lt10.false),
+      g.1 ∙ (λ i. set (f.1 i) (f.0 i) (48 + a.n % 10)) ∙ digits_stored a.out.now a.at a.n c.if-n-lt10.false,
     )
 
-pub +put-number-spec : {M : Type 1} → statement M
-+put-number-spec = close μ-put-number λ t. put-number-lts.spec (
+pub +put_number_spec : {M : Type 1} → statement M
++put_number_spec = close μ-put-number λ t. put-number-lts.spec (
   put-byte-reads.Asked,
   put-byte-reads.Learnt,
   put-number-below t,

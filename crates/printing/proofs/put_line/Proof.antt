@@ -10,31 +10,31 @@ use Rattle.printing.proofs.put_byte.Reads as put-byte-reads
 use Rattle.printing.proofs.put_number.Reads as put-number-reads
 use Rattle.printing.proofs.put_text.Reads as put-text-reads
 
-put-text-requires : tie.Need-put-text-requires
-put-text-requires c κs = let a = c.before.before.before.args in omega (arith, line_length a.word.now a.a a.b, c.before.before.before.requires)
+put-text-requires : tie.Need-put_text-first-requires
+put-text-requires c κs = let a = c.args in omega (arith, line_length a.word.now a.a a.b, c.requires)
 
-put-number-requires : tie.Need-put-number-requires
-put-number-requires c κs = let a = c.before.before.before.before.before.before.before.args in omega (arith, c.before.before.before.put-text.ensures.next, line_length a.word.now a.a a.b, c.before.before.before.before.before.before.before.requires)
+put-number-requires : tie.Need-put_number-space-requires
+put-number-requires c κs = let a = c.args in omega (arith, c.put_text-first.ensures.next, line_length a.word.now a.a a.b, c.requires)
 
-put-byte-requires : tie.Need-put-byte-requires
-put-byte-requires c κs = let a = c.before.before.before.before.before.before.before.before.before.before.before.args in omega (arith, c.before.before.before.put-number.ensures.0, c.before.before.before.before.before.before.before.put-text.ensures.next, line_length a.word.now a.a a.b, c.before.before.before.before.before.before.before.before.before.before.before.requires)
+put-byte-requires : tie.Need-put_byte-second-requires
+put-byte-requires c κs = let a = c.args in omega (arith, c.put_number-space.ensures.0, c.put_text-first.ensures.next, line_length a.word.now a.a a.b, c.requires)
 
-put-number-requires-2 : tie.Need-put-number-requires-2
-put-number-requires-2 c κs = let a = c.before.before.before.before.before.before.before.before.before.before.before.before.before.before.before.args in omega (arith, c.before.before.before.put_byte.ensures.0, c.before.before.before.before.before.before.before.put-number.ensures.0, c.before.before.before.before.before.before.before.before.before.before.before.put-text.ensures.next, line_length a.word.now a.a a.b, c.before.before.before.before.before.before.before.before.before.before.before.before.before.before.before.requires)
+put-number-requires-2 : tie.Need-put_number-end-requires
+put-number-requires-2 c κs = let a = c.args in omega (arith, c.put_byte-second.ensures.0, c.put_number-space.ensures.0, c.put_text-first.ensures.next, line_length a.word.now a.a a.b, c.requires)
 
-put-byte-requires-2 : tie.Need-put-byte-requires-2
-put-byte-requires-2 c κs = let a = c.before.before.before.before.before.before.before.before.before.before.before.before.before.before.before.before.before.before.before.args in omega (arith, c.before.before.before.put-number2.ensures.0, c.before.before.before.before.before.before.before.put_byte.ensures.0, c.before.before.before.before.before.before.before.before.before.before.before.put-number.ensures.0, c.before.before.before.before.before.before.before.before.before.before.before.before.before.before.before.put-text.ensures.next, line_length a.word.now a.a a.b, c.before.before.before.before.before.before.before.before.before.before.before.before.before.before.before.before.before.before.before.requires)
+put-byte-requires-2 : tie.Need-put_byte-requires
+put-byte-requires-2 c κs = let a = c.args in omega (arith, c.put_number-end.ensures.0, c.put_byte-second.ensures.0, c.put_number-space.ensures.0, c.put_text-first.ensures.next, line_length a.word.now a.a a.b, c.requires)
 
-same_length : tie.Need-same-length
+same_length : tie.Need-shape_of-out
 same_length c = search rules
 
 returns : tie.Need-returns
-returns c = let a = c.before.before.before.before.before.before.before.before.before.before.before.before.before.before.before.before.before.before.before.before.before.before.args in
-    stored_then c.before.before.before.before.before.before.before.before.before.before.before.before.before.before.before.before.before.before.put-text.ensures (stored_then (stored_number a.a c.before.before.before.before.before.before.before.before.before.before.before.before.before.before.put-number.ensures) (stored_then (stored_byte 32 c.before.before.before.before.before.before.before.before.before.before.put_byte.ensures)
-    (stored_then (stored_number a.b c.before.before.before.before.before.before.put-number2.ensures) (stored_byte 10 c.before.before.put-byte2.ensures))))
+returns c = let a = c.args in
+    stored_then c.put_text-first.ensures (stored_then (stored_number a.a c.put_number-space.ensures) (stored_then (stored_byte 32 c.put_byte-second.ensures)
+    (stored_then (stored_number a.b c.put_number-end.ensures) (stored_byte 10 c.put_byte.ensures))))
 
-pub put-line-spec : {M : Type 1} → statement M
-put-line-spec =
+pub put_line_spec : {M : Type 1} → statement M
+put_line_spec =
     tie.close
     (tie.spec
     put-text-requires

@@ -68,12 +68,11 @@ loop-less : tie.Need-loop-k-smaller invariant-loop decreases-loop
 loop-less c = search rules
 
 loop-again : tie.Need-loop-k-preserved invariant-loop decreases-loop
-loop-again c = let at = c.loop-k in
-    (
-      omega arith,
-      rw (add-one, take-suc c.args.part.now at.k (pos 0) c.loop-k-test.true, with_mark_snoc 0 (take at.k c.args.part.now) (x c.before) c.args.marks.now)
-          (λ j. set (at.invariant.1 j) (mark-is c j) 0),
-    )
+loop-again c = let at = c.loop-k in (
+  omega arith,
+  rw (add-one, take-suc c.args.part.now at.k (pos 0) c.loop-k-test.true, with_mark_snoc 0 (take at.k c.args.part.now) (x c.before) c.args.marks.now)
+      (λ j. set (at.invariant.1 j) (mark-is c j) 0),
+)
 
 same_length : tie.Need-shape_of-marks invariant-loop decreases-loop
 same_length c = ap length c.loop-k.invariant.1 ∙ with_mark_length 0 (take c.loop-k.k c.args.part.now) _

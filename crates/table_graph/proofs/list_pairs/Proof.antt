@@ -17,28 +17,28 @@ use Rattle.table_graph.proofs.list_pairs.Lts as lts
 use Rattle.literal.proofs.slot_of.Reads as slot-of-reads
 use Rattle.table_graph.proofs.put_pair.Reads as put-pair-reads
 
-abbrev invariant-loop : tie.invariant-loop
+abbrev invariant-loop : tie.invariant-loop-i
 invariant-loop n clauses literals from₀ to₀ k₀ i₀ from to k i = Pairing n clauses literals from₀ to₀ from to k i
 
-abbrev decreases-loop : tie.decreases-loop
+abbrev decreases-loop : tie.decreases-loop-i
 decreases-loop n clauses literals from₀ to₀ k₀ i₀ from to k i = n - i
 
 -- in the arm of a clause of two literals
-module _ (c : tie.Then1 invariant-loop decreases-loop) where
+module _ (c : tie.Then-len-eq2 invariant-loop decreases-loop) where
   abbrev place : ℕ
-  place = start_of c.before.before.before.before.before.before.before.before.args.clauses.now c.before.before.before.before.loop.i
+  place = start_of c.args.clauses.now c.loop-i.i
 
   abbrev literal : ℕ → ℤ
-  literal j = get_or c.before.before.before.before.before.before.before.before.args.literals.now (place + j) (pos 0)
+  literal j = get_or c.args.literals.now (place + j) (pos 0)
 
-  turn : c.before.before.before.before.loop.i < c.before.before.before.before.before.before.before.before.args.n
-  turn = c.before.before.before.loop-test.true
+  turn : c.loop-i.i < c.args.n
+  turn = c.loop-i-test.true
 
-  part : place + 2 ≤ length c.before.before.before.before.before.before.before.before.args.literals.now
-  part = omega (arith, c.before.before.before.before.before.before.before.before.requires.0.parts c.before.before.before.before.loop.i turn, c.if1.true)
+  part : place + 2 ≤ length c.args.literals.now
+  part = omega (arith, c.requires.0.parts c.loop-i.i turn, c.if-len-eq2.true)
 
   ranged : (j : ℕ) → j < 2 → Literal 1024 (literal j)
-  ranged j lt = c.before.before.before.before.before.before.before.before.requires.0.each c.before.before.before.before.loop.i turn j (omega (arith, lt, c.if1.true))
+  ranged j lt = c.requires.0.each c.loop-i.i turn j (omega (arith, lt, c.if-len-eq2.true))
 
   above : (j : ℕ) → j < 2 → 0 < nat_abs (literal j)
   above j lt = (ranged j lt).above
@@ -46,136 +46,134 @@ module _ (c : tie.Then1 invariant-loop decreases-loop) where
   within : (j : ℕ) → j < 2 → nat_abs (literal j) ≤ 1024
   within j lt = (ranged j lt).within
 
-  first : literal 0 ≡ get_or c.before.before.before.before.before.before.before.before.args.literals.now place (pos 0)
-  first = ap (λ (k : ℕ). get_or c.before.before.before.before.before.before.before.before.args.literals.now k (pos 0)) (let z : place + 0 ≡ place = omega arith in z)
+  first : literal 0 ≡ get_or c.args.literals.now place (pos 0)
+  first = ap (λ (k : ℕ). get_or c.args.literals.now k (pos 0)) (let z : place + 0 ≡ place = omega arith in z)
 
 -- the slots of its literals
-slot-a : (c : tie.After-slot-of invariant-loop decreases-loop) → c.slot_of.result ≡ slot_of (get_or c.before.before.before.before.before.before.before.before.before.before.args.literals.now (place c.before.before) (pos 0))
-slot-a c = c.slot_of.ensures ∙ ap slot_of (read c.before.before.before.before.before.before.before.before.before.before.args.literals.now (place c.before.before) c.before.slot-of-arg.given)
+slot-a : (c : tie.After-slot_of-a invariant-loop decreases-loop) → c.slot_of-a.result ≡ slot_of (get_or c.args.literals.now (place c.before.before) (pos 0))
+slot-a c = c.slot_of-a.ensures ∙ ap slot_of (read c.args.literals.now (place c.before.before) c.slot_of-arg-1.given)
 
-slot-b : (c : tie.After-slot-of2 invariant-loop decreases-loop) → c.slot-of2.result ≡ slot_of (get_or c.before.before.before.before.before.before.before.before.before.before.before.before.args.literals.now (place c.before.before.before.before + 1) (pos 0))
-slot-b c = c.slot-of2.ensures ∙ ap slot_of (read c.before.before.before.before.before.before.before.before.before.before.before.before.args.literals.now (place c.before.before.before.before + 1) c.before.slot-of-arg2.given)
+slot-b : (c : tie.After-slot_of-b invariant-loop decreases-loop) → c.slot_of-b.result ≡ slot_of (get_or c.args.literals.now (place c.before.before.before.before + 1) (pos 0))
+slot-b c = c.slot_of-b.ensures ∙ ap slot_of (read c.args.literals.now (place c.before.before.before.before + 1) c.slot_of-arg-then-len-eq2-1.given)
 
-small-a : (c : tie.After-slot-of invariant-loop decreases-loop) → c.slot_of.result < 2048
+small-a : (c : tie.After-slot_of-a invariant-loop decreases-loop) → c.slot_of-a.result < 2048
 small-a c = omega (arith, slot-a c, ap slot_of (first c.before.before), slot_below (literal c.before.before 0) 1024 (above c.before.before 0 (omega arith)) (within c.before.before 0 (omega arith)))
 
-small_b : (c : tie.After-slot-of2 invariant-loop decreases-loop) → c.slot-of2.result < 2048
+small_b : (c : tie.After-slot_of-b invariant-loop decreases-loop) → c.slot_of-b.result < 2048
 small_b c = omega (arith, slot-b c, slot_below (literal c.before.before.before.before 1) 1024 (above c.before.before.before.before 1 (omega arith)) (within c.before.before.before.before 1 (omega arith)))
 
-loop-holds : tie.Need-loop-init invariant-loop decreases-loop
+loop-holds : tie.Need-loop-i-init invariant-loop decreases-loop
 loop-holds c = search rules
 
-mul-record : tie.Need-overflow-mul-record invariant-loop decreases-loop
+mul-record : tie.Need-overflow_mul-record invariant-loop decreases-loop
 mul-record c = search rules
 
-mul-start : tie.Need-overflow-mul-start invariant-loop decreases-loop
+mul-start : tie.Need-offset_bounds-clauses-record invariant-loop decreases-loop
 mul-start c = search rules
 
-shared-slice-read-start : tie.Need-shared-slice-read-start invariant-loop decreases-loop
+shared-slice-read-start : tie.Need-bounds-clauses-record invariant-loop decreases-loop
 shared-slice-read-start c = search rules
 
-cast-start : tie.Need-overflow-cast-start invariant-loop decreases-loop
-cast-start c = omega (arith, c.shared-slice-known2.given (3 * c.before.before.loop.i))
+cast-start : tie.Need-overflow_cast-start invariant-loop decreases-loop
+cast-start c = omega (arith, c.shared_slice_known-in-loop-i-1.given (3 * c.loop-i.i))
 
-add-len : tie.Need-overflow-add-len invariant-loop decreases-loop
+add-len : tie.Need-overflow_add-len invariant-loop decreases-loop
 add-len c = search rules
 
-mul-len : tie.Need-overflow-mul-len invariant-loop decreases-loop
+mul-len : tie.Need-offset_bounds-clauses-record-in-loop-i invariant-loop decreases-loop
 mul-len c = search rules
 
-shared-slice-read-len : tie.Need-shared-slice-read-len invariant-loop decreases-loop
+shared-slice-read-len : tie.Need-bounds-clauses-record-in-loop-i invariant-loop decreases-loop
 shared-slice-read-len c = search rules
 
-add-i : tie.Need-overflow-add-i invariant-loop decreases-loop
+add-i : tie.Need-overflow_add-i invariant-loop decreases-loop
 add-i c = search rules
 
-mul-slot-of : tie.Need-overflow-mul-slot-of invariant-loop decreases-loop
+mul-slot-of : tie.Need-offset_bounds-literals-start invariant-loop decreases-loop
 mul-slot-of c =
-    let h : place c < length c.before.before.before.before.before.before.before.before.args.literals.now = omega (arith, part c) in
+    let h : place c < length c.args.literals.now = omega (arith, part c) in
     search rules
 
-shared-slice-copy-out-slot-of : tie.Need-shared-slice-copy-out-slot-of invariant-loop decreases-loop
+shared-slice-copy-out-slot-of : tie.Need-bounds-literals-start invariant-loop decreases-loop
 shared-slice-copy-out-slot-of c = omega (arith, part c)
 
-slot-of-requires : tie.Need-slot-of-requires invariant-loop decreases-loop
+slot-of-requires : tie.Need-slot_of-a-requires invariant-loop decreases-loop
 slot-of-requires c κs =
-    let t = c.before in
-    rw (read c.before.before.before.before.before.before.before.before.before.args.literals.now (place t) c.slot-of-arg.given)
-    (omega (arith, above t 0 (omega arith), ap nat_abs (first t)), record { small = omega (arith, within t 0 (omega arith), ap nat_abs (first t)) })
+    rw (read c.args.literals.now (place c.before) c.slot_of-arg-1.given)
+    (omega (arith, above c.before 0 (omega arith), ap nat_abs (first c.before)), record { small = omega (arith, within c.before 0 (omega arith), ap nat_abs (first c.before)) })
 
-add-slot-of : tie.Need-overflow-add-slot-of invariant-loop decreases-loop
+add-slot-of : tie.Need-overflow_add-start invariant-loop decreases-loop
 add-slot-of c =
-    let h : place c.before.before < length c.before.before.before.before.before.before.before.before.before.before.args.literals.now = omega (arith, part c.before.before) in
+    let h : place c.before.before < length c.args.literals.now = omega (arith, part c.before.before) in
     search rules
 
-mul-slot-of-2 : tie.Need-overflow-mul-slot-of-2 invariant-loop decreases-loop
+mul-slot-of-2 : tie.Need-offset_bounds-literals-start-then-len-eq2 invariant-loop decreases-loop
 mul-slot-of-2 c =
-    let h : place c.before.before + 1 < length c.before.before.before.before.before.before.before.before.before.before.args.literals.now = omega (arith, part c.before.before) in
+    let h : place c.before.before + 1 < length c.args.literals.now = omega (arith, part c.before.before) in
     search rules
 
-shared-slice-copy-out-slot-of-2 : tie.Need-shared-slice-copy-out-slot-of-2 invariant-loop decreases-loop
+shared-slice-copy-out-slot-of-2 : tie.Need-bounds-literals-start-then-len-eq2 invariant-loop decreases-loop
 shared-slice-copy-out-slot-of-2 c = omega (arith, part c.before.before)
 
-slot-of-requires-2 : tie.Need-slot-of-requires-2 invariant-loop decreases-loop
+slot-of-requires-2 : tie.Need-slot_of-b-requires invariant-loop decreases-loop
 slot-of-requires-2 c κs =
-    let t = c.before.before.before in
-    rw (read c.before.before.before.before.before.before.before.before.before.before.before.args.literals.now (place t + 1) c.slot-of-arg2.given)
-    (above t 1 (omega arith), record { small = omega (arith, within t 1 (omega arith)) })
+    rw (read c.args.literals.now (place c.before.before.before + 1) c.slot_of-arg-then-len-eq2-1.given)
+    (above c.before.before.before 1 (omega arith), record { small = omega (arith, within c.before.before.before 1 (omega arith)) })
 
-cast-put-pair : tie.Need-overflow-cast-put-pair invariant-loop decreases-loop
+cast-put-pair : tie.Need-overflow_cast-a invariant-loop decreases-loop
 cast-put-pair c = omega (arith, small-a c.before.before)
 
-cast-put-pair-2 : tie.Need-overflow-cast-put-pair-2 invariant-loop decreases-loop
+cast-put-pair-2 : tie.Need-overflow_cast-b invariant-loop decreases-loop
 cast-put-pair-2 c = omega (arith, small_b c)
 
-put-pair-requires : tie.Need-put-pair-requires invariant-loop decreases-loop
+put-pair-requires : tie.Need-put_pair-requires invariant-loop decreases-loop
 put-pair-requires c κs =
-    let P = c.before.before.before.before.before.before.before.before.before.before.loop.invariant in
+    let P = c.loop-i.invariant in
     let t = turn c.before.before.before.before.before.before in (
       omega (arith, small-a c.before.before.before.before),
       (
         omega (arith, small_b c.before.before),
-        (omega (arith, P.few, t, P.from-size, c.before.before.before.before.before.before.before.before.before.before.before.before.before.before.requires.1.0), omega (arith, P.few, t, P.to-size, c.before.before.before.before.before.before.before.before.before.before.before.before.before.before.requires.1.1)),
+        (omega (arith, P.few, t, P.from_size, c.requires.1.0), omega (arith, P.few, t, P.to_size, c.requires.1.1)),
       ),
     )
 
-add-k : tie.Need-overflow-add-k invariant-loop decreases-loop
+add-k : tie.Need-overflow_add-k invariant-loop decreases-loop
 add-k c = search rules
 
-loop-less : tie.Need-loop-smaller invariant-loop decreases-loop
+loop-less : tie.Need-loop-i-smaller-then-len-eq2 invariant-loop decreases-loop
 loop-less c = search rules
 
-loop-again : tie.Need-loop-preserved invariant-loop decreases-loop
+loop-again : tie.Need-loop-i-preserved-then-len-eq2 invariant-loop decreases-loop
 loop-again c =
-    let a = c.before.before.before.before.before.before.before.before.before.before.before.before.before.before.before.before.before.before.before.args in
-    let l = c.before.before.before.before.before.before.before.before.before.before.before.before.before.before.before.loop in
-    let w = c.before.before.before.before.put-pair in
-    pairing_in a.n a.clauses.now a.literals.now a.from.now a.to.now l.from l.to l.k l.i (turn c.before.before.before.before.before.before.before.before.before.before.before) c.before.before.before.before.before.before.before.before.before.before.before.before.before.before.before.before.before.before.before.requires.0 l.invariant
-    c.before.before.before.before.before.before.before.before.before.slot_of.result c.before.before.before.before.before.before.before.slot-of2.result w.new.1.1.1.0 w.new.1.1.1.1.0 c.before.before.before.before.before.before.before.before.before.before.before.if1.true (slot-a c.before.before.before.before.before.before.before.before.before) (slot-b c.before.before.before.before.before.before.before) w.ensures.0 w.ensures.1
+    let a = c.args in
+    let l = c.loop-i in
+    let w = c.put_pair in
+    pairing_in a.n a.clauses.now a.literals.now a.from.now a.to.now l.from l.to l.k l.i (turn c.before.before.before.before.before.before.before.before.before.before.before) c.requires.0 l.invariant
+    c.slot_of-a.result c.slot_of-b.result w.new.from w.new.to c.if-len-eq2.true (slot-a c.before.before.before.before.before.before.before.before.before) (slot-b c.before.before.before.before.before.before.before) w.ensures.0 w.ensures.1
 
-loop-less-2 : tie.Need-loop-smaller-2 invariant-loop decreases-loop
+loop-less-2 : tie.Need-loop-i-smaller invariant-loop decreases-loop
 loop-less-2 c = search rules
 
-loop-again-2 : tie.Need-loop-preserved-2 invariant-loop decreases-loop
+loop-again-2 : tie.Need-loop-i-preserved invariant-loop decreases-loop
 loop-again-2 c =
-    let a = c.before.before.before.before.before.before.before.before.args in
-    let l = c.before.before.before.before.loop in
-    pairing_out a.n a.clauses.now a.literals.now a.from.now a.to.now l.from l.to l.k l.i c.before.before.before.loop-test.true c.before.before.before.before.before.before.before.before.requires.0 l.invariant c.if1.false
+    let a = c.args in
+    let l = c.loop-i in
+    pairing_out a.n a.clauses.now a.literals.now a.from.now a.to.now l.from l.to l.k l.i c.loop-i-test.true c.requires.0 l.invariant c.if-len-eq2.false
 
-same_length : tie.Need-same-length invariant-loop decreases-loop
+same_length : tie.Need-shape_of-from invariant-loop decreases-loop
 same_length c = search rules
 
-same-length-2 : tie.Need-same-length-2 invariant-loop decreases-loop
+same-length-2 : tie.Need-shape_of-to invariant-loop decreases-loop
 same-length-2 c = search rules
 
 returns : tie.Need-returns invariant-loop decreases-loop
 returns c =
-    let a = c.before.before.before.before.before.args in
-    let l = c.before.loop in
-    pairing_done a.n a.clauses.now a.literals.now a.from.now a.to.now l.from l.to l.k l.i c.loop-test.false l.invariant
+    let a = c.args in
+    let l = c.loop-i in
+    pairing_done a.n a.clauses.now a.literals.now a.from.now a.to.now l.from l.to l.k l.i c.loop-i-test.false l.invariant
 
-pub list-pairs-spec : {M : Type 1} → statement M
-list-pairs-spec =
+pub list_pairs_spec : {M : Type 1} → statement M
+list_pairs_spec =
     tie.close
     (tie.spec
     invariant-loop

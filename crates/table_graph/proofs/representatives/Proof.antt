@@ -11,70 +11,69 @@ use Rattle.table_graph.proofs.representatives.Reads as reads
 use Rattle.table_graph.proofs.representatives.Lts as lts
 use Rattle.table_graph.proofs.find_components.Reads as find-components-reads
 
-mul-slots : tie.Need-overflow-mul-slots
+mul-slots : tie.Need-overflow_mul-slots
 mul-slots c = search rules
 
-add-ends : tie.Need-overflow-add-ends
+add-ends : tie.Need-overflow_add-ends
 add-ends c = search rules
 
-slice-aggregate-find-components : tie.Need-slice-aggregate-find-components
+slice-aggregate-find-components : tie.Need-slice_bounds-find_components-end
 slice-aggregate-find-components c = search rules
 
-slice-aggregate-find-components-2 : tie.Need-slice-aggregate-find-components-2
+slice-aggregate-find-components-2 : tie.Need-slice_bounds-find_components-end-2
 slice-aggregate-find-components-2 c = search rules
 
-array-borrow-prefix-offsets : tie.Need-array-borrow-prefix-offsets
+array-borrow-prefix-offsets : tie.Need-slice_bounds-offsets-end
 array-borrow-prefix-offsets c = search rules
 
-slice-aggregate-find-components-3 : tie.Need-slice-aggregate-find-components-3
-slice-aggregate-find-components-3 c = sym (front_zeros (2 * c.before.before.before.before.before.args.v + 1) 2049 (omega (arith, c.before.before.before.before.before.requires.0.few)))
+slice-aggregate-find-components-3 : tie.Need-slice_bounds-find_components-end-3
+slice-aggregate-find-components-3 c = sym (front_zeros (2 * c.args.v + 1) 2049 (omega (arith, c.requires.0.few)))
 
-slice-aggregate-find-components-4 : tie.Need-slice-aggregate-find-components-4
+slice-aggregate-find-components-4 : tie.Need-slice_bounds-find_components-end-4
 slice-aggregate-find-components-4 c = search rules
 
-array-borrow-prefix-discoveries : tie.Need-array-borrow-prefix-discoveries
+array-borrow-prefix-discoveries : tie.Need-slice_bounds-discoveries-end
 array-borrow-prefix-discoveries c = search rules
 
-slice-aggregate-find-components-5 : tie.Need-slice-aggregate-find-components-5
-slice-aggregate-find-components-5 c = sym (front_zeros (2 * c.before.before.before.before.before.before.before.args.v) 2048 (omega (arith, c.before.before.before.before.before.before.before.requires.0.few)))
+slice-aggregate-find-components-5 : tie.Need-slice_bounds-find_components-end-5
+slice-aggregate-find-components-5 c = sym (front_zeros (2 * c.args.v) 2048 (omega (arith, c.requires.0.few)))
 
-array-borrow-prefix-finishes : tie.Need-array-borrow-prefix-finishes
+array-borrow-prefix-finishes : tie.Need-slice_bounds-finishes-end
 array-borrow-prefix-finishes c = search rules
 
-slice-aggregate-find-components-6 : tie.Need-slice-aggregate-find-components-6
-slice-aggregate-find-components-6 c = sym (front_zeros (2 * c.before.before.before.before.before.before.before.before.args.v) 2048 (omega (arith, c.before.before.before.before.before.before.before.before.requires.0.few)))
+slice-aggregate-find-components-6 : tie.Need-slice_bounds-find_components-end-6
+slice-aggregate-find-components-6 c = sym (front_zeros (2 * c.args.v) 2048 (omega (arith, c.requires.0.few)))
 
-array-borrow-prefix-parents : tie.Need-array-borrow-prefix-parents
+array-borrow-prefix-parents : tie.Need-slice_bounds-parents-end
 array-borrow-prefix-parents c = search rules
 
-slice-aggregate-find-components-7 : tie.Need-slice-aggregate-find-components-7
-slice-aggregate-find-components-7 c = sym (front_zeros (2 * c.before.before.before.before.before.before.before.before.before.args.v) 2048 (omega (arith, c.before.before.before.before.before.before.before.before.before.requires.0.few)))
+slice-aggregate-find-components-7 : tie.Need-slice_bounds-find_components-end-7
+slice-aggregate-find-components-7 c = sym (front_zeros (2 * c.args.v) 2048 (omega (arith, c.requires.0.few)))
 
-array-borrow-prefix-starts : tie.Need-array-borrow-prefix-starts
+array-borrow-prefix-starts : tie.Need-slice_bounds-starts-end
 array-borrow-prefix-starts c = search rules
 
-slice-aggregate-find-components-8 : tie.Need-slice-aggregate-find-components-8
-slice-aggregate-find-components-8 c = sym (front_zeros (2 * c.before.before.before.before.before.before.before.before.before.before.args.v) 2048 (omega (arith, c.before.before.before.before.before.before.before.before.before.before.requires.0.few)))
+slice-aggregate-find-components-8 : tie.Need-slice_bounds-find_components-end-8
+slice-aggregate-find-components-8 c = sym (front_zeros (2 * c.args.v) 2048 (omega (arith, c.requires.0.few)))
 
-array-borrow-prefix-order : tie.Need-array-borrow-prefix-order
+array-borrow-prefix-order : tie.Need-slice_bounds-order-end
 array-borrow-prefix-order c = search rules
 
-slice-aggregate-find-components-9 : tie.Need-slice-aggregate-find-components-9
-slice-aggregate-find-components-9 c = sym (front_zeros (2 * c.before.before.before.before.before.before.before.before.before.before.before.args.v) 2048 (omega (arith, c.before.before.before.before.before.before.before.before.before.before.before.requires.0.few)))
+slice-aggregate-find-components-9 : tie.Need-slice_bounds-find_components-end-9
+slice-aggregate-find-components-9 c = sym (front_zeros (2 * c.args.v) 2048 (omega (arith, c.requires.0.few)))
 
-find-components-requires : tie.Need-find-components-requires
+find-components-requires : tie.Need-find_components-requires
 find-components-requires c κs =
-    let s = c.before.before.before.before.before.before.before.before.before.before.before.before in
-    (own_room s.requires.0, own_scratch s.args.v s.args.rep.now s.requires.0.few s.requires.1)
+    (own_room c.requires.0, own_scratch c.args.v c.args.rep.now c.requires.0.few c.requires.1)
 
-same_length : tie.Need-same-length
+same_length : tie.Need-shape_of-rep
 same_length c = search rules
 
 returns : tie.Need-returns
 returns c = search rules
 
-pub representatives-spec : {M : Type 1} → statement M
-representatives-spec =
+pub representatives_spec : {M : Type 1} → statement M
+representatives_spec =
     tie.close
     (tie.spec
     mul-slots

@@ -6,6 +6,7 @@ use borrow.Author.Rules.{sfits_of, rules}
 use lib.IntN.{ℤ, pos}
 use Rattle.literal.specs.Literals.{eq_z}
 use Rattle.literal.proofs.Signed.{eqb_bits}
+use borrow.Author.Rules.{rules}
 use Rattle.visits.proofs.is_true.Statement.{statement}
 use Rattle.visits.proofs.is_true.Tie as tie
 
@@ -13,7 +14,9 @@ truth-requires : tie.Need-truth-requires
 truth-requires c κs = search rules
 
 returns : tie.Need-returns
-returns c = eqb_bits {w = w32} {y = c.truth.result} {z = pos 1} (sfits_of c.truth.type-inv) (sfits_lit tt) ∙ ap (λ (x : ℤ). eq_z x (pos 1)) (rw (to_z-of_z c.before.ranges.l) at c.truth.ensures)
+returns c = eqb_bits {w = w32} {y = c.truth.result} {z = pos 1} (sfits_of c.truth.type_inv) (sfits_lit tt) ∙ ap (λ (x : ℤ). eq_z x (pos 1)) (rw (to_z-of_z c.ranges.l) at c.truth.ensures)
 
-pub is-true-spec : {M : Type 1} → statement M
-is-true-spec = tie.close (tie.spec truth-requires returns)
+pub is_true_spec : {M : Type 1} → statement M
+is_true_spec = tie.close (tie.spec
+    truth-requires
+    returns)

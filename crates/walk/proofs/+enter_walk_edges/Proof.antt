@@ -334,12 +334,12 @@ walk-edges-loop-again t c =
     pre.0 pre.1.1 (pre.0.inside a.slot pre.1.1) c.loop-at-test.true l.invariant
     (λ n le. elim c.if-discoveries-q-eq0.branch [
       | then-discoveries-q-eq0 w ↦
-        stamps_eq w.discoveries-is w.finishes-is w.parents-is w.starts-is w.t-is
-        ∙ w.enter-t.ensures n (le_trans l.invariant.fewer le)
-        ∙ sym (edge_new (λ q. enters n (adj_of a.offsets.now a.targets.now) a.start a.slot q) (get_or a.targets.now l.at 0) (stamps l.t l.discoveries l.finishes l.parents l.starts) w.if-discoveries-q-eq0.true)
+          stamps_eq w.discoveries-is w.finishes-is w.parents-is w.starts-is w.t-is
+          ∙ w.enter-t.ensures n (le_trans l.invariant.fewer le)
+          ∙ sym (edge_new (λ q. enters n (adj_of a.offsets.now a.targets.now) a.start a.slot q) (get_or a.targets.now l.at 0) (stamps l.t l.discoveries l.finishes l.parents l.starts) w.if-discoveries-q-eq0.true)
       | else-discoveries-q-eq0 w ↦
-        stamps_eq w.discoveries-is w.finishes-is w.parents-is w.starts-is w.t-is
-        ∙ sym (edge_old (λ q. enters n (adj_of a.offsets.now a.targets.now) a.start a.slot q) (get_or a.targets.now l.at 0) (stamps l.t l.discoveries l.finishes l.parents l.starts) w.if-discoveries-q-eq0.false)
+          stamps_eq w.discoveries-is w.finishes-is w.parents-is w.starts-is w.t-is
+          ∙ sym (edge_old (λ q. enters n (adj_of a.offsets.now a.targets.now) a.start a.slot q) (get_or a.targets.now l.at 0) (stamps l.t l.discoveries l.finishes l.parents l.starts) w.if-discoveries-q-eq0.false)
     ])
 
 walk-edges-same-length :

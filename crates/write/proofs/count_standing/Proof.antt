@@ -14,10 +14,10 @@ use Rattle.write.proofs.Gathering.{Counting, counting_begin, counting_step, coun
 use Rattle.write.proofs.count_standing.Statement.{statement}
 use Rattle.write.proofs.count_standing.Tie as tie
 
-abbrev invariant-loop : tie.invariant-loop
+abbrev invariant-loop : tie.invariant-loop-i
 invariant-loop clauses n count₀ i₀ count i = (i ≤ n) × (count ≤ i) × ((literals : List ℤ) → Counting (written_at clauses literals) n i count)
 
-abbrev decreases-loop : tie.decreases-loop
+abbrev decreases-loop : tie.decreases-loop-i
 decreases-loop clauses n count₀ i₀ count i = n - i
 
 -- the place of record i's third word, as the code has it
@@ -30,44 +30,44 @@ flag xs i h = rw place at h
 no_flag : (xs : List ℕ) (i : ℕ) → get_or xs (3 * (i + 1) - 1) 0 ≡ 0 → standing xs i ≡ 0
 no_flag xs i h = rw place at h
 
-loop-holds : tie.Need-loop-init invariant-loop decreases-loop
+loop-holds : tie.Need-loop-i-init invariant-loop decreases-loop
 loop-holds c = (omega arith, omega arith, λ ls. counting_begin (written_at c.args.clauses.now ls) c.args.n)
 
-add-i : tie.Need-overflow-add-i invariant-loop decreases-loop
+add-i : tie.Need-overflow_add-i invariant-loop decreases-loop
 add-i c = search rules
 
-mul-if1 : tie.Need-overflow-mul-if1 invariant-loop decreases-loop
+mul-if1 : tie.Need-overflow_mul-i invariant-loop decreases-loop
 mul-if1 c = search rules
 
-sub-if1 : tie.Need-overflow-sub-if1 invariant-loop decreases-loop
+sub-if1 : tie.Need-overflow_sub-i invariant-loop decreases-loop
 sub-if1 c = search rules
 
-mul-if1-2 : tie.Need-overflow-mul-if1-2 invariant-loop decreases-loop
+mul-if1-2 : tie.Need-offset_bounds-clauses-i invariant-loop decreases-loop
 mul-if1-2 c = search rules
 
-shared-slice-read-if1 : tie.Need-shared-slice-read-if1 invariant-loop decreases-loop
+shared-slice-read-if1 : tie.Need-bounds-clauses-i invariant-loop decreases-loop
 shared-slice-read-if1 c = search rules
 
-add-count : tie.Need-overflow-add-count invariant-loop decreases-loop
+add-count : tie.Need-overflow_add-count invariant-loop decreases-loop
 add-count c = search rules
 
-loop-less : tie.Need-loop-smaller invariant-loop decreases-loop
+loop-less : tie.Need-loop-i-smaller-then-clauses-i-ne0 invariant-loop decreases-loop
 loop-less c = search rules
 
-loop-again : tie.Need-loop-preserved invariant-loop decreases-loop
-loop-again c = let a = c.before.before.before.before.args in let l = c.before.before.before.loop in (omega arith, omega arith, λ ls. counting_step (l.invariant.2 ls) c.before.before.loop-test.true (omega (arith, ap length (clause_some (standing a.clauses.now l.i) (literals_of a.clauses.now ls l.i) (flag a.clauses.now l.i c.if1.true)))))
+loop-again : tie.Need-loop-i-preserved-then-clauses-i-ne0 invariant-loop decreases-loop
+loop-again c = let a = c.args in let l = c.loop-i in (omega arith, omega arith, λ ls. counting_step (l.invariant.2 ls) c.loop-i-test.true (omega (arith, ap length (clause_some (standing a.clauses.now l.i) (literals_of a.clauses.now ls l.i) (flag a.clauses.now l.i c.if-clauses-i-ne0.true)))))
 
-loop-less-2 : tie.Need-loop-smaller-2 invariant-loop decreases-loop
+loop-less-2 : tie.Need-loop-i-smaller invariant-loop decreases-loop
 loop-less-2 c = search rules
 
-loop-again-2 : tie.Need-loop-preserved-2 invariant-loop decreases-loop
-loop-again-2 c = let a = c.before.before.before.before.args in let l = c.before.before.before.loop in (omega arith, omega arith, λ ls. counting_step (l.invariant.2 ls) c.before.before.loop-test.true (omega (arith, ap length (clause_none (standing a.clauses.now l.i) (literals_of a.clauses.now ls l.i) (no_flag a.clauses.now l.i c.if1.false)))))
+loop-again-2 : tie.Need-loop-i-preserved invariant-loop decreases-loop
+loop-again-2 c = let a = c.args in let l = c.loop-i in (omega arith, omega arith, λ ls. counting_step (l.invariant.2 ls) c.loop-i-test.true (omega (arith, ap length (clause_none (standing a.clauses.now l.i) (literals_of a.clauses.now ls l.i) (no_flag a.clauses.now l.i c.if-clauses-i-ne0.false)))))
 
 returns : tie.Need-returns invariant-loop decreases-loop
-returns c = λ ls. counting_end (c.before.loop.invariant.2 ls) c.loop-test.false
+returns c = λ ls. counting_end (c.loop-i.invariant.2 ls) c.loop-i-test.false
 
-pub count-standing-spec : {M : Type 1} → statement M
-count-standing-spec =
+pub count_standing_spec : {M : Type 1} → statement M
+count_standing_spec =
     tie.close
     (tie.spec
     invariant-loop

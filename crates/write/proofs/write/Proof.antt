@@ -13,21 +13,26 @@ use Rattle.write.proofs.write.Tie as tie
 abbrev lent : tie.Start → Tables
 lent s = let a = s.args in tables a.clauses.now a.literals.now a.variables.now a.times.now a.links.now
 
-shape-ok-requires : tie.Need-shape-ok-requires
+shape-ok-requires : tie.Need-shape_ok-requires
 shape-ok-requires c κs = search rules
 
-returns : tie.Need-returns
-returns c = let a = c.before.before.before.before.before.args in call_refused (lent c.before.before.before.before.before) a.st a.out.now (sym c.before.shape-ok.ensures ∙ not-true _ c.if1.true)
+returns : tie.Need-returns-then-not-shape_ok
+returns c = let a = c.args in call_refused (lent c.before.before.before.before.before) a.st a.out.now (sym c.shape_ok.ensures ∙ c.if-not-shape_ok.true)
 
-write-text-requires : tie.Need-write-text-requires
-write-text-requires c κs = let a = c.before.before.before.before.before.before.args in ready (lent c.before.before.before.before.before.before) a.st (shaped (lent c.before.before.before.before.before.before) a.st (sym c.before.before.shape-ok.ensures ∙ not-false _ c.before.if1.false))
+write-text-requires : tie.Need-write_text-requires
+write-text-requires c κs = let a = c.args in ready (lent c.before.before.before.before.before.before) a.st (shaped (lent c.before.before.before.before.before.before) a.st (sym c.shape_ok.ensures ∙ c.if-not-shape_ok.false))
 
-same_length : tie.Need-same-length
+same_length : tie.Need-shape_of-out
 same_length c = search rules
 
-returns-2 : tie.Need-returns-2
-returns-2 c = let a = c.before.before.before.before.before.before.before.before.before.args in c.before.before.write-text.ensures a.times.now a.links.now ∙ call_written (lent c.before.before.before.before.before.before.before.before.before) a.st a.out.now (sym c.before.before.before.before.before.shape-ok.ensures ∙ not-false _ c.before.before.before.before.if1.false)
+returns-2 : tie.Need-returns
+returns-2 c = let a = c.args in c.write_text.ensures a.times.now a.links.now ∙ call_written (lent c.before.before.before.before.before.before.before.before.before) a.st a.out.now (sym c.shape_ok.ensures ∙ c.if-not-shape_ok.false)
 
 pub write_spec : {M : Type 1} → statement M
 write_spec =
-    tie.close (tie.spec shape-ok-requires returns write-text-requires same_length returns-2)
+    tie.close (tie.spec
+    shape-ok-requires
+    returns
+    write-text-requires
+    same_length
+    returns-2)
