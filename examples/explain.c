@@ -5,8 +5,9 @@
  * In the second clause 3 is (-1 or 3 or 4), and by the same chain it holds always: it is dropped.
  *
  * Build and run, from the root of the repository:
- *     rt staticlib c_calls
- *     gcc -std=c99 -O2 -Iinclude -o target/explain examples/explain.c target/staticlib/libc_calls.a
+ *     (cd crates/c_calls && rt lib)
+ *     mkdir -p target
+ *     gcc -std=c99 -O2 -Iinclude -o target/explain examples/explain.c crates/c_calls/out/libc_calls.a
  *     target/explain
  */
 #include <stdio.h>

@@ -6,8 +6,9 @@
  * literal 1 adds nothing, and clause 5 holds always.
  *
  * Build and run, from the root of the repository:
- *     rt staticlib c_calls
- *     gcc -std=c99 -O2 -Iinclude -o target/join examples/join.c target/staticlib/libc_calls.a
+ *     (cd crates/c_calls && rt lib)
+ *     mkdir -p target
+ *     gcc -std=c99 -O2 -Iinclude -o target/join examples/join.c crates/c_calls/out/libc_calls.a
  *     target/join
  */
 #include <stdio.h>

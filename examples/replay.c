@@ -22,8 +22,9 @@
  * prints `error 0`. The exit status is 2 where standard input or output fails.
  *
  * Build, from the root of the repository:
- *     rt staticlib c_calls
- *     gcc -std=c99 -O2 -Iinclude -o target/replay examples/replay.c target/staticlib/libc_calls.a
+ *     (cd crates/c_calls && rt lib)
+ *     mkdir -p target
+ *     gcc -std=c99 -O2 -Iinclude -o target/replay examples/replay.c crates/c_calls/out/libc_calls.a
  */
 #include <errno.h>
 #include <inttypes.h>

@@ -1,8 +1,9 @@
 /* A pass in steps: loads a formula, stamps its literals, sweeps two clauses at a time and prints how the third clause stands after each call.
  *
  * Build and run, from the root of the repository:
- *     rt staticlib c_calls
- *     gcc -std=c99 -O2 -Iinclude -o target/resume examples/resume.c target/staticlib/libc_calls.a
+ *     (cd crates/c_calls && rt lib)
+ *     mkdir -p target
+ *     gcc -std=c99 -O2 -Iinclude -o target/resume examples/resume.c crates/c_calls/out/libc_calls.a
  *     target/resume
  */
 #include <stdio.h>

@@ -2,8 +2,9 @@
  * result, or `refused` and the refusal's number.
  *
  * Build, from the root of the repository:
- *     rt staticlib c_calls
- *     gcc -std=c99 -O2 -Iinclude -o target/solver examples/solver.c target/staticlib/libc_calls.a
+ *     (cd crates/c_calls && rt lib)
+ *     mkdir -p target
+ *     gcc -std=c99 -O2 -Iinclude -o target/solver examples/solver.c crates/c_calls/out/libc_calls.a
  * Run:
  *     target/solver [FILE]
  */

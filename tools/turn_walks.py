@@ -139,6 +139,22 @@ class Places:
         for p in entry["places"]:
             self.parent.append(self.by_old.get(norm(p[1])) if p[1] else None)
             self.field.append((norm(p[2][0]), p[2][1]))
+        self.arms = entry["arms"]
+
+    def arm_field(self, i, words):
+        """What an arm calls the field that these words led to: (arm, field, how many words), or None."""
+        best = None
+        for p in self.up(i) if i is not None else []:
+            a = self.arms[p]
+            if not a:
+                continue
+            for new, old, path in a[2]:
+                if norm(old) == norm(words[0]) and path and words[1 : 1 + len(path)] == path:
+                    if best is None or len(path) > best[2] - 1:
+                        best = (a[0], new, 1 + len(path))
+            if best:
+                return best
+        return best
 
     def index(self, new):
         return self.new.index(new) if new in self.new else None
@@ -148,11 +164,23 @@ class Places:
             yield i
             i = self.parent[i]
 
+    def before(self, i):
+        """Where `.before` leads from place i: the record of a whole arm has what lies before the arm."""
+        a = self.arms[i]
+        if a and self.new[i][:1].lower() + self.new[i][1:] == a[0]:
+            for _ in range(a[1]):
+                i = self.parent[i]
+            return i
+        return self.parent[i]
+
     def steps(self, i, j):
         """How often `.before` leads from place i to place j."""
-        for k, p in enumerate(self.up(i)):
-            if p == j:
+        k = 0
+        while i is not None:
+            if i == j:
                 return k
+            i = self.before(i)
+            k += 1
         return None
 
     def field_at(self, i, old):
@@ -197,6 +225,8 @@ def turn(text, entry, function, said, tie_name="tie", cycle=False):
     else:
         type_of = {a: b for a, b in re.findall(r"(?m)^(%s) : tie\.Need-(%s)" % (W, W), text)}
     answers = [a for a in listed if a in type_of]
+    if {type_of[a] for a in answers} <= {n for o, n in needs} and any(norm(o) != norm(n) for o, n in needs) and not re.search(r"(?m)^(pub )?\+?\S+-spec( :| =)", text):
+        return text
     others = [a for a in listed if a not in type_of]
     if len(answers) == len(needs):
         pairs = list(zip(answers, range(len(needs))))
@@ -284,6 +314,16 @@ def turn(text, entry, function, said, tie_name="tie", cycle=False):
                         head = mm.group(0).rsplit(" = ", 1)[0]
                         body = body.replace(mm.group(0), head + " = " + mm.group(3) + ".BEFORE" * n)
                         env[mm.group(1)] = q
+        for _ in range(4):
+            for mm in list(re.finditer(r"let (%s) : tie\.(%s)((?: [\w-]+)*) = (%s)((?:\.before)*) in" % (W, W, W), body)):
+                q = places.by_old.get(norm(mm.group(2)))
+                if mm.group(4) in env and mm.group(1) not in env and q is not None and env[mm.group(4)] is not None:
+                    n = places.steps(env[mm.group(4)], q)
+                    if n is None:
+                        said.append(f"{name}: {mm.group(0)}")
+                        continue
+                    body = body.replace(mm.group(0), f"let {mm.group(1)} : tie.{mm.group(2)}{mm.group(3)} = {mm.group(4)}{'.BEFORE' * n} in", 1)
+                    env[mm.group(1)] = q
         # names of earlier places, by let
         for _ in range(6):
             for mm in re.finditer(r"let (%s) = (%s)((?:\.before)*) in" % (W, W), body):
@@ -331,16 +371,14 @@ def turn(text, entry, function, said, tie_name="tie", cycle=False):
             body = chains(body)
 
             def flat(mm):
-                v, field = mm.group(1), mm.group(2)
-                new = places.field_at(env[v], field) if field else None
-                if not new and field in OLD_WORDS:
-                    new = OLD_WORDS[field]
-                if new and new.endswith("-1") and mm.string[mm.end() :].startswith(".given.1") and env[v] is not None:
-                    # the equation of an arm
-                    arm = next((places.field[i][1] for i in places.up(env[v]) if places.field[i][1].startswith("in-")), None)
-                    if arm:
-                        return v + "." + arm + ".ARM"
-                return v + ("." + (new or field) if field else "")
+                v, words = mm.group(1), [w for w in mm.group(2).split(".") if w]
+                if not words:
+                    return v
+                arm = places.arm_field(env[v], words)
+                if arm:
+                    return v + "." + ".".join([arm[0], arm[1]] + words[arm[2] :])
+                words[0] = places.field_at(env[v], words[0]) or OLD_WORDS.get(words[0]) or words[0]
+                return v + "." + ".".join(words)
 
             def positions(mm):
                 """A place in nested pairs, as the field that it is now."""
@@ -360,7 +398,7 @@ def turn(text, entry, function, said, tie_name="tie", cycle=False):
                 f, rest = by_place(fields, tail)
                 return f"{v}{step or ''}.{'new' if kind == 'last' else kind}.{f}{rest}" if f else mm.group(0)
 
-            body = re.sub(r"(?<![\w.'-])(%s)(?:\.before)*(?:\.(?!before|BEFORE)(%s))?(?![\w'-])" % (names, W), flat, body)
+            body = re.sub(r"(?<![\w.'-])(%s)(?:\.before)*((?:\.(?!before|BEFORE)%s)*)(?![\w'-])" % (names, W), flat, body)
             for mm in re.finditer(r"let (%s) = (%s)((?:\.%s)*) in" % (W, names, W), body):
                 aliases[mm.group(1)] = mm.group(2) + mm.group(3)
             body = re.sub(r"(?<![\w.'-])(%s)(\.(?!new|auto|requires|ensures|last)%s)?\.(new|auto|last|requires|ensures)((?:\.[01])+)" % (names, W), positions, body)
@@ -377,7 +415,7 @@ def turn(text, entry, function, said, tie_name="tie", cycle=False):
                     return a + got2[len(f"{v}{step or ''}{kind or ''}") :] if got2 != probe else mm.group(0)
 
                 body = re.sub(r"(?<![\w.'-])%s((?:\.(?:new|auto|last|requires|ensures))?(?:\.[01])+)" % re.escape(a), through, body)
-            body = body.replace(".BEFORE", ".before").replace(".ARM.given.1", ".is")
+            body = body.replace(".BEFORE", ".before")
             # a name that an earlier place had is the place itself now
         body = re.sub(r"(?<=\.args\.)(%s)" % W, lambda mm: mm.group(1).replace("-", "_"), body)
         body = body.replace(".type-inv", ".type_inv").replace(".well-formed", ".well_formed")

@@ -9,7 +9,8 @@ pub fn print_into(input: &[u8], out: &mut [u8]) -> usize
     requires { out.old ≡ replicate 65536 0 }
     ensures { (result ≤ 65536) × (take result out.new ≡ unhide_text input.now) }
 {
-    if 65535 < input.len() {
+    let is_long = 65535 < input.len();
+    if is_long {
         return printing::put_refusal(out, 0, 3, 65535);
     }
     let answer = simplify::simplify_text(input, 1, out);

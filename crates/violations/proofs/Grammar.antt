@@ -322,10 +322,10 @@ comments_wrong true (b ∷ s) at o e = go (eqb b 10) refl (comments_wrong false 
     go true t f g =
         let q : b ≡ 10 = eqb-true b 10 t in
         wrong_further (FromComment true) FromLine b (λ u x. subst (λ (c : ℕ). FromComment true (c ∷ u)) (sym q) (over_into u x))
-        (λ u x. over_back u x.0 x.1 x.2 (subst (λ (c : ℕ). c ∷ u ≡ x.0 ++ (10 ∷ x.1)) q x.3) x.4) s at o (f (rw (t, not) at e))
+        (λ u x. over_back u x.0 x.1 x.2 (subst (λ (c : ℕ). c ∷ u ≡ x.0 ++ (10 ∷ x.1)) q x.3) x.4) s at o (f (rw (t, comments) at e))
     go false t f g =
         let q : b ≡ 10 → ⊥ = eqb-false b 10 t in
-        wrong_further (FromComment true) (FromComment true) b (inside_into b q) (λ u x. inside_back b q u x.0 x.1 x.2 x.3 x.4) s at o (g (rw (t, not) at e))
+        wrong_further (FromComment true) (FromComment true) b (inside_into b q) (λ u x. inside_back b q u x.0 x.1 x.2 x.3 x.4) s at o (g (rw (t, comments) at e))
 comments_wrong false (b ∷ s) at o e = go (eqb b 99) refl (comments_wrong true s (suc at) o)
   where
     go : (t : Bool) → eqb b 99 ≡ t → (comments true s (suc at) ≡ Wrong (Grammar o) → WrongAt (FromComment true) s (suc at) o) → WrongAt FromLine (b ∷ s) at o
@@ -346,10 +346,10 @@ comments_reach true (b ∷ s) at next e = go (eqb b 10) refl (comments_reach fal
     go true t f g =
         let q : b ≡ 10 = eqb-true b 10 t in
         reaches_further (FromComment true) FromLine b (λ u x. subst (λ (c : ℕ). FromComment true (c ∷ u)) (sym q) (over_into u x))
-        (λ u x. over_back u x.0 x.1 x.2 (subst (λ (c : ℕ). c ∷ u ≡ x.0 ++ (10 ∷ x.1)) q x.3) x.4) s at FromP next (f (rw (t, not) at e))
+        (λ u x. over_back u x.0 x.1 x.2 (subst (λ (c : ℕ). c ∷ u ≡ x.0 ++ (10 ∷ x.1)) q x.3) x.4) s at FromP next (f (rw (t, comments) at e))
     go false t f g =
         let q : b ≡ 10 → ⊥ = eqb-false b 10 t in
-        reaches_further (FromComment true) (FromComment true) b (inside_into b q) (λ u x. inside_back b q u x.0 x.1 x.2 x.3 x.4) s at FromP next (g (rw (t, not) at e))
+        reaches_further (FromComment true) (FromComment true) b (inside_into b q) (λ u x. inside_back b q u x.0 x.1 x.2 x.3 x.4) s at FromP next (g (rw (t, comments) at e))
 comments_reach false (b ∷ s) at next e = go (eqb b 99) refl (comments_reach true s (suc at) next)
   where
     go : (t : Bool) → eqb b 99 ≡ t → (comments true s (suc at) ≡ Got 0 next → Reaches (FromComment true) s (suc at) FromP next) → Reaches FromLine (b ∷ s) at FromP next

@@ -64,11 +64,11 @@ lines_were true (b ∷ s) at next e = go (eqb b 10) refl (lines_were false s (su
   where
     go : (t : Bool) → eqb b 10 ≡ t → (comments false s (suc at) ≡ Got 0 next → Lines false s (suc at) next) → (comments true s (suc at) ≡ Got 0 next → Lines true s (suc at) next) → Lines true (b ∷ s) at next
     go true t f g =
-        let x = f (rw (t, not) at e) in
+        let x = f (rw (t, comments) at e) in
         let q : b ≡ 10 = eqb-true b 10 t in
         ([], x.0, x.1, tt, x.2, ap (λ (c : ℕ). c ∷ s) q ∙ ap (λ (u : List ℕ). 10 ∷ u) x.3, omega (arith, x.4))
     go false t f g =
-        let x = g (rw (t, not) at e) in
+        let x = g (rw (t, comments) at e) in
         (b ∷ x.0, x.1, x.2, (eqb-false b 10 t, x.3), x.4, ap (λ (u : List ℕ). b ∷ u) x.5, omega (arith, x.6))
 lines_were false (b ∷ s) at next e = go (eqb b 99) refl (lines_were true s (suc at) next)
   where

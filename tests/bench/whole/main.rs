@@ -2,7 +2,7 @@
 //! beside cadical's and minisat's preprocessing and the second implementation,
 //! in one run, and counts instructions as formulas grow.
 //!
-//! `whole FOLDER` finds the programs in the folder target and works in FOLDER.
+//! `whole FOLDER` finds the programs in the folders target and crates/unhide/out and works in FOLDER.
 
 mod formulas;
 #[allow(dead_code)]
@@ -49,7 +49,7 @@ fn formula(kind: &Kind, size: usize) -> (usize, usize, String) {
 fn rivals(input: &str, output: &str) -> Vec<Rival> {
     let words = |line: &str| line.split(' ').map(str::to_string).collect();
     vec![
-        Rival { name: "unhide", arguments: words("target/bin/unhide"), streams: true },
+        Rival { name: "unhide", arguments: words("crates/unhide/out/unhide"), streams: true },
         Rival { name: "second", arguments: words("target/second unhide"), streams: true },
         Rival { name: "cadical", arguments: words(&format!("cadical -f -q -n -P1 -c 0 -o {output} {input}")), streams: false },
         Rival { name: "minisat", arguments: words(&format!("minisat -verb=0 -dimacs={output} {input}")), streams: false },
@@ -154,7 +154,7 @@ fn grow(folder: &str, kind: &Kind) -> bool {
 
 fn instructions(input: &str) -> Option<f64> {
     let output = Command::new("valgrind")
-        .args(["--tool=callgrind", "--callgrind-out-file=/dev/null", "target/bin/unhide"])
+        .args(["--tool=callgrind", "--callgrind-out-file=/dev/null", "crates/unhide/out/unhide"])
         .stdin(File::open(input).unwrap())
         .stdout(Stdio::null())
         .output()

@@ -9,17 +9,21 @@ use borrow.Author.Rules.{rules}
 use Rattle.explain.proofs.begins.Statement.{statement}
 use Rattle.explain.proofs.begins.Tie as tie
 
-returns : tie.Need-returns
-returns c = let s = c.before in ap (begins s.args.l) (sym (drop_of_length-le s.args.left.now c.if1.true))
+returns : tie.Need-returns-then-j-left
+returns c = ap (begins c.args.l) (sym (drop_of_length-le c.args.left.now c.if-j-left.true))
 
-mul-result : tie.Need-overflow-mul-result
+mul-result : tie.Need-offset_bounds-left-j
 mul-result c = search rules
 
-shared-slice-copy-out-result : tie.Need-shared-slice-copy-out-result
+shared-slice-copy-out-result : tie.Need-bounds-left-j
 shared-slice-copy-out-result c = search rules
 
-returns-2 : tie.Need-returns-2
-returns-2 c = let s = c.before.before in eqb_bits {y = get_or s.args.left.now s.args.j (pos 0)} (record { sfits = c.result.given }) s.ranges.l ∙ ap (begins s.args.l) (sym (drop-cons s.args.left.now s.args.j (pos 0) c.before.if1.false))
+returns-2 : tie.Need-returns
+returns-2 c = eqb_bits {y = get_or c.args.left.now c.args.j (pos 0)} (record { sfits = c.result-1.given }) c.ranges.l ∙ ap (begins c.args.l) (sym (drop-cons c.args.left.now c.args.j (pos 0) c.if-j-left.false))
 
-pub begins-spec : {M : Type 1} → statement M
-begins-spec = tie.close (tie.spec returns mul-result shared-slice-copy-out-result returns-2)
+pub begins_spec : {M : Type 1} → statement M
+begins_spec = tie.close (tie.spec
+    returns
+    mul-result
+    shared-slice-copy-out-result
+    returns-2)

@@ -13,41 +13,38 @@ use Rattle.explain.proofs.drop_ends.Statement.{statement}
 use Rattle.explain.proofs.drop_ends.Tie as tie
 
 -- the two literals
-lit-a : (c : tie.Then1) → Literal 1024 (get_or c.before.before.args.part.now 0 (pos 0))
-lit-a c = (clause_timed c.before.before.requires).lits.each 0 (omega (arith, c.if1.true))
+lit-a : (c : tie.Then-part-eq2) → Literal 1024 (get_or c.args.part.now 0 (pos 0))
+lit-a c = (clause_timed c.requires).lits.each 0 (omega (arith, c.if-part-eq2.true))
 
-lit-b : (c : tie.Then1) → Literal 1024 (get_or c.before.before.args.part.now 1 (pos 0))
-lit-b c = (clause_timed c.before.before.requires).lits.each 1 (omega (arith, c.if1.true))
+lit-b : (c : tie.Then-part-eq2) → Literal 1024 (get_or c.args.part.now 1 (pos 0))
+lit-b c = (clause_timed c.requires).lits.each 1 (omega (arith, c.if-part-eq2.true))
 
-shared-slice-copy-out-pair-ends : tie.Need-shared-slice-copy-out-pair-ends
+shared-slice-copy-out-pair-ends : tie.Need-bounds-part-0
 shared-slice-copy-out-pair-ends c = search rules
 
-shared-slice-copy-out-pair-ends-2 : tie.Need-shared-slice-copy-out-pair-ends-2
+shared-slice-copy-out-pair-ends-2 : tie.Need-bounds-part-1
 shared-slice-copy-out-pair-ends-2 c = search rules
 
-pair-ends-requires : tie.Need-pair-ends-requires
+pair-ends-requires : tie.Need-pair_ends-requires
 pair-ends-requires c κs =
-    let K = c.before.before.before.before.requires in
-    let t = c.before.before in
-    let a = subst (Literal K.vars) (sym (stored_is (lit-a t))) (K.each 0 (omega (arith, t.if1.true))) in
-    let b = subst (Literal K.vars) (sym (stored_is (lit-b t))) (K.each 1 (omega (arith, t.if1.true))) in
+    let K = c.requires in
+    let a = subst (Literal K.vars) (sym (stored_is (lit-a c.before.before))) (K.each 0 (omega (arith, c.if-part-eq2.true))) in
+    let b = subst (Literal K.vars) (sym (stored_is (lit-b c.before.before))) (K.each 1 (omega (arith, c.if-part-eq2.true))) in
     (K.vars, K.stamped, a, b)
 
-returns : tie.Need-returns
+returns : tie.Need-returns-then-part-eq2
 returns c =
-    let s = c.before.before.before.before.before in
-    let t = c.before.before.before in
-    let σ = columns s.args.times.now s.args.links.now in
-    c.pair_ends.ensures ∙ (λ i. pair_ends σ (stored_is (lit-a t) i) (stored_is (lit-b t) i)) ∙ drop_pair σ s.args.part.now t.if1.true
+    let σ = columns c.args.times.now c.args.links.now in
+    c.pair_ends.ensures ∙ (λ i. pair_ends σ (stored_is (lit-a c.before.before.before) i) (stored_is (lit-b c.before.before.before) i)) ∙ drop_pair σ c.args.part.now c.if-part-eq2.true
 
-long-ends-requires : tie.Need-long-ends-requires
-long-ends-requires c κs = clause_timed c.before.before.requires
+long-ends-requires : tie.Need-long_ends-requires
+long-ends-requires c κs = clause_timed c.requires
 
-returns-2 : tie.Need-returns-2
-returns-2 c = let s = c.before.before.before in c.long-ends.ensures s.args.links.now ∙ drop_long (columns s.args.times.now s.args.links.now) s.args.part.now c.before.if1.false
+returns-2 : tie.Need-returns
+returns-2 c = c.long_ends.ensures c.args.links.now ∙ drop_long (columns c.args.times.now c.args.links.now) c.args.part.now c.if-part-eq2.false
 
-pub drop-ends-spec : {M : Type 1} → statement M
-drop-ends-spec =
+pub drop_ends_spec : {M : Type 1} → statement M
+drop_ends_spec =
     tie.close
     (tie.spec
     shared-slice-copy-out-pair-ends

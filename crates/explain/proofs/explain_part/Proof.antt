@@ -6,26 +6,26 @@ use borrow.Author.Rules.{rules}
 use Rattle.explain.proofs.explain_part.Statement.{statement}
 use Rattle.explain.proofs.explain_part.Tie as tie
 
-slice-aggregate-find : tie.Need-slice-aggregate-find
+slice-aggregate-find : tie.Need-slice_bounds-find-end
 slice-aggregate-find c = search rules
 
-find-requires : tie.Need-find-requires
+find-requires : tie.Need-find-found-requires
 find-requires c κs = search rules
 
-slice-aggregate-write-chains : tie.Need-slice-aggregate-write-chains
+slice-aggregate-write-chains : tie.Need-slice_bounds-write_chains-end
 slice-aggregate-write-chains c = search rules
 
-write-chains-requires : tie.Need-write-chains-requires
-write-chains-requires c κs = let s = c.before.before.before.before.before.before.before in found_chained s.requires c.before.before.before.find.ensures (search rules)
+write-chains-requires : tie.Need-write_chains-requires
+write-chains-requires c κs = found_chained c.requires c.find-found.ensures (search rules)
 
-same_length : tie.Need-same-length
+same_length : tie.Need-shape_of-out
 same_length c = search rules
 
 returns : tie.Need-returns
-returns c = let s = c.before.before.before.before.before.before.before.before.before.before in c.before.before.write-chains.ensures (reasons_of (columns s.args.times.now s.args.links.now) s.args.part.now) c.before.before.before.before.before.before.find.ensures
+returns c = c.write_chains.ensures (reasons_of (columns c.args.times.now c.args.links.now) c.args.part.now) c.find-found.ensures
 
-pub explain-part-spec : {M : Type 1} → statement M
-explain-part-spec =
+pub explain_part_spec : {M : Type 1} → statement M
+explain_part_spec =
     tie.close
     (tie.spec
     slice-aggregate-find

@@ -28,67 +28,60 @@ abbrev behind : tie.Start → List ℤ
 behind s = drop (length s.args.part.now) (replicate 1024 (pos 0))
 
 -- the rest stands in front
-few : (c : tie.After-keep-first) → c.keep-first.result ≤ length c.keep-first.new.1.1.0
-few c = let s = c.before.before.before.before in omega (arith, c.keep-first.ensures.0, c.keep-first.auto.1.1.0, room s)
+few : (c : tie.After-keep_first-m) → c.keep_first-m.result ≤ length c.keep_first-m.new.rest
+few c = omega (arith, c.keep_first-m.ensures.0, c.keep_first-m.auto.rest, room c.before.before.before.before)
 
-rest-is : (c : tie.After-keep-first) (links : List ℤ) → let s = c.before.before.before.before in
-    take c.keep-first.result (c.keep-first.new.1.1.0 ++ behind s) ≡ unhidden slot_of (holds (columns s.args.times.now links)) s.args.part.now
-rest-is c links = let s = c.before.before.before.before in take-append-le c.keep-first.result c.keep-first.new.1.1.0 (behind s) (few c) ∙ c.keep-first.ensures.1 links
+rest-is : (c : tie.After-keep_first-m) (links : List ℤ) → take c.keep_first-m.result (c.keep_first-m.new.rest ++ behind c.before.before.before.before) ≡ unhidden slot_of (holds (columns c.args.times.now links)) c.args.part.now
+rest-is c links = let c = c in take-append-le c.keep_first-m.result c.keep_first-m.new.rest (behind c.before.before.before.before) (few c) ∙ c.keep_first-m.ensures.1 links
 
 nothing-requires : tie.Need-nothing-requires
 nothing-requires c κs = search rules
 
-returns : tie.Need-returns
+returns : tie.Need-returns-then-left-n
 returns c =
-    let s = c.before.before.before in
     λ links.
-    subst (Says c.nothing.result s.args.ends.now) (sym (ap (taken_out (columns s.args.times.now links) s.args.part.now) (nothing_out s.requires.3 c.before.if1.true))) (c.nothing.ensures s.args.ends.now)
+    subst (Says c.nothing.result c.args.ends.now) (sym (ap (taken_out (columns c.args.times.now links) c.args.part.now) (nothing_out c.requires.3 c.if-left-n.true))) (c.nothing.ensures c.args.ends.now)
 
-array-borrow-prefix-rest : tie.Need-array-borrow-prefix-rest
+array-borrow-prefix-rest : tie.Need-slice_bounds-rest-end
 array-borrow-prefix-rest c = search rules
 
-slice-aggregate-keep-first : tie.Need-slice-aggregate-keep-first
+slice-aggregate-keep-first : tie.Need-slice_bounds-keep_first-end
 slice-aggregate-keep-first c = sym (room c.before.before.before)
 
-keep-first-requires : tie.Need-keep-first-requires
-keep-first-requires c κs = let s = c.before.before.before in (s.requires.0, room s)
+keep-first-requires : tie.Need-keep_first-m-requires
+keep-first-requires c κs = (c.requires.0, room c.before.before.before)
 
-array-share-prefix-rest : tie.Need-array-share-prefix-rest
-array-share-prefix-rest c = front_fits c.before.keep-first.result c.before.keep-first.new.1.1.0 (behind c.before.before.before.before.before) (few c.before)
+array-share-prefix-rest : tie.Need-slice_bounds-rest-end-2
+array-share-prefix-rest c = front_fits c.keep_first-m.result c.keep_first-m.new.rest (behind c.before.before.before.before.before) (few c.before)
 
-slice-aggregate-gather-ends : tie.Need-slice-aggregate-gather-ends
-slice-aggregate-gather-ends c = front_length c.before.before.keep-first.result c.before.before.keep-first.new.1.1.0 (behind c.before.before.before.before.before.before) (few c.before.before)
+slice-aggregate-gather-ends : tie.Need-slice_bounds-gather_ends-end
+slice-aggregate-gather-ends c = front_length c.keep_first-m.result c.keep_first-m.new.rest (behind c.before.before.before.before.before.before) (few c.before.before)
 
-gather-ends-requires : tie.Need-gather-ends-requires
+gather-ends-requires : tie.Need-gather_ends-chains-requires
 gather-ends-requires c κs =
-    let s = c.before.before.before.before.before.before.before in
-    (s.requires.0, record { long = s.requires.0.long; lits = subst Lits (sym (rest-is c.before.before.before [])) (unhidden_lits (columns s.args.times.now []) s.requires.0.lits) }, s.requires.1, s.requires.2)
+    (c.requires.0, record { long = c.requires.0.long; lits = subst Lits (sym (rest-is c.before.before.before [])) (unhidden_lits (columns c.args.times.now []) c.requires.0.lits) }, c.requires.1, c.requires.2)
 
-cast-t18 : tie.Need-overflow-cast-t18
+cast-t18 : tie.Need-overflow_cast-result
 cast-t18 c =
-    let s = c.before.before.before.before.before.before.before.before.before in
-    let k = c.before.before.before.before.before in
     omega (
       arith,
-      (c.before.gather-ends.ensures []).number,
-      length-map (left_out s.args.part.now s.args.left.now) (ends_in (columns s.args.times.now []) s.args.part.now (take k.keep-first.result (k.keep-first.new.1.1.0 ++ behind s))),
-      left_out_length s.requires.3,
-      s.requires.1,
+      (c.gather_ends-chains.ensures []).number,
+      length-map (left_out c.args.part.now c.args.left.now) (ends_in (columns c.args.times.now []) c.args.part.now (take c.keep_first-m.result (c.keep_first-m.new.rest ++ behind c.before.before.before.before.before.before.before.before.before))),
+      left_out_length c.requires.3,
+      c.requires.1,
     )
 
-same_length : tie.Need-same-length
+same_length : tie.Need-shape_of-ends
 same_length c = search rules
 
-returns-2 : tie.Need-returns-2
+returns-2 : tie.Need-returns
 returns-2 c =
-    let s = c.before.before.before.before.before.before.before.before.before in
-    let k = c.before.before.before.before.before in
-    let g = c.before.gather-ends in
+    let g = c.gather_ends-chains in
     λ links.
-    taken_shown (columns s.args.times.now links) s.args.part.now s.args.left.now (take k.keep-first.result (k.keep-first.new.1.1.0 ++ behind s)) g.new.1.1.1.1.0 g.result s.requires.3 k.before.before.if1.false (rest-is k links) (g.ensures links)
+    taken_shown (columns c.args.times.now links) c.args.part.now c.args.left.now (take c.keep_first-m.result (c.keep_first-m.new.rest ++ behind c.before.before.before.before.before.before.before.before.before)) g.new.ends g.result c.requires.3 c.if-left-n.false (rest-is c.before.before.before.before.before links) (g.ensures links)
 
-pub find-out-spec : {M : Type 1} → statement M
-find-out-spec =
+pub find_out_spec : {M : Type 1} → statement M
+find_out_spec =
     tie.close
     (tie.spec
     nothing-requires

@@ -14,55 +14,54 @@ use borrow.Author.Rules.{rules}
 use Rattle.explain.proofs.first_holder.Statement.{statement}
 use Rattle.explain.proofs.first_holder.Tie as tie
 
-abbrev invariant-loop : tie.invariant-loop
+abbrev invariant-loop : tie.invariant-loop-i
 invariant-loop part times l i₀ i = Passing (λ links C. first_holder (columns times links) C (to_z w32 l)) part i
 
-abbrev decreases-loop : tie.decreases-loop
+abbrev decreases-loop : tie.decreases-loop-i
 decreases-loop part times l i₀ i = length part - i
 
 -- what was read, and what was asked of it
-lit : (c : tie.After-m invariant-loop decreases-loop) → Literal 1024 (get_or c.before.before.before.before.args.part.now c.before.before.loop.i (pos 0))
-lit c = c.before.before.before.before.requires.0.lits.each c.before.before.loop.i c.before.loop-test.true
+lit : (c : tie.After-m-1 invariant-loop decreases-loop) → Literal 1024 (get_or c.args.part.now c.loop-i.i (pos 0))
+lit c = c.requires.0.lits.each c.loop-i.i c.loop-i-test.true
 
-asked : (c : tie.After-holds-other invariant-loop decreases-loop) (links : List ℤ) → let s = c.before.before.before.before.before in
-    c.holds-other.result ≡ holds_other (columns s.args.times.now links) (neg_ℤ (get_or s.args.part.now c.before.before.before.loop.i (pos 0))) (neg_ℤ (to_z w32 (of_z w32 s.args.l)))
-asked c links = let s = c.before.before.before.before.before in c.holds-other.ensures links ∙ (λ i. holds_other (columns s.args.times.now links) (turned_is (lit c.before) i) ((turned_is s.requires.1 ∙ ap neg_ℤ (sym (stored_is s.requires.1))) i))
+asked : (c : tie.After-holds_other invariant-loop decreases-loop) (links : List ℤ) → c.holds_other.result ≡ holds_other (columns c.args.times.now links) (neg_ℤ (get_or c.args.part.now c.loop-i.i (pos 0))) (neg_ℤ (to_z w32 (of_z w32 c.args.l)))
+asked c links = let c = c in c.holds_other.ensures links ∙ (λ i. holds_other (columns c.args.times.now links) (turned_is (lit c.before) i) ((turned_is c.requires.1 ∙ ap neg_ℤ (sym (stored_is c.requires.1))) i))
 
-loop-holds : tie.Need-loop-init invariant-loop decreases-loop
-loop-holds c = let s = c.before in passing_none (λ links C. first_holder (columns s.args.times.now links) C (to_z w32 (of_z w32 s.args.l))) s.args.part.now
+loop-holds : tie.Need-loop-i-init invariant-loop decreases-loop
+loop-holds c = passing_none (λ links C. first_holder (columns c.args.times.now links) C (to_z w32 (of_z w32 c.args.l))) c.args.part.now
 
-mul-m : tie.Need-overflow-mul-m invariant-loop decreases-loop
+mul-m : tie.Need-offset_bounds-part-i invariant-loop decreases-loop
 mul-m c = search rules
 
-shared-slice-copy-out-m : tie.Need-shared-slice-copy-out-m invariant-loop decreases-loop
+shared-slice-copy-out-m : tie.Need-bounds-part-i invariant-loop decreases-loop
 shared-slice-copy-out-m c = search rules
 
-add-i : tie.Need-overflow-add-i invariant-loop decreases-loop
+add-i : tie.Need-overflow_add-i invariant-loop decreases-loop
 add-i c = search rules
 
-sub-holds-other : tie.Need-overflow-sub-holds-other invariant-loop decreases-loop
+sub-holds-other : tie.Need-overflow_sub-m invariant-loop decreases-loop
 sub-holds-other c = turned_fits (lit c)
 
-sub-holds-other-2 : tie.Need-overflow-sub-holds-other-2 invariant-loop decreases-loop
-sub-holds-other-2 c = turned_fits c.before.before.before.before.requires.1
+sub-holds-other-2 : tie.Need-overflow_sub-l invariant-loop decreases-loop
+sub-holds-other-2 c = turned_fits c.requires.1
 
-holds-other-requires : tie.Need-holds-other-requires invariant-loop decreases-loop
-holds-other-requires c κs = let s = c.before.before.before.before in (s.requires.0.long, turned (lit c), turned s.requires.1)
+holds-other-requires : tie.Need-holds_other-requires invariant-loop decreases-loop
+holds-other-requires c κs = (c.requires.0.long, turned (lit c), turned c.requires.1)
 
-returns : tie.Need-returns invariant-loop decreases-loop
-returns c = let s = c.before.before.before.before.before.before in let at = c.before.before.before.before.loop in λ links. stored_is (lit c.before.before) ∙ sym (passing_at at.invariant c.before.before.before.loop-test.true links ∙ first_here (λ m. holds_other (columns s.args.times.now links) (neg_ℤ m) (neg_ℤ (to_z w32 (of_z w32 s.args.l)))) (get_or s.args.part.now at.i (pos 0)) (drop (suc at.i) s.args.part.now) (sym (asked c.before links) ∙ c.if1.true)) ∙ ap (first_holder (columns s.args.times.now links) s.args.part.now) (stored_is s.requires.1)
+returns : tie.Need-returns-then-holds_other invariant-loop decreases-loop
+returns c = let at = c.loop-i in λ links. stored_is (lit c.before.before) ∙ sym (passing_at at.invariant c.loop-i-test.true links ∙ first_here (λ m. holds_other (columns c.args.times.now links) (neg_ℤ m) (neg_ℤ (to_z w32 (of_z w32 c.args.l)))) (get_or c.args.part.now at.i (pos 0)) (drop (suc at.i) c.args.part.now) (sym (asked c.before links) ∙ c.if-holds_other.true)) ∙ ap (first_holder (columns c.args.times.now links) c.args.part.now) (stored_is c.requires.1)
 
-loop-less : tie.Need-loop-smaller invariant-loop decreases-loop
+loop-less : tie.Need-loop-i-smaller invariant-loop decreases-loop
 loop-less c = search rules
 
-loop-again : tie.Need-loop-preserved invariant-loop decreases-loop
-loop-again c = let s = c.before.before.before.before.before.before in let at = c.before.before.before.before.loop in passing_next at.invariant c.before.before.before.loop-test.true (λ links. first_next (λ m. holds_other (columns s.args.times.now links) (neg_ℤ m) (neg_ℤ (to_z w32 (of_z w32 s.args.l)))) (get_or s.args.part.now at.i (pos 0)) (drop (suc at.i) s.args.part.now) (sym (asked c.before links) ∙ c.if1.false))
+loop-again : tie.Need-loop-i-preserved invariant-loop decreases-loop
+loop-again c = let at = c.loop-i in passing_next at.invariant c.loop-i-test.true (λ links. first_next (λ m. holds_other (columns c.args.times.now links) (neg_ℤ m) (neg_ℤ (to_z w32 (of_z w32 c.args.l)))) (get_or c.args.part.now at.i (pos 0)) (drop (suc at.i) c.args.part.now) (sym (asked c.before links) ∙ c.if-holds_other.false))
 
-returns-2 : tie.Need-returns-2 invariant-loop decreases-loop
-returns-2 c = let s = c.before.before.before in λ links. sym (passing_done c.before.loop.invariant c.loop-test.false links ∙ first_none (λ m. holds_other (columns s.args.times.now links) (neg_ℤ m) (neg_ℤ (to_z w32 (of_z w32 s.args.l))))) ∙ ap (first_holder (columns s.args.times.now links) s.args.part.now) (stored_is s.requires.1)
+returns-2 : tie.Need-returns invariant-loop decreases-loop
+returns-2 c = λ links. sym (passing_done c.loop-i.invariant c.loop-i-test.false links ∙ first_none (λ m. holds_other (columns c.args.times.now links) (neg_ℤ m) (neg_ℤ (to_z w32 (of_z w32 c.args.l))))) ∙ ap (first_holder (columns c.args.times.now links) c.args.part.now) (stored_is c.requires.1)
 
-pub first-holder-spec : {M : Type 1} → statement M
-first-holder-spec =
+pub first_holder_spec : {M : Type 1} → statement M
+first_holder_spec =
     tie.close
     (tie.spec
     invariant-loop

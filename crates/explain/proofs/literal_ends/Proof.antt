@@ -15,47 +15,51 @@ use Rattle.explain.proofs.literal_ends.Statement.{statement}
 use Rattle.explain.proofs.literal_ends.Tie as tie
 
 -- what l holds, and what holds it
-held : (c : tie.After-first-held) (links : List ℤ) → let s = c.before.before in c.first-held.result ≡ first_held (columns s.args.times.now links) s.args.part.now s.args.l
-held c links = let s = c.before.before in c.first-held.ensures links ∙ ap (first_held (columns s.args.times.now links) s.args.part.now) (stored_is s.requires.2)
+held : (c : tie.After-first_held-held) (links : List ℤ) → c.first_held-held.result ≡ first_held (columns c.args.times.now links) c.args.part.now c.args.l
+held c links = let c = c in c.first_held-held.ensures links ∙ ap (first_held (columns c.args.times.now links) c.args.part.now) (stored_is c.requires.2)
 
-holder : (c : tie.After-first-holder) (links : List ℤ) → let s = c.before.before.before.before in c.first-holder.result ≡ first_holder (columns s.args.times.now links) s.args.rest.now s.args.l
-holder c links = let s = c.before.before.before.before in c.first-holder.ensures links ∙ ap (first_holder (columns s.args.times.now links) s.args.rest.now) (stored_is s.requires.2)
+holder : (c : tie.After-first_holder-holder) (links : List ℤ) → c.first_holder-holder.result ≡ first_holder (columns c.args.times.now links) c.args.rest.now c.args.l
+holder c links = let c = c in c.first_holder-holder.ensures links ∙ ap (first_holder (columns c.args.times.now links) c.args.rest.now) (stored_is c.requires.2)
 
-small : (c : tie.After-first-holder) → Small c.first-holder.result
-small c = let s = c.before.before.before.before in subst Small (sym (holder c [])) (first_small (λ m. holds_other (columns s.args.times.now []) (neg_ℤ m) (neg_ℤ s.args.l)) s.args.rest.now (lits_small s.requires.1.lits))
+small : (c : tie.After-first_holder-holder) → Small c.first_holder-holder.result
+small c = subst Small (sym (holder c [])) (first_small (λ m. holds_other (columns c.args.times.now []) (neg_ℤ m) (neg_ℤ c.args.l)) c.args.rest.now (lits_small c.requires.1.lits))
 
-first-held-requires : tie.Need-first-held-requires
-first-held-requires c κs = let s = c.before in (s.requires.0, stored s.requires.2)
+first-held-requires : tie.Need-first_held-held-requires
+first-held-requires c κs = (c.requires.0, stored c.requires.2)
 
-returns : tie.Need-returns
+returns : tie.Need-returns-then-held-ne0
 returns c =
-    let s = c.before.before.before in
-    let r = c.before.first-held.result in
-    let f = sfits_of c.before.first-held.type-inv in
+    let r = c.first_held-held.result in
+    let f = sfits_of c.first_held-held.type_inv in
     λ links.
-    let σ = columns s.args.times.now links in
-    let some : 0 < nat_abs (first_held σ s.args.part.now s.args.l) = subst (λ (z : ℤ). 0 < nat_abs z) (held c.before links) (not_zero f c.if1.true) in
-    (λ i. ends (stored_is s.requires.2 i) ((to_z-of_z f ∙ held c.before links) i))
-    ∙ sym (if_found_lem (first_held σ s.args.part.now s.args.l) (ends s.args.l (first_held σ s.args.part.now s.args.l)) (ends (neg_ℤ (first_holder σ s.args.rest.now s.args.l)) (neg_ℤ s.args.l)) some)
+    let σ = columns c.args.times.now links in
+    let some : 0 < nat_abs (first_held σ c.args.part.now c.args.l) = subst (λ (z : ℤ). 0 < nat_abs z) (held c.before links) (not_zero f c.if-held-ne0.true) in
+    (λ i. ends (stored_is c.requires.2 i) ((to_z-of_z f ∙ held c.before links) i))
+    ∙ sym (if_found_lem (first_held σ c.args.part.now c.args.l) (ends c.args.l (first_held σ c.args.part.now c.args.l)) (ends (neg_ℤ (first_holder σ c.args.rest.now c.args.l)) (neg_ℤ c.args.l)) some)
 
-first-holder-requires : tie.Need-first-holder-requires
-first-holder-requires c κs = let s = c.before.before.before in (s.requires.1, stored s.requires.2)
+first-holder-requires : tie.Need-first_holder-holder-requires
+first-holder-requires c κs = (c.requires.1, stored c.requires.2)
 
-sub-t8 : tie.Need-overflow-sub-t8
+sub-t8 : tie.Need-overflow_sub-result
 sub-t8 c = neg_fits (small c)
 
-sub-t9 : tie.Need-overflow-sub-t9
-sub-t9 c = turned_fits c.before.before.before.before.requires.2
+sub-t9 : tie.Need-overflow_sub-result-2
+sub-t9 c = turned_fits c.requires.2
 
-returns-2 : tie.Need-returns-2
+returns-2 : tie.Need-returns
 returns-2 c =
-    let s = c.before.before.before.before in
-    let f = sfits_of c.before.before.first-held.type-inv in
+    let f = sfits_of c.first_held-held.type_inv in
     λ links.
-    let σ = columns s.args.times.now links in
-    (λ i. ends ((neg_is (small c) ∙ ap neg_ℤ (holder c links)) i) (turned_is s.requires.2 i))
-    ∙ sym (if_none (first_held σ s.args.part.now s.args.l) (ends s.args.l (first_held σ s.args.part.now s.args.l)) (ends (neg_ℤ (first_holder σ s.args.rest.now s.args.l)) (neg_ℤ s.args.l)) (ap nat_abs (sym (held c.before.before links) ∙ zero_is f c.before.if1.false)))
+    let σ = columns c.args.times.now links in
+    (λ i. ends ((neg_is (small c) ∙ ap neg_ℤ (holder c links)) i) (turned_is c.requires.2 i))
+    ∙ sym (if_none (first_held σ c.args.part.now c.args.l) (ends c.args.l (first_held σ c.args.part.now c.args.l)) (ends (neg_ℤ (first_holder σ c.args.rest.now c.args.l)) (neg_ℤ c.args.l)) (ap nat_abs (sym (held c.before.before links) ∙ zero_is f c.if-held-ne0.false)))
 
-pub literal-ends-spec : {M : Type 1} → statement M
-literal-ends-spec =
-    tie.close (tie.spec first-held-requires returns first-holder-requires sub-t8 sub-t9 returns-2)
+pub literal_ends_spec : {M : Type 1} → statement M
+literal_ends_spec =
+    tie.close (tie.spec
+    first-held-requires
+    returns
+    first-holder-requires
+    sub-t8
+    sub-t9
+    returns-2)

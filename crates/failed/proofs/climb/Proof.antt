@@ -13,39 +13,39 @@ use Rattle.hidden.proofs.holds.Reads as holds-reads
 use Rattle.stamp_columns.proofs.parent.Reads as parent-reads
 use Rattle.literal.proofs.twin_of.Reads as twin-of-reads
 
-abbrev invariant-loop : tie.invariant-loop
+abbrev invariant-loop : tie.invariant-loop-x
 invariant-loop times links s t x₀ x = Climbing times links s t x
 
-abbrev decreases-loop : tie.decreases-loop
+abbrev decreases-loop : tie.decreases-loop-x
 decreases-loop times links s t x₀ x = discovery_at (columns times links) x
 
 -- x does not hold the twin: on to its parent
-on : (c : tie.After-parent invariant-loop decreases-loop) → Onward c.before.before.before.loop.invariant
-on c = climbing_on c.before.before.before.loop.invariant (sym (c.before.before.holds.ensures c.before.before.before.before.before.before.args.links.now) ∙ not-true _ c.before.if1.true)
+on : (c : tie.After-parent-x invariant-loop decreases-loop) → Onward c.loop-x.invariant
+on c = climbing_on c.loop-x.invariant (sym (c.holds.ensures c.args.links.now) ∙ c.loop-x-test.true)
 
-twin-of-requires : tie.Need-twin-of-requires invariant-loop decreases-loop
-twin-of-requires c κs = omega (arith, c.before.requires.below, c.before.requires.stamped.few)
+twin-of-requires : tie.Need-twin_of-t-requires invariant-loop decreases-loop
+twin-of-requires c κs = omega (arith, c.requires.below, c.requires.stamped.few)
 
-loop-holds : tie.Need-loop-init invariant-loop decreases-loop
-loop-holds c = climbing_none c.before.before.requires c.twin-of.ensures
+loop-holds : tie.Need-loop-x-init invariant-loop decreases-loop
+loop-holds c = climbing_none c.requires c.twin_of-t.ensures
 
 holds-requires : tie.Need-holds-requires invariant-loop decreases-loop
-holds-requires c κs = (climbing_timed c.loop.invariant, climbing_twin c.loop.invariant)
+holds-requires c κs = (climbing_timed c.loop-x.invariant, climbing_twin c.loop-x.invariant)
 
-parent-requires : tie.Need-parent-requires invariant-loop decreases-loop
-parent-requires c κs = climbing_child c.before.before.loop.invariant
+parent-requires : tie.Need-parent-x-requires invariant-loop decreases-loop
+parent-requires c κs = climbing_child c.loop-x.invariant
 
-loop-less : tie.Need-loop-smaller invariant-loop decreases-loop
-loop-less c = rw c.parent.ensures (on c).earlier
+loop-less : tie.Need-loop-x-smaller invariant-loop decreases-loop
+loop-less c = rw c.parent-x.ensures (on c).earlier
 
-loop-again : tie.Need-loop-preserved invariant-loop decreases-loop
-loop-again c = rw c.parent.ensures (on c).again
+loop-again : tie.Need-loop-x-preserved invariant-loop decreases-loop
+loop-again c = rw c.parent-x.ensures (on c).again
 
 returns : tie.Need-returns invariant-loop decreases-loop
-returns c = climbing_ends c.before.before.loop.invariant (sym (c.before.holds.ensures c.before.before.before.before.before.args.links.now) ∙ not-false _ c.if1.false)
+returns c = climbing_ends c.loop-x.invariant (sym (c.holds.ensures c.args.links.now) ∙ c.loop-x-test.false)
 
-pub climb-spec : {M : Type 1} → statement M
-climb-spec =
+pub climb_spec : {M : Type 1} → statement M
+climb_spec =
     tie.close
     (tie.spec
     invariant-loop

@@ -14,32 +14,32 @@ use Rattle.failed.proofs.unless_stale.Reads as unless-stale-reads
 abbrev lent : tie.Start → Tables
 lent s = tables s.args.clauses.now s.args.literals.now s.args.variables.now s.args.times.now s.args.links.now
 
-may-open-requires : tie.Need-may-open-requires
+may-open-requires : tie.Need-may_open-opening-requires
 may-open-requires c κs = search rules
 
-enum-known-opening : tie.Need-enum-known-opening
+enum-known-opening : tie.Need-enum_known-opening
 enum-known-opening c = search rules
 
-enum_told : tie.Need-enum-told
+enum_told : tie.Need-enum_told-1
 enum_told c = search rules
 
-unless-stale-requires : tie.Need-unless-stale-requires
-unless-stale-requires c κs = let s = c.before.before.before.before.before.before.before in granted_callable (lent s) s.args.st (sym c.before.before.before.may-open.ensures ∙ c.before.enum_told.given.1)
+unless-stale-requires : tie.Need-unless_stale-requires
+unless-stale-requires c κs = granted_callable (lent c.before.before.before.before.before) c.args.st (sym c.may_open-opening.ensures ∙ c.in-Granted.is)
 
-same_length : tie.Need-same-length
+same_length : tie.Need-shape_of-variables-in-Denied
 same_length c = search rules
 
-returns : tie.Need-returns
-returns c = let s = c.before.before.before.before.before.before.before in call_refused (lent s) s.args.st c.before.opening.given.0.0 (sym c.before.before.before.may-open.ensures ∙ c.before.opening.given.1)
+returns : tie.Need-returns-in-Denied
+returns c = call_refused (lent c.before.before.before.before) c.args.st c.in-Denied.r (sym c.may_open-opening.ensures ∙ c.in-Denied.is)
 
-same-length-2 : tie.Need-same-length-2
+same-length-2 : tie.Need-shape_of-variables-in-Granted
 same-length-2 c = search rules
 
-returns-2 : tie.Need-returns-2
-returns-2 c = let s = c.before.before.before.before.before.before.before.before.before in c.before.unless-stale.ensures s.args.clauses.now s.args.literals.now ∙ call_granted (lent s) s.args.st (sym c.before.before.before.before.before.may-open.ensures ∙ c.before.before.before.enum_told.given.1)
+returns-2 : tie.Need-returns-in-Granted
+returns-2 c = c.unless_stale.ensures c.args.clauses.now c.args.literals.now ∙ call_granted (lent c.before.before.before.before.before.before.before) c.args.st (sym c.may_open-opening.ensures ∙ c.in-Granted.is)
 
-pub failed-spec : {M : Type 1} → statement M
-failed-spec =
+pub failed_spec : {M : Type 1} → statement M
+failed_spec =
     tie.close
     (tie.spec
     may-open-requires

@@ -6,23 +6,28 @@ use borrow.Author.Rules.{rules}
 use Rattle.failed.proofs.failed_fresh.Statement.{statement}
 use Rattle.failed.proofs.failed_fresh.Tie as tie
 
-fail-from-requires : tie.Need-fail-from-requires
+fail-from-requires : tie.Need-fail_from-tally-requires
 fail-from-requires c κs = search rules
 
 spread-requires : tie.Need-spread-requires
-spread-requires c κs = let s = c.before.before.before.before.before in let a = s.args in let r = c.before.before.fail-from in
-    found_rows (tables [] [] a.variables.now a.times.now a.links.now) a.st r.result r.new.0 r.ensures s.requires.0 s.requires.1
+spread-requires c κs = let a = c.args in let r = c.fail_from-tally in
+    found_rows (tables [] [] a.variables.now a.times.now a.links.now) a.st r.result r.new.variables r.ensures c.requires.0 c.requires.1
 
-state-after-requires : tie.Need-state-after-requires
+state-after-requires : tie.Need-state_after-state-requires
 state-after-requires c κs = search rules
 
-same_length : tie.Need-same-length
+same_length : tie.Need-shape_of-variables
 same_length c = search rules
 
 returns : tie.Need-returns
-returns c = λ clauses literals. let a = c.before.before.before.before.before.before.before.before.args in let r = c.before.before.before.before.before.fail-from in
-    rw (c.state-after.ensures, c.before.before.spread.ensures) (fresh_replied (tables clauses literals a.variables.now a.times.now a.links.now) a.st r.result r.new.0 r.ensures)
+returns c = λ clauses literals. let a = c.args in let r = c.fail_from-tally in
+    rw (c.state_after-state.ensures, c.spread.ensures) (fresh_replied (tables clauses literals a.variables.now a.times.now a.links.now) a.st r.result r.new.variables r.ensures)
 
-pub failed-fresh-spec : {M : Type 1} → statement M
-failed-fresh-spec =
-    tie.close (tie.spec fail-from-requires spread-requires state-after-requires same_length returns)
+pub failed_fresh_spec : {M : Type 1} → statement M
+failed_fresh_spec =
+    tie.close (tie.spec
+    fail-from-requires
+    spread-requires
+    state-after-requires
+    same_length
+    returns)

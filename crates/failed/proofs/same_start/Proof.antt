@@ -10,19 +10,23 @@ use Rattle.failed.proofs.same_start.Lts as lts
 use Rattle.failed.proofs.start_of.Reads as start-of-reads
 use Rattle.literal.proofs.twin_of.Reads as twin-of-reads
 
-twin-of-requires : tie.Need-twin-of-requires
+twin-of-requires : tie.Need-twin_of-t-requires
 twin-of-requires c κs = search rules
 
-start-of-requires : tie.Need-start-of-requires
+start-of-requires : tie.Need-start_of-requires
 start-of-requires c κs = search rules
 
-start-of-requires-2 : tie.Need-start-of-requires-2
-start-of-requires-2 c κs = subst (Rooted c.before.before.args.links.now) (sym c.before.twin-of.ensures) c.before.before.requires.1
+start-of-requires-2 : tie.Need-start_of-requires-2
+start-of-requires-2 c κs = subst (Rooted c.args.links.now) (sym c.twin_of-t.ensures) c.requires.1
 
 returns : tie.Need-returns
 unfolding same_start
-returns c = λ times. rw (c.before.start_of_lem.ensures, c.start-of2.ensures, c.before.before.twin-of.ensures)
+returns c = λ times. rw (c.start_of.ensures, c.start_of-2.ensures, c.twin_of-t.ensures)
 
-pub same-start-spec : {M : Type 1} → statement M
-same-start-spec =
-    tie.close (tie.spec twin-of-requires start-of-requires start-of-requires-2 returns)
+pub same_start_spec : {M : Type 1} → statement M
+same_start_spec =
+    tie.close (tie.spec
+    twin-of-requires
+    start-of-requires
+    start-of-requires-2
+    returns)

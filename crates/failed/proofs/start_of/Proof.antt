@@ -16,32 +16,32 @@ use Rattle.failed.proofs.start_of.Lts as lts
 use Rattle.literal.proofs.slot_of.Reads as slot-of-reads
 
 -- the call's result, of the literal that was read
-slot : (c : tie.After-slot-of) → c.slot_of.result ≡ slot_of (start_in c.before.before.args.links.now c.before.before.args.s)
-slot c = rw (read c.before.before.args.links.now (2 * c.before.before.args.s + 1) c.before.slot-of-arg.given) at c.slot_of.ensures
+slot : (c : tie.After-slot_of) → c.slot_of.result ≡ slot_of (start_in c.args.links.now c.args.s)
+slot c = rw (read c.args.links.now (2 * c.args.s + 1) c.slot_of-arg-1.given) at c.slot_of.ensures
 
-mul-slot-of : tie.Need-overflow-mul-slot-of
+mul-slot-of : tie.Need-overflow_mul-s
 mul-slot-of c = search rules
 
-add-slot-of : tie.Need-overflow-add-slot-of
+add-slot-of : tie.Need-overflow_add-s
 add-slot-of c = search rules
 
-mul-slot-of-2 : tie.Need-overflow-mul-slot-of-2
+mul-slot-of-2 : tie.Need-offset_bounds-links-s
 mul-slot-of-2 c = search rules
 
-shared-slice-copy-out-slot-of : tie.Need-shared-slice-copy-out-slot-of
+shared-slice-copy-out-slot-of : tie.Need-bounds-links-s
 shared-slice-copy-out-slot-of c = search rules
 
-slot-of-requires : tie.Need-slot-of-requires
-slot-of-requires c κs = rw (read c.before.args.links.now (2 * c.before.args.s + 1) c.slot-of-arg.given) (c.before.requires.start.above, record { small = let h = c.before.requires.start.within in omega arith })
+slot-of-requires : tie.Need-slot_of-requires
+slot-of-requires c κs = rw (read c.args.links.now (2 * c.args.s + 1) c.slot_of-arg-1.given) (c.requires.start.above, record { small = let h = c.requires.start.within in omega arith })
 
-cast-result : tie.Need-overflow-cast-result
-cast-result c = let h = slot_below (start_in c.before.before.args.links.now c.before.before.args.s) 1024 c.before.before.requires.start.above c.before.before.requires.start.within in omega (arith, h, slot c)
+cast-result : tie.Need-overflow_cast-result
+cast-result c = let h = slot_below (start_in c.args.links.now c.args.s) 1024 c.requires.start.above c.requires.start.within in omega (arith, h, slot c)
 
 returns : tie.Need-returns
-returns c = slot c ∙ sym (column_starts [] c.before.before.args.links.now c.before.before.args.s)
+returns c = slot c ∙ sym (column_starts [] c.args.links.now c.args.s)
 
-pub start-of-spec : {M : Type 1} → statement M
-start-of-spec =
+pub start_of_spec : {M : Type 1} → statement M
+start_of_spec =
     tie.close
     (tie.spec
     mul-slot-of

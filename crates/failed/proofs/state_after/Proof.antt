@@ -13,14 +13,18 @@ use Rattle.state.proofs.State.marked.Reads as marked-reads
 marked-requires : tie.Need-marked-requires
 marked-requires c κs = search rules
 
-returns : tie.Need-returns
-returns c = c.marked.ensures ∙ sym (ap (λ (b : Bool). state_after b c.before.before.args.st) c.before.if1.true)
+returns : tie.Need-returns-then-opposite
+returns c = c.marked.ensures ∙ sym (ap (λ (b : Bool). state_after b c.args.st) c.if-opposite.true)
 
 closed-requires : tie.Need-closed-requires
 closed-requires c κs = search rules
 
-returns-2 : tie.Need-returns-2
-returns-2 c = c.closed.ensures ∙ sym (ap (λ (b : Bool). state_after b c.before.before.args.st) c.before.if1.false)
+returns-2 : tie.Need-returns
+returns-2 c = c.closed.ensures ∙ sym (ap (λ (b : Bool). state_after b c.args.st) c.if-opposite.false)
 
-pub state-after-spec : {M : Type 1} → statement M
-state-after-spec = tie.close (tie.spec marked-requires returns closed-requires returns-2)
+pub state_after_spec : {M : Type 1} → statement M
+state_after_spec = tie.close (tie.spec
+    marked-requires
+    returns
+    closed-requires
+    returns-2)

@@ -9,17 +9,21 @@ use Rattle.failed.proofs.unless_stale.Reads as reads
 use Rattle.failed.proofs.unless_stale.Lts as lts
 use Rattle.failed.proofs.failed_fresh.Reads as failed-fresh-reads
 
-failed-fresh-requires : tie.Need-failed-fresh-requires
-failed-fresh-requires c κs = (c.before.before.before.requires.stamped c.before.if1.true, c.before.before.before.requires.rows)
+failed-fresh-requires : tie.Need-failed_fresh-requires
+failed-fresh-requires c κs = (c.requires.stamped c.if-st.true, c.requires.rows)
 
-same_length : tie.Need-same-length
+same_length : tie.Need-shape_of-variables-then-st
 same_length c = search rules
 
-returns : tie.Need-returns
-returns c = λ clauses literals. c.before.failed-fresh.ensures clauses literals ∙ fresh_runs (tables clauses literals c.before.before.before.before.before.args.variables.now c.before.before.before.before.before.args.times.now c.before.before.before.before.before.args.links.now) c.before.before.before.before.before.args.st c.before.before.before.if1.true
+returns : tie.Need-returns-then-st
+returns c = λ clauses literals. c.failed_fresh.ensures clauses literals ∙ fresh_runs (tables clauses literals c.args.variables.now c.args.times.now c.args.links.now) c.args.st c.if-st.true
 
-returns-2 : tie.Need-returns-2
-returns-2 c = λ clauses literals. stale_refused (tables clauses literals c.before.before.args.variables.now c.before.before.args.times.now c.before.before.args.links.now) c.before.before.args.st c.if1.false
+returns-2 : tie.Need-returns
+returns-2 c = λ clauses literals. stale_refused (tables clauses literals c.args.variables.now c.args.times.now c.args.links.now) c.args.st c.if-st.false
 
-pub unless-stale-spec : {M : Type 1} → statement M
-unless-stale-spec = tie.close (tie.spec failed-fresh-requires same_length returns returns-2)
+pub unless_stale_spec : {M : Type 1} → statement M
+unless_stale_spec = tie.close (tie.spec
+    failed-fresh-requires
+    same_length
+    returns
+    returns-2)

@@ -13,47 +13,47 @@ use Rattle.learn.proofs.keep_left.Statement.{statement}
 use Rattle.learn.proofs.keep_left.Tie as tie
 
 -- in the last arm neither was seen
-not-kept : (c : tie.At-match-keys3) → c.before.before.args.seen ≡ Kept → ⊥
-not-kept c e = ⊎_elim (λ z. omega arith) (⊎_elim (λ z. omega arith) (λ z. omega arith)) (rw e at c.match.keys3)
+not-kept : (c : tie.In_default) → c.args.seen ≡ Kept → ⊥
+not-kept c e = ⊎_elim (λ z. omega arith) (⊎_elim (λ z. omega arith) (λ z. omega arith)) (rw e at c.in_default.keys3)
 
-not_left : (c : tie.At-match-keys3) (n : ℕ) → c.before.before.args.seen ≡ Left n → ⊥
-not_left c n e = ⊎_elim (λ z. omega arith) (⊎_elim (λ z. omega arith) (λ z. omega arith)) (rw e at c.match.keys3)
+not_left : (c : tie.In_default) (n : ℕ) → c.args.seen ≡ Left n → ⊥
+not_left c n e = ⊎_elim (λ z. omega arith) (⊎_elim (λ z. omega arith) (λ z. omega arith)) (rw e at c.in_default.keys3)
 
-enum_told : tie.Need-enum-told
+enum_told : tie.Need-enum_told-1
 enum_told c = search rules
 
-keep-record-requires : tie.Need-keep-record-requires
+keep-record-requires : tie.Need-keep_record-requires
 keep-record-requires c κs = search rules
 
-enum-known-seen : tie.Need-enum-known-seen
+enum-known-seen : tie.Need-enum_known-seen
 enum-known-seen c = search rules
 
-keep-record-requires-2 : tie.Need-keep-record-requires-2
-keep-record-requires-2 c κs = let s = c.before.before.before.before.before.before in (s.requires.0, s.requires.1, omega (arith, s.requires.2, subst FewLeft c.before.before.before.seen.given.1 s.requires.3))
+keep-record-requires-2 : tie.Need-keep_record-requires-in-Left
+keep-record-requires-2 c κs = (c.requires.0, c.requires.1, omega (arith, c.requires.2, subst FewLeft c.in-Left.is c.requires.3))
 
-same_length : tie.Need-same-length
+same_length : tie.Need-shape_of-sizes-in-Kept
 same_length c = search rules
 
-same-length-2 : tie.Need-same-length-2
+same-length-2 : tie.Need-shape_of-learnt-in-Kept
 same-length-2 c = search rules
 
-returns : tie.Need-returns
-returns c = let s = c.before.before.before.before.before.before.before.before.before in λ t f C n e r. learn_kept t s.args.st (places s.args.sizes.now s.args.learnt.now s.args.window) s.args.row.now C f _ (sym c.before.before.before.before.before.before.enum_told.given.1 ∙ e) r (λ D q m. c.before.before.before.keep-record.ensures t D q (n ∙ m) ∙ ap (λ (k : ℕ). kept_with k D t s.args.st (places s.args.sizes.now s.args.learnt.now s.args.window)) n)
+returns : tie.Need-returns-in-Kept
+returns c = λ t f C n e r. learn_kept t c.args.st (places c.args.sizes.now c.args.learnt.now c.args.window) c.args.row.now C f _ (sym c.in-Kept.is ∙ e) r (λ D q m. c.keep_record.ensures t D q (n ∙ m) ∙ ap (λ (k : ℕ). kept_with k D t c.args.st (places c.args.sizes.now c.args.learnt.now c.args.window)) n)
 
-same-length-3 : tie.Need-same-length-3
+same-length-3 : tie.Need-shape_of-sizes-in-Left
 same-length-3 c = search rules
 
-same-length-4 : tie.Need-same-length-4
+same-length-4 : tie.Need-shape_of-learnt-in-Left
 same-length-4 c = search rules
 
-returns-2 : tie.Need-returns-2
-returns-2 c = let s = c.before.before.before.before.before.before.before.before.before.before in λ t f C n e r. learn_left t s.args.st (places s.args.sizes.now s.args.learnt.now s.args.window) s.args.row.now C f _ c.before.before.before.before.before.before.before.seen.given.0.0 (sym c.before.before.before.before.before.before.before.seen.given.1 ∙ e) r (λ D q m. c.before.before.before.keep-record2.ensures t D q m ∙ ap (λ (k : ℕ). kept_with k D t s.args.st (places s.args.sizes.now s.args.learnt.now s.args.window)) n)
+returns-2 : tie.Need-returns-in-Left
+returns-2 c = λ t f C n e r. learn_left t c.args.st (places c.args.sizes.now c.args.learnt.now c.args.window) c.args.row.now C f _ c.in-Left.n (sym c.in-Left.is ∙ e) r (λ D q m. c.keep_record-in-Left.ensures t D q m ∙ ap (λ (k : ℕ). kept_with k D t c.args.st (places c.args.sizes.now c.args.learnt.now c.args.window)) n)
 
-returns-3 : tie.Need-returns-3
-returns-3 c = let s = c.before.before in λ t f C n e r. learn_other t s.args.st (places s.args.sizes.now s.args.learnt.now s.args.window) C f (λ k. not-kept c (e ∙ k)) (λ m k. not_left c m (e ∙ k))
+returns-3 : tie.Need-returns-in_default
+returns-3 c = λ t f C n e r. learn_other t c.args.st (places c.args.sizes.now c.args.learnt.now c.args.window) C f (λ k. not-kept c (e ∙ k)) (λ m k. not_left c m (e ∙ k))
 
-pub keep-left-spec : {M : Type 1} → statement M
-keep-left-spec =
+pub keep_left_spec : {M : Type 1} → statement M
+keep_left_spec =
     tie.close
     (tie.spec
     enum_told

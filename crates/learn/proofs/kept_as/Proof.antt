@@ -3,11 +3,13 @@ use Rattle.learn.proofs.Answering.{kept_whole, kept_short}
 use Rattle.learn.proofs.kept_as.Statement.{statement}
 use Rattle.learn.proofs.kept_as.Tie as tie
 
-returns : tie.Need-returns
-returns c = kept_whole c.before.args.before c.before.args.left c.if1.true
+returns : tie.Need-returns-then-left-before
+returns c = kept_whole c.args.before c.args.left c.if-left-before.true
 
-returns-2 : tie.Need-returns-2
-returns-2 c = kept_short c.before.args.before c.before.args.left c.if1.false
+returns-2 : tie.Need-returns
+returns-2 c = kept_short c.args.before c.args.left c.if-left-before.false
 
-pub kept-as-spec : {M : Type 1} → statement M
-kept-as-spec = tie.close (tie.spec returns returns-2)
+pub kept_as_spec : {M : Type 1} → statement M
+kept_as_spec = tie.close (tie.spec
+    returns
+    returns-2)

@@ -11,32 +11,32 @@ use Rattle.learn.proofs.learn_entered.Tie as tie
 refused-requires : tie.Need-refused-requires
 refused-requires c κs = search rules
 
-returns : tie.Need-returns
-returns c = let s = c.before.before.before.before.before in λ clauses literals. c.refused.ensures (tables clauses literals s.args.variables.now s.args.times.now s.args.links.now) s.args.sizes.now s.args.learnt.now ∙ stale_is s.args.newcomer.now (tables clauses literals s.args.variables.now s.args.times.now s.args.links.now) s.args.st (places s.args.sizes.now s.args.learnt.now s.args.window) (not-true _ c.before.if1.true)
+returns : tie.Need-returns-then-not-st
+returns c = λ clauses literals. c.refused.ensures (tables clauses literals c.args.variables.now c.args.times.now c.args.links.now) c.args.sizes.now c.args.learnt.now ∙ stale_is c.args.newcomer.now (tables clauses literals c.args.variables.now c.args.times.now c.args.links.now) c.args.st (places c.args.sizes.now c.args.learnt.now c.args.window) c.if-not-st.true
 
-newcomer-ok-requires : tie.Need-newcomer-ok-requires
+newcomer-ok-requires : tie.Need-newcomer_ok-requires
 newcomer-ok-requires c κs = search rules
 
-refused-requires-2 : tie.Need-refused-requires-2
+refused-requires-2 : tie.Need-refused-requires-then-not-newcomer_ok
 refused-requires-2 c κs = search rules
 
-returns-2 : tie.Need-returns-2
-returns-2 c = let s = c.before.before.before.before.before.before.before in λ clauses literals. c.refused2.ensures (tables clauses literals s.args.variables.now s.args.times.now s.args.links.now) s.args.sizes.now s.args.learnt.now ∙ forbidden_is s.args.newcomer.now (tables clauses literals s.args.variables.now s.args.times.now s.args.links.now) s.args.st (places s.args.sizes.now s.args.learnt.now s.args.window) (not-false _ c.before.before.before.if1.false) c.before.before.newcomer-ok.ensures (not-true _ c.before.if2.true)
+returns-2 : tie.Need-returns-then-not-newcomer_ok
+returns-2 c = λ clauses literals. c.refused-then-not-newcomer_ok.ensures (tables clauses literals c.args.variables.now c.args.times.now c.args.links.now) c.args.sizes.now c.args.learnt.now ∙ forbidden_is c.args.newcomer.now (tables clauses literals c.args.variables.now c.args.times.now c.args.links.now) c.args.st (places c.args.sizes.now c.args.learnt.now c.args.window) c.if-not-st.false c.newcomer_ok.ensures c.if-not-newcomer_ok.true
 
-learn-judged-requires : tie.Need-learn-judged-requires
-learn-judged-requires c κs = let s = c.before.before.before.before.before.before.before.before in let N = c.before.before.before.newcomer-ok.ensures.holds (not-false _ c.before.before.if2.false) in (can_judge s.args.newcomer.now s.requires.0 (not-false _ c.before.before.before.before.if1.false) N, N.few, s.requires.1)
+learn-judged-requires : tie.Need-learn_judged-requires
+learn-judged-requires c κs = let N = c.newcomer_ok.ensures.holds c.if-not-newcomer_ok.false in (can_judge c.args.newcomer.now c.requires.0 c.if-not-st.false N, N.few, c.requires.1)
 
-same_length : tie.Need-same-length
+same_length : tie.Need-shape_of-sizes
 same_length c = search rules
 
-same-length-2 : tie.Need-same-length-2
+same-length-2 : tie.Need-shape_of-learnt
 same-length-2 c = search rules
 
-returns-3 : tie.Need-returns-3
-returns-3 c = let s = c.before.before.before.before.before.before.before.before.before.before.before.before in λ clauses literals. c.before.before.before.learn-judged.ensures (tables clauses literals s.args.variables.now s.args.times.now s.args.links.now) ∙ judged_is s.args.newcomer.now (tables clauses literals s.args.variables.now s.args.times.now s.args.links.now) s.args.st (places s.args.sizes.now s.args.learnt.now s.args.window) (not-false _ c.before.before.before.before.before.before.before.before.if1.false) c.before.before.before.before.before.before.before.newcomer-ok.ensures (not-false _ c.before.before.before.before.before.before.if2.false)
+returns-3 : tie.Need-returns
+returns-3 c = λ clauses literals. c.learn_judged.ensures (tables clauses literals c.args.variables.now c.args.times.now c.args.links.now) ∙ judged_is c.args.newcomer.now (tables clauses literals c.args.variables.now c.args.times.now c.args.links.now) c.args.st (places c.args.sizes.now c.args.learnt.now c.args.window) c.if-not-st.false c.newcomer_ok.ensures c.if-not-newcomer_ok.false
 
-pub learn-entered-spec : {M : Type 1} → statement M
-learn-entered-spec =
+pub learn_entered_spec : {M : Type 1} → statement M
+learn_entered_spec =
     tie.close
     (tie.spec
     refused-requires

@@ -16,33 +16,30 @@ lent s = places s.args.sizes.now s.args.learnt.now s.args.window
 number-requires : tie.Need-number-requires
 number-requires c κs = search rules
 
-returns : tie.Need-returns
-returns c = λ t. let start = c.before.before.before in window_stays (after start.args.outcome t) (lent start) (subst (λ (n : ℕ). 0 < n) c.before.number.ensures.0 c.if1.true)
+returns : tie.Need-returns-then-number-gt0
+returns c = λ t. window_stays (after c.args.outcome t) (lent c.before.before.before) (subst (λ (n : ℕ). 0 < n) c.number.ensures.0 c.if-number-gt0.true)
 
-clear-words-requires : tie.Need-clear-words-requires
+clear-words-requires : tie.Need-clear_words-requires
 clear-words-requires c κs = search rules
 
-clear-literals-requires : tie.Need-clear-literals-requires
+clear-literals-requires : tie.Need-clear_literals-requires
 clear-literals-requires c κs = search rules
 
 empty-requires : tie.Need-empty-requires
 empty-requires c κs = search rules
 
-same_length : tie.Need-same-length
+same_length : tie.Need-shape_of-sizes
 same_length c = search rules
 
-same-length-2 : tie.Need-same-length-2
+same-length-2 : tie.Need-shape_of-learnt
 same-length-2 c = search rules
 
-returns-2 : tie.Need-returns-2
+returns-2 : tie.Need-returns
 returns-2 c = λ t.
-    let cleared = c.before.before.before.before.before.before in
-    let past = cleared.before.before in
-    let start = past.before.before.before in
-    window_emptied (after start.args.outcome t) (lent start) (sym past.before.number.ensures.0 ∙ omega (arith, past.if1.false)) cleared.clear-words.ensures c.before.before.clear-literals.ensures c.empty.ensures
+    window_emptied (after c.args.outcome t) (lent c.before.before.before.before.before.before.before.before.before.before.before) (sym c.number.ensures.0 ∙ omega (arith, c.if-number-gt0.false)) c.clear_words.ensures c.clear_literals.ensures c.empty.ensures
 
-pub empty-window-spec : {M : Type 1} → statement M
-empty-window-spec =
+pub empty_window_spec : {M : Type 1} → statement M
+empty_window_spec =
     tie.close
     (tie.spec
     number-requires

@@ -16,31 +16,33 @@ by : {joined is : Bool} (left right links : List ℕ) {r : Verdict} {ns : List �
     → Judged (either_verdict joined left right links) (either_clauses joined left right links) r ns
 by left right links {r} {ns} e J = subst (λ (b : Bool). Judged (either_verdict b left right links) (either_clauses b left right links) r ns) (sym e) J
 
-judge-join-requires : tie.Need-judge-join-requires
+judge-join-requires : tie.Need-judge_join-requires
 judge-join-requires c κs = search rules
 
-same_length : tie.Need-same-length
+same_length : tie.Need-shape_of-numbers-then-joined
 same_length c = search rules
 
-returns : tie.Need-returns
+returns : tie.Need-returns-then-joined
 returns c =
-    let at-if1 = c.before.before.before in
-    let start = at-if1.before.before.before.before in
-    let a = start.args in by a.left.now a.right.now a.pairs.now at-if1.if1.true c.before.judge-join.ensures
+    let a = c.args in by a.left.now a.right.now a.pairs.now c.if-joined.true c.judge_join.ensures
 
-judge-text-requires : tie.Need-judge-text-requires
+judge-text-requires : tie.Need-judge_text-requires
 judge-text-requires c κs = search rules
 
-same-length-2 : tie.Need-same-length-2
+same-length-2 : tie.Need-shape_of-numbers
 same-length-2 c = search rules
 
-returns-2 : tie.Need-returns-2
+returns-2 : tie.Need-returns
 returns-2 c =
-    let at-if1 = c.before.before.before in
-    let start = at-if1.before.before.before.before in
-    let a = start.args in by a.left.now a.right.now a.pairs.now at-if1.if1.false c.before.judge-text.ensures
+    let a = c.args in by a.left.now a.right.now a.pairs.now c.if-joined.false c.judge_text.ensures
 
-pub judge-spec : {M : Type 1} → statement M
-judge-spec =
+pub judge_spec : {M : Type 1} → statement M
+judge_spec =
     tie.close
-    (tie.spec judge-join-requires same_length returns judge-text-requires same-length-2 returns-2)
+    (tie.spec
+    judge-join-requires
+    same_length
+    returns
+    judge-text-requires
+    same-length-2
+    returns-2)

@@ -18,57 +18,56 @@ use Rattle.load.proofs.lay_literals.Tie as tie
 abbrev clause : tie.Start → List ℤ
 clause s = first_clause (drop s.args.at s.args.numbers.now)
 
-module _ (c : tie.After-collect) where
+module _ (c : tie.After-collect-end) where
   abbrev s : tie.Start
   s = c.before.before.before
 
   -- the part that is lent on
-  lent : take (c.collect.result - s.args.start) (drop s.args.start c.collect.new.1.1.0) ≡ clause s
-  lent = ap (λ (l : List ℤ). take (c.collect.result - s.args.start) (drop s.args.start l)) c.collect.ensures.1 ∙ part_is (clause s) s.args.literals.now s.args.start c.collect.result c.collect.ensures.0 s.pre.0.room
+  lent : take (c.collect-end.result - s.args.start) (drop s.args.start c.collect-end.new.literals) ≡ clause s
+  lent = ap (λ (l : List ℤ). take (c.collect-end.result - s.args.start) (drop s.args.start l)) c.collect-end.ensures.1 ∙ part_is (clause s) s.args.literals.now s.args.start c.collect-end.result c.collect-end.ensures.0 s.requires.0.room
 
-collect-requires : tie.Need-collect-requires
+collect-requires : tie.Need-collect-end-requires
 collect-requires c κs = search rules
 
-mul-remove-repeats : tie.Need-overflow-mul-remove-repeats
+mul-remove-repeats : tie.Need-offset_bounds-literals-start
 mul-remove-repeats c = search rules
 
-sub-remove-repeats : tie.Need-overflow-sub-remove-repeats
+sub-remove-repeats : tie.Need-slice_bounds-remove_repeats-count
 sub-remove-repeats c = search rules
 
-part-remove-repeats-start : tie.Need-slice-bounds-remove-repeats-start
+part-remove-repeats-start : tie.Need-slice_bounds-remove_repeats-start
 part-remove-repeats-start c = search rules
 
-part-remove-repeats-end : tie.Need-slice-bounds-remove-repeats-end
+part-remove-repeats-end : tie.Need-slice_bounds-remove_repeats-end
 part-remove-repeats-end c = search rules
 
-remove-repeats-requires : tie.Need-remove-repeats-requires
-remove-repeats-requires c κs = let s = c.before.before.before.before.before.before in
-    record {
-      literals = subst (λ (p : List ℤ). (k : ℕ) → k < length p → Literal 1024 (get_or p k (pos 0))) (sym (lent c.before.before.before)) (literal_at 1024 (clause s) s.requires.0.ranged);
-      blank = s.requires.1;
-    }
+remove-repeats-requires : tie.Need-remove_repeats-kept-requires
+remove-repeats-requires c κs = record {
+  literals = subst (λ (p : List ℤ). (k : ℕ) → k < length p → Literal 1024 (get_or p k (pos 0))) (sym (lent c.before.before.before)) (literal_at 1024 (clause c.before.before.before.before.before.before) c.requires.0.ranged);
+  blank = c.requires.1;
+}
 
-sub-t10 : tie.Need-overflow-sub-t10
+sub-t10 : tie.Need-overflow_sub-result
 sub-t10 c = search rules
 
-same_length : tie.Need-same-length
+same_length : tie.Need-shape_of-literals
 same_length c = search rules
 
-same-length-2 : tie.Need-same-length-2
+same-length-2 : tie.Need-shape_of-marks
 same-length-2 c = search rules
 
 returns : tie.Need-returns
-returns c = let s = c.before.before.before.before.before.before.before.before.before.before in let r = c.before.before.before.remove-repeats in let e = lent c.before.before.before.before.before.before.before in
-    let d : r.new.0 ≡ holding (distinct (clause s)) (clause s) = r.ensures.2 ∙ ap (λ (p : List ℤ). holding (distinct p) p) e in (
-      written_is (clause s) s.args.start c.before.before.before.before.before.before.before.collect.ensures.0 (r.ensures.0 ∙ ap (λ (p : List ℤ). length (distinct p)) e) (r.ensures.1 ∙ ap (λ (p : List ℤ). tautology (distinct p)) e) (literal_at 1024 (clause s) s.requires.0.ranged),
+returns c = let r = c.remove_repeats-kept in let e = lent c.before.before.before.before.before.before.before in
+    let d : r.new.part ≡ holding (distinct (clause c.before.before.before.before.before.before.before.before.before.before)) (clause c.before.before.before.before.before.before.before.before.before.before) = r.ensures.2 ∙ ap (λ (p : List ℤ). holding (distinct p) p) e in (
+      written_is (clause c.before.before.before.before.before.before.before.before.before.before) c.args.start c.collect-end.ensures.0 (r.ensures.0 ∙ ap (λ (p : List ℤ). length (distinct p)) e) (r.ensures.1 ∙ ap (λ (p : List ℤ). tautology (distinct p)) e) (literal_at 1024 (clause c.before.before.before.before.before.before.before.before.before.before) c.requires.0.ranged),
       (
-        (λ i. put_mid s.args.start (c.before.before.before.before.before.before.before.collect.result - s.args.start) (c.before.before.before.before.before.before.before.collect.ensures.1 i) (d i)) ∙ part_back (clause s) s.args.literals.now s.args.start c.before.before.before.before.before.before.before.collect.result c.before.before.before.before.before.before.before.collect.ensures.0 s.requires.0.room (holding (distinct (clause s)) (clause s)) (holding_length (clause s)),
+        (λ i. put_mid c.args.start (c.collect-end.result - c.args.start) (c.collect-end.ensures.1 i) (d i)) ∙ part_back (clause c.before.before.before.before.before.before.before.before.before.before) c.args.literals.now c.args.start c.collect-end.result c.collect-end.ensures.0 c.requires.0.room (holding (distinct (clause c.before.before.before.before.before.before.before.before.before.before)) (clause c.before.before.before.before.before.before.before.before.before.before)) (holding_length (clause c.before.before.before.before.before.before.before.before.before.before)),
         r.ensures.3,
       ),
     )
 
-pub lay-literals-spec : {M : Type 1} → statement M
-lay-literals-spec =
+pub lay_literals_spec : {M : Type 1} → statement M
+lay_literals_spec =
     tie.close
     (tie.spec
     collect-requires

@@ -21,60 +21,54 @@ verdict s = let a = s.args in either_verdict a.joined a.left.now a.right.now a.p
 abbrev formula : tie.Start → List (List ℤ)
 formula s = let a = s.args in either_clauses a.joined a.left.now a.right.now a.pairs.now
 
-long-ok-requires : tie.Need-long-ok-requires
+long-ok-requires : tie.Need-long_ok-requires
 long-ok-requires c κs = search rules
 
-same_length : tie.Need-same-length
+same_length : tie.Need-shape_of-clauses-then-not-long_ok
 same_length c = search rules
 
-same-length-2 : tie.Need-same-length-2
+same-length-2 : tie.Need-shape_of-literals-then-not-long_ok
 same-length-2 c = search rules
 
-same-length-3 : tie.Need-same-length-3
+same-length-3 : tie.Need-shape_of-variables-then-not-long_ok
 same-length-3 c = search rules
 
-returns : tie.Need-returns
+returns : tie.Need-returns-then-not-long_ok
 returns c =
-    let s = c.before.before.before.before.before.before.before.before.before.before in
-    formula_short (verdict s) (formula s) (given s) s.args.st c.before.long_ok.ensures (not-true _ c.if1.true)
+    formula_short (verdict c.before.before.before.before.before.before.before) (formula c.before.before.before.before.before.before.before) (given c.before.before.before.before.before.before.before) c.args.st c.long_ok.ensures c.if-not-long_ok.true
 
-slice-aggregate-judge : tie.Need-slice-aggregate-judge
+slice-aggregate-judge : tie.Need-slice_bounds-judge-end
 slice-aggregate-judge c = search rules
 
-judge-requires : tie.Need-judge-requires
+judge-requires : tie.Need-judge-verdict-requires
 judge-requires c κs = search rules
 
-slice-aggregate-lay-judged : tie.Need-slice-aggregate-lay-judged
+slice-aggregate-lay-judged : tie.Need-slice_bounds-lay_judged-end
 slice-aggregate-lay-judged c = search rules
 
-lay-judged-requires : tie.Need-lay-judged-requires
+lay-judged-requires : tie.Need-lay_judged-requires
 lay-judged-requires c κs =
-    let past = c.before.before.before.before.before.before.before in
-    let s = past.before.before.before.before.before.before.before.before.before.before in
-    let a = s.args in
-    let rooms = long_rooms (given s) past.before.long_ok.ensures (not-false _ past.if1.false) in
-    (judged_layable c.before.before.before.before.before.judge.ensures (either_within a.joined a.left.now a.right.now a.pairs.now) _ _ rooms.0 rooms.1.0, rooms.1.1)
+    let a = c.args in
+    let rooms = long_rooms (given c.before.before.before.before.before.before.before.before.before.before.before.before.before.before) c.long_ok.ensures c.if-not-long_ok.false in
+    (judged_layable c.judge-verdict.ensures (either_within a.joined a.left.now a.right.now a.pairs.now) _ _ rooms.0 rooms.1.0, rooms.1.1)
 
-same-length-4 : tie.Need-same-length-4
+same-length-4 : tie.Need-shape_of-clauses
 same-length-4 c = search rules
 
-same-length-5 : tie.Need-same-length-5
+same-length-5 : tie.Need-shape_of-literals
 same-length-5 c = search rules
 
-same-length-6 : tie.Need-same-length-6
+same-length-6 : tie.Need-shape_of-variables
 same-length-6 c = search rules
 
-returns-2 : tie.Need-returns-2
+returns-2 : tie.Need-returns
 returns-2 c =
-    let judged = c.before.before.before.before.before.before.before.before.before.before in
-    let past = judged.before.before in
-    let s = past.before.before.before.before.before.before.before.before.before.before in
-    c.before.before.before.before.lay-judged.ensures s.args.times.now s.args.links.now
-    ∙ judged_loads judged.judge.ensures (given s) s.args.st
-    ∙ formula_long (verdict s) (formula s) (given s) s.args.st past.before.long_ok.ensures (not-false _ past.if1.false)
+    c.lay_judged.ensures c.args.times.now c.args.links.now
+    ∙ judged_loads c.judge-verdict.ensures (given c.before.before.before.before.before.before.before.before.before.before.before.before.before.before.before.before.before.before.before) c.args.st
+    ∙ formula_long (verdict c.before.before.before.before.before.before.before.before.before.before.before.before.before.before.before.before.before.before.before) (formula c.before.before.before.before.before.before.before.before.before.before.before.before.before.before.before.before.before.before.before) (given c.before.before.before.before.before.before.before.before.before.before.before.before.before.before.before.before.before.before.before) c.args.st c.long_ok.ensures c.if-not-long_ok.false
 
-pub load-formula-spec : {M : Type 1} → statement M
-load-formula-spec =
+pub load_formula_spec : {M : Type 1} → statement M
+load_formula_spec =
     tie.close
     (tie.spec
     long-ok-requires

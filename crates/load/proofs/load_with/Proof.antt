@@ -23,53 +23,48 @@ made s =
     let a = s.args in
     load_formula (either_verdict a.joined a.left.now a.right.now a.pairs.now) (either_clauses a.joined a.left.now a.right.now a.pairs.now) (given s) a.st
 
-long-ok-requires : tie.Need-long-ok-requires
+long-ok-requires : tie.Need-long_ok-requires
 long-ok-requires c κs = search rules
 
-same_length : tie.Need-same-length
+same_length : tie.Need-shape_of-sizes-then-not-long_ok
 same_length c = search rules
 
-same-length-2 : tie.Need-same-length-2
+same-length-2 : tie.Need-shape_of-learnt-then-not-long_ok
 same-length-2 c = search rules
 
-returns : tie.Need-returns
+returns : tie.Need-returns-then-not-long_ok
 returns c =
-    let s = c.before.before.before.before.before.before.before.before.before.before in
-    window_short (made s) (given s) s.args.st (lent s) (c.before.long_ok.ensures s.args.window) (not-true _ c.if1.true)
+    window_short (made c.before.before.before.before.before.before.before.before) (given c.before.before.before.before.before.before.before.before) c.args.st (lent c.before.before.before.before.before.before.before.before) (c.long_ok.ensures c.args.window) c.if-not-long_ok.true
 
-load-formula-requires : tie.Need-load-formula-requires
+load-formula-requires : tie.Need-load_formula-outcome-requires
 load-formula-requires c κs = search rules
 
-empty-window-requires : tie.Need-empty-window-requires
+empty-window-requires : tie.Need-empty_window-requires
 empty-window-requires c κs =
-    let past = c.before.before.before.before.before.before.before.before.before.before in
-    (past.before.long_ok.ensures past.before.before.before.before.before.before.before.before.before.before.args.window).holds (not-false _ past.if1.false)
+    (c.long_ok.ensures c.args.window).holds c.if-not-long_ok.false
 
-same-length-3 : tie.Need-same-length-3
+same-length-3 : tie.Need-shape_of-clauses
 same-length-3 c = search rules
 
-same-length-4 : tie.Need-same-length-4
+same-length-4 : tie.Need-shape_of-literals
 same-length-4 c = search rules
 
-same-length-5 : tie.Need-same-length-5
+same-length-5 : tie.Need-shape_of-variables
 same-length-5 c = search rules
 
-same-length-6 : tie.Need-same-length-6
+same-length-6 : tie.Need-shape_of-sizes
 same-length-6 c = search rules
 
-same-length-7 : tie.Need-same-length-7
+same-length-7 : tie.Need-shape_of-learnt
 same-length-7 c = search rules
 
-returns-2 : tie.Need-returns-2
+returns-2 : tie.Need-returns
 returns-2 c =
-    let called = c.before.before.before.before.before.before.before.before.before.before in
-    let past = called.before.before.before.before in
-    let s = past.before.before.before.before.before.before.before.before.before.before in
-    c.before.before.before.empty-window.ensures _
-    ∙ window_long (made s) (given s) s.args.st (lent s) (past.before.long_ok.ensures s.args.window) (not-false _ past.if1.false) called.load-formula.ensures
+    c.empty_window.ensures _
+    ∙ window_long (made c.before.before.before.before.before.before.before.before.before.before.before.before.before.before.before.before.before.before.before.before.before.before) (given c.before.before.before.before.before.before.before.before.before.before.before.before.before.before.before.before.before.before.before.before.before.before) c.args.st (lent c.before.before.before.before.before.before.before.before.before.before.before.before.before.before.before.before.before.before.before.before.before.before) (c.long_ok.ensures c.args.window) c.if-not-long_ok.false c.load_formula-outcome.ensures
 
-pub load-with-spec : {M : Type 1} → statement M
-load-with-spec =
+pub load_with_spec : {M : Type 1} → statement M
+load_with_spec =
     tie.close
     (tie.spec
     long-ok-requires

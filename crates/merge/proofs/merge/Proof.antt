@@ -1,71 +1,67 @@
 -- `merge::merge` meets its contract: the call is its definition. Assumes nothing.
 use mathlib.Core.Path.{sym, ◌∙◌}
-use Rattle.tables.specs.Tables.{Tables, tables}
+use Rattle.tables.specs.Tables.{tables}
 use Rattle.merge.proofs.Calling.{call_refused, call_opens, call_resumes, opens_formed, resumes_resumable}
 use borrow.Author.Rules.{rules}
 use Rattle.merge.proofs.merge.Statement.{statement}
 use Rattle.merge.proofs.merge.Tie as tie
 
--- the tables as they are lent
-abbrev lent : tie.Start → Tables
-lent s = tables s.args.clauses.now s.args.literals.now s.args.variables.now s.args.times.now s.args.links.now
-
-entry-of-requires : tie.Need-entry-of-requires
+entry-of-requires : tie.Need-entry_of-entry-requires
 entry-of-requires c κs = search rules
 
-enum-known-entry : tie.Need-enum-known-entry
+enum-known-entry : tie.Need-enum_known-entry
 enum-known-entry c = search rules
 
-enum_told : tie.Need-enum-told
+enum_told : tie.Need-enum_told-1
 enum_told c = search rules
 
-merge-settled-requires : tie.Need-merge-settled-requires
-merge-settled-requires c κs = let s = c.before.before.before.before.before.before.before.before.before.before.before in opens_formed s.args.n (lent s) s.args.st (sym c.before.before.before.before.before.entry_of.ensures ∙ c.before.before.before.enum_told.given.1)
+merge-settled-requires : tie.Need-merge_settled-requires
+merge-settled-requires c κs = opens_formed c.args.n (tables c.args.clauses.now c.args.literals.now c.args.variables.now c.args.times.now c.args.links.now) c.args.st (sym c.entry_of-entry.ensures ∙ c.in-Opens.is)
 
-enum-known-entry-2 : tie.Need-enum-known-entry-2
+enum-known-entry-2 : tie.Need-enum_known-entry-in-Resumes-1
 enum-known-entry-2 c = search rules
 
-merge-from-requires : tie.Need-merge-from-requires
-merge-from-requires c κs = let s = c.before.before.before.before.before.before.before.before.before.before.before.before in let e = c.before.before.before.before.entry2.given in resumes_resumable (lent s) s.args.st e.0.0 e.0.1.0 (sym c.before.before.before.before.before.before.entry_of.ensures ∙ e.1)
+merge-from-requires : tie.Need-merge_from-requires
+merge-from-requires c κs = resumes_resumable (tables c.args.clauses.now c.args.literals.now c.args.variables.now c.args.times.now c.args.links.now) c.args.st c.in-Resumes.k c.in-Resumes.field-1 (sym c.entry_of-entry.ensures ∙ c.in-Resumes.is)
 
-same_length : tie.Need-same-length
+same_length : tie.Need-shape_of-clauses-in-No
 same_length c = search rules
 
-same-length-2 : tie.Need-same-length-2
+same-length-2 : tie.Need-shape_of-literals-in-No
 same-length-2 c = search rules
 
-same-length-3 : tie.Need-same-length-3
+same-length-3 : tie.Need-shape_of-variables-in-No
 same-length-3 c = search rules
 
-returns : tie.Need-returns
-returns c = let s = c.before.before.before.before.before.before.before.before.before in call_refused s.args.n (lent s) s.args.st c.before.entry.given.0.0 (sym c.before.before.before.entry_of.ensures ∙ c.before.entry.given.1)
+returns : tie.Need-returns-in-No
+returns c = call_refused c.args.n (tables c.args.clauses.now c.args.literals.now c.args.variables.now c.args.times.now c.args.links.now) c.args.st c.in-No.r (sym c.entry_of-entry.ensures ∙ c.in-No.is)
 
-same-length-4 : tie.Need-same-length-4
+same-length-4 : tie.Need-shape_of-clauses-in-Opens
 same-length-4 c = search rules
 
-same-length-5 : tie.Need-same-length-5
+same-length-5 : tie.Need-shape_of-literals-in-Opens
 same-length-5 c = search rules
 
-same-length-6 : tie.Need-same-length-6
+same-length-6 : tie.Need-shape_of-variables-in-Opens
 same-length-6 c = search rules
 
-returns-2 : tie.Need-returns-2
-returns-2 c = let s = c.before.before.before.before.before.before.before.before.before.before.before.before.before.before.before.before in c.before.before.before.before.merge-settled.ensures s.args.times.now s.args.links.now ∙ call_opens s.args.n (lent s) s.args.st (sym c.before.before.before.before.before.before.before.before.before.before.entry_of.ensures ∙ c.before.before.before.before.before.before.before.before.enum_told.given.1)
+returns-2 : tie.Need-returns-in-Opens
+returns-2 c = c.merge_settled.ensures c.args.times.now c.args.links.now ∙ call_opens c.args.n (tables c.args.clauses.now c.args.literals.now c.args.variables.now c.args.times.now c.args.links.now) c.args.st (sym c.entry_of-entry.ensures ∙ c.in-Opens.is)
 
-same-length-7 : tie.Need-same-length-7
+same-length-7 : tie.Need-shape_of-clauses-in-Resumes
 same-length-7 c = search rules
 
-same-length-8 : tie.Need-same-length-8
+same-length-8 : tie.Need-shape_of-literals-in-Resumes
 same-length-8 c = search rules
 
-same-length-9 : tie.Need-same-length-9
+same-length-9 : tie.Need-shape_of-variables-in-Resumes
 same-length-9 c = search rules
 
-returns-3 : tie.Need-returns-3
-returns-3 c = let s = c.before.before.before.before.before.before.before.before.before.before.before.before.before.before.before.before in let e = c.before.before.before.before.before.before.before.before.entry2.given in c.before.before.before.merge-from.ensures s.args.times.now s.args.links.now ∙ call_resumes s.args.n (lent s) s.args.st e.0.0 e.0.1.0 (sym c.before.before.before.before.before.before.before.before.before.before.entry_of.ensures ∙ e.1)
+returns-3 : tie.Need-returns-in-Resumes
+returns-3 c = c.merge_from.ensures c.args.times.now c.args.links.now ∙ call_resumes c.args.n (tables c.args.clauses.now c.args.literals.now c.args.variables.now c.args.times.now c.args.links.now) c.args.st c.in-Resumes.k c.in-Resumes.field-1 (sym c.entry_of-entry.ensures ∙ c.in-Resumes.is)
 
-pub merge-spec : {M : Type 1} → statement M
-merge-spec =
+pub merge_spec : {M : Type 1} → statement M
+merge_spec =
     tie.close
     (tie.spec
     entry-of-requires

@@ -17,49 +17,49 @@ use Rattle.merge.proofs.regroup_by.Tie as tie
 -- once the representatives are found
 module _ (c : tie.After-representatives) where
   abbrev rep' : List ℕ
-  rep' = c.representatives.new.1.1.1.1.0
+  rep' = c.representatives.new.rep
 
   abbrev adj : ℕ → List ℕ
-  adj = implications (slots_from c.before.before.before.before.args.clauses.now c.before.before.before.before.args.literals.now c.before.before.before.before.args.n 0)
+  adj = implications (slots_from c.args.clauses.now c.args.literals.now c.args.n 0)
 
-  long : length rep' ≡ 2 * c.before.before.before.before.args.v
-  long = c.representatives.auto.1.1.1.1.0 ∙ c.before.before.before.before.requires.1
+  long : length rep' ≡ 2 * c.args.v
+  long = c.representatives.auto.rep ∙ c.requires.1
 
-  same-clash : clash rep' ≡ clashes adj c.before.before.before.before.args.v
-  same-clash = clash_is c.before.before.before.before.requires.0 rep' long c.representatives.ensures
+  same-clash : clash rep' ≡ clashes adj c.args.v
+  same-clash = clash_is c.requires.0 rep' long c.representatives.ensures
 
-  fit : Regroups c.before.before.before.before.args.v rep' c.before.before.before.before.args.variables.now
-  fit = regroups c.before.before.before.before.requires.0 rep' long c.representatives.ensures
+  fit : Regroups c.args.v rep' c.args.variables.now
+  fit = regroups c.requires.0 rep' long c.representatives.ensures
 
-  same-classes : regrouped (through rep') c.before.before.before.before.args.v c.before.before.before.before.args.variables.now ≡ regrouped (representative adj c.before.before.before.before.args.v) c.before.before.before.before.args.v c.before.before.before.before.args.variables.now
-  same-classes = classes_are c.before.before.before.before.requires.0 rep' long c.representatives.ensures
+  same-classes : regrouped (through rep') c.args.v c.args.variables.now ≡ regrouped (representative adj c.args.v) c.args.v c.args.variables.now
+  same-classes = classes_are c.requires.0 rep' long c.representatives.ensures
 
 representatives-requires : tie.Need-representatives-requires
-representatives-requires c κs = (formed_listed c.before.before.before.requires.0, c.before.before.before.requires.1)
+representatives-requires c κs = (formed_listed c.requires.0, c.requires.1)
 
-has-clash-requires : tie.Need-has-clash-requires
+has-clash-requires : tie.Need-has_clash-requires
 has-clash-requires c κs = search rules
 
-same_length : tie.Need-same-length
+same_length : tie.Need-shape_of-rep-then-has_clash
 same_length c = search rules
 
-returns : tie.Need-returns
-returns c = (sym c.if1.true ∙ c.before.has-clash.ensures ∙ same-clash c.before.before.before.before.before, refl)
+returns : tie.Need-returns-then-has_clash
+returns c = (sym c.if-has_clash.true ∙ c.has_clash.ensures ∙ same-clash c.before.before.before.before, refl)
 
 regroup-requires : tie.Need-regroup-requires
-regroup-requires c κs = fit c.before.before.before.before.before.before.before
+regroup-requires c κs = fit c.before.before.before.before.before
 
-same-length-2 : tie.Need-same-length-2
+same-length-2 : tie.Need-shape_of-variables
 same-length-2 c = search rules
 
-same-length-3 : tie.Need-same-length-3
+same-length-3 : tie.Need-shape_of-rep
 same-length-3 c = search rules
 
-returns-2 : tie.Need-returns-2
-returns-2 c = (sym c.before.before.before.before.if1.false ∙ c.before.before.before.before.before.has-clash.ensures ∙ same-clash c.before.before.before.before.before.before.before.before.before, c.before.regroup.ensures ∙ same-classes c.before.before.before.before.before.before.before.before.before)
+returns-2 : tie.Need-returns
+returns-2 c = (sym c.if-has_clash.false ∙ c.has_clash.ensures ∙ same-clash c.before.before.before.before.before.before.before, c.regroup.ensures ∙ same-classes c.before.before.before.before.before.before.before)
 
-pub regroup-by-spec : {M : Type 1} → statement M
-regroup-by-spec =
+pub regroup_by_spec : {M : Type 1} → statement M
+regroup_by_spec =
     tie.close
     (tie.spec
     representatives-requires

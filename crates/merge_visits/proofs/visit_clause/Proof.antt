@@ -10,66 +10,61 @@ use Rattle.merge_visits.proofs.visit_clause.Statement.{statement}
 use Rattle.merge_visits.proofs.visit_clause.Tie as tie
 
 -- the clause's part, as it is lent
-bounds : (c : tie.After-part-end) → Bounds c.before.before.before.before.before.before.before.before.before.args.k c.before.before.before.before.before.before.before.before.before.args.clauses.now c.before.before.part-start.result c.part-end.result
-bounds c = record { starts = c.before.before.part-start.ensures; ends = c.part-end.ensures }
+bounds : (c : tie.After-part_end-end) → Bounds c.args.k c.args.clauses.now c.part_start-start.result c.part_end-end.result
+bounds c = record { starts = c.part_start-start.ensures; ends = c.part_end-end.ensures }
 
-flag-of-requires : tie.Need-flag-of-requires
-flag-of-requires c κs = visitable_placed c.before.before.before.requires.0
+flag-of-requires : tie.Need-flag_of-flag-requires
+flag-of-requires c κs = visitable_placed c.requires.0
 
-same_length : tie.Need-same-length
+same_length : tie.Need-shape_of-clauses-then-flag-eq0
 same_length c = search rules
 
-returns : tie.Need-returns
-returns c = let s = c.before.before.before.before.before in
-    (λ times links. visit_none (merge_clause s.args.variables.now) s.args.k (tables s.args.clauses.now s.args.literals.now s.args.variables.now times links) (sym c.before.flag-of.ensures ∙ c.if1.true), s.requires.1)
+returns : tie.Need-returns-then-flag-eq0
+returns c = (λ times links. visit_none (merge_clause c.args.variables.now) c.args.k (tables c.args.clauses.now c.args.literals.now c.args.variables.now times links) (sym c.flag_of-flag.ensures ∙ c.if-flag-eq0.true), c.requires.1)
 
-part-start-requires : tie.Need-part-start-requires
-part-start-requires c κs = visitable_placed c.before.before.before.before.before.before.requires.0
+part-start-requires : tie.Need-part_start-start-requires
+part-start-requires c κs = visitable_placed c.requires.0
 
-part-end-requires : tie.Need-part-end-requires
-part-end-requires c κs = visitable_placed c.before.before.before.before.before.before.before.before.requires.0
+part-end-requires : tie.Need-part_end-end-requires
+part-end-requires c κs = visitable_placed c.requires.0
 
-mul-visit-part : tie.Need-overflow-mul-visit-part
-mul-visit-part c = omega (arith, (visitable_placed c.before.before.before.before.before.before.before.before.before.requires.0).within, (bounds c).starts)
+mul-visit-part : tie.Need-offset_bounds-literals-start
+mul-visit-part c = omega (arith, (visitable_placed c.requires.0).within, (bounds c).starts)
 
-sub-visit-part : tie.Need-overflow-sub-visit-part
+sub-visit-part : tie.Need-slice_bounds-visit_part-count
 sub-visit-part c = search rules
 
-part-visit-part-start : tie.Need-slice-bounds-visit-part-start
+part-visit-part-start : tie.Need-slice_bounds-visit_part-start
 part-visit-part-start c = search rules
 
-part-visit-part-end : tie.Need-slice-bounds-visit-part-end
-part-visit-part-end c = let h = lent_inside c.before.before.before.before.before.before.before.before.before.requires.0 (bounds c) in search rules
+part-visit-part-end : tie.Need-slice_bounds-visit_part-end
+part-visit-part-end c = let h = lent_inside c.requires.0 (bounds c) in search rules
 
-visit-part-requires : tie.Need-visit-part-requires
-visit-part-requires c κs = let e = c.before.before in let s = e.before.before.before.before.before.before.before.before.before in
-    (lent_known s.requires.0 (bounds e), lent_short s.requires.0 (bounds e), s.requires.1)
+visit-part-requires : tie.Need-visit_part-seen-requires
+visit-part-requires c κs = (lent_known c.requires.0 (bounds c.before.before), lent_short c.requires.0 (bounds c.before.before), c.requires.1)
 
-put-record-requires : tie.Need-put-record-requires
+put-record-requires : tie.Need-put_record-requires
 put-record-requires c κs = search rules
 
-same-length-2 : tie.Need-same-length-2
+same-length-2 : tie.Need-shape_of-clauses
 same-length-2 c = search rules
 
-same-length-3 : tie.Need-same-length-3
+same-length-3 : tie.Need-shape_of-literals
 same-length-3 c = search rules
 
-same-length-4 : tie.Need-same-length-4
+same-length-4 : tie.Need-shape_of-marks
 same-length-4 c = search rules
 
-returns-2 : tie.Need-returns-2
-returns-2 c = let p = c.before.before.before.before.before.before.before in
-    let e = p.before.before.before in
-    let s = e.before.before.before.before.before.before.before.before.before in
-    let w = s.args.variables.now in
-    let r = c.before.before.put_record in (
-      visit_is (bounds e) s.args.literals.now w (visitable_inside s.requires.0) (merge_clause w) (λ q. e.before.before.before.before.if1.false (e.before.before.before.before.before.flag-of.ensures ∙ q)) p.visit-part.result r.new.0 p.visit-part.new.0 w
-          p.visit-part.ensures.0 (shrinks_variables w (merge_shrinks w _)) r.ensures,
-      p.visit-part.ensures.1,
+returns-2 : tie.Need-returns
+returns-2 c = let w = c.args.variables.now in
+    let r = c.put_record in (
+      visit_is (bounds c.before.before.before.before.before.before.before.before.before.before) c.args.literals.now w (visitable_inside c.requires.0) (merge_clause w) (λ q. c.if-flag-eq0.false (c.flag_of-flag.ensures ∙ q)) c.visit_part-seen.result r.new.clauses c.visit_part-seen.new.part w
+          c.visit_part-seen.ensures.0 (shrinks_variables w (merge_shrinks w _)) r.ensures,
+      c.visit_part-seen.ensures.1,
     )
 
-pub visit-clause-spec : {M : Type 1} → statement M
-visit-clause-spec =
+pub visit_clause_spec : {M : Type 1} → statement M
+visit_clause_spec =
     tie.close
     (tie.spec
     flag-of-requires

@@ -8,46 +8,45 @@ use Rattle.merge_visits.proofs.visit_part.Statement.{statement}
 use Rattle.merge_visits.proofs.visit_part.Tie as tie
 
 -- what is left of the part when repeats are out, and the marks
-module _ (c : tie.After-remove-repeats) where
-  reduced : Reduced c.before.before.before.before.before.before.before.args.variables.now c.before.before.before.before.before.before.before.args.part.now c.remove-repeats.new.0 c.remove-repeats.result.count c.remove-repeats.result.both
-  reduced = record { classes = c.before.before.before.before.substitute.new.0; substitutes = c.before.before.before.before.substitute.ensures; count = c.remove-repeats.ensures.0; both = c.remove-repeats.ensures.1; held = c.remove-repeats.ensures.2 }
+module _ (c : tie.After-remove_repeats-kept) where
+  reduced : Reduced c.args.variables.now c.args.part.now c.remove_repeats-kept.new.part c.remove_repeats-kept.result.count c.remove_repeats-kept.result.both
+  reduced = record { classes = c.substitute.new.part; substitutes = c.substitute.ensures; count = c.remove_repeats-kept.ensures.0; both = c.remove_repeats-kept.ensures.1; held = c.remove_repeats-kept.ensures.2 }
 
-  marks-blank : c.remove-repeats.new.1.0 ≡ no_marks
-  marks-blank = c.remove-repeats.ensures.3 ∙ c.before.before.before.before.before.before.before.requires.2
+  marks-blank : c.remove_repeats-kept.new.marks ≡ no_marks
+  marks-blank = c.remove_repeats-kept.ensures.3 ∙ c.requires.2
 
 substitute-requires : tie.Need-substitute-requires
 substitute-requires c κs = search rules
 
-remove-repeats-requires : tie.Need-remove-repeats-requires
-remove-repeats-requires c κs = let s = c.before.before.before.before.before.before in part_markable s.args.variables.now s.args.part.now s.requires.0 s.requires.2 c.before.before.before.substitute.ensures
+remove-repeats-requires : tie.Need-remove_repeats-kept-requires
+remove-repeats-requires c κs = part_markable c.args.variables.now c.args.part.now c.requires.0 c.requires.2 c.substitute.ensures
 
-zero-from-requires : tie.Need-zero-from-requires
+zero-from-requires : tie.Need-zero_from-requires
 zero-from-requires c κs = search rules
 
-same_length : tie.Need-same-length
+same_length : tie.Need-shape_of-part-then-kept
 same_length c = search rules
 
-same-length-2 : tie.Need-same-length-2
+same-length-2 : tie.Need-shape_of-marks-then-kept
 same-length-2 c = search rules
 
-returns : tie.Need-returns
-returns c = let r = c.before.before.before.before.before.before.before in
-    (part_dropped (reduced r) c.before.zero-from.new.0 c.before.before.before.if1.true c.before.zero-from.ensures, marks-blank r)
+returns : tie.Need-returns-then-kept
+returns c = (part_dropped (reduced c.before.before.before.before.before.before.before) c.zero_from.new.part c.if-kept.true c.zero_from.ensures, marks-blank c.before.before.before.before.before.before.before)
 
-cast-t16 : tie.Need-overflow-cast-t16
-cast-t16 c = let r = c.before.before.before.before.before in let k = part_count (reduced r) r.before.before.before.before.before.before.before.requires.1 in omega arith
+cast-t16 : tie.Need-overflow_cast-result
+cast-t16 c = let k = part_count (reduced c.before.before.before.before.before) c.requires.1 in omega arith
 
-same-length-3 : tie.Need-same-length-3
+same-length-3 : tie.Need-shape_of-part
 same-length-3 c = search rules
 
-same-length-4 : tie.Need-same-length-4
+same-length-4 : tie.Need-shape_of-marks
 same-length-4 c = search rules
 
-returns-2 : tie.Need-returns-2
-returns-2 c = let r = c.before.before.before.before.before in (part_left (reduced r) c.before.if1.false, marks-blank r)
+returns-2 : tie.Need-returns
+returns-2 c = (part_left (reduced c.before.before.before.before.before) c.if-kept.false, marks-blank c.before.before.before.before.before)
 
-pub visit-part-spec : {M : Type 1} → statement M
-visit-part-spec =
+pub visit_part_spec : {M : Type 1} → statement M
+visit_part_spec =
     tie.close
     (tie.spec
     substitute-requires

@@ -11,48 +11,47 @@ use borrow.Author.Rules.{rules}
 use Rattle.merge_visits.proofs.visit_some.Statement.{statement}
 use Rattle.merge_visits.proofs.visit_some.Tie as tie
 
-abbrev invariant-loop : tie.invariant-loop
+abbrev invariant-loop : tie.invariant-loop-i
 invariant-loop clauses₀ literals₀ variables k end marks₀ i₀ clauses literals marks i = Passing i₀ end i variables clauses₀ literals₀ clauses literals × (marks ≡ no_marks)
 
-abbrev decreases-loop : tie.decreases-loop
+abbrev decreases-loop : tie.decreases-loop-i
 decreases-loop clauses₀ literals₀ variables k end marks₀ i₀ clauses literals marks i = end - i
 
-loop-holds : tie.Need-loop-init invariant-loop decreases-loop
-loop-holds c = (passing_none c.before.requires, refl)
+loop-holds : tie.Need-loop-i-init invariant-loop decreases-loop
+loop-holds c = (passing_none c.requires, refl)
 
-slice-aggregate-visit-clause : tie.Need-slice-aggregate-visit-clause invariant-loop decreases-loop
+slice-aggregate-visit-clause : tie.Need-slice_bounds-visit_clause-end invariant-loop decreases-loop
 slice-aggregate-visit-clause c = search rules
 
-cast-visit-clause : tie.Need-overflow-cast-visit-clause invariant-loop decreases-loop
+cast-visit-clause : tie.Need-overflow_cast-i invariant-loop decreases-loop
 cast-visit-clause c = search rules
 
-visit-clause-requires : tie.Need-visit-clause-requires invariant-loop decreases-loop
-visit-clause-requires c κs = let at = c.before.before.before.before.loop in (passing_one at.invariant.0 c.before.before.before.loop-test.true, at.invariant.1)
+visit-clause-requires : tie.Need-visit_clause-requires invariant-loop decreases-loop
+visit-clause-requires c κs = let at = c.loop-i in (passing_one at.invariant.0 c.loop-i-test.true, at.invariant.1)
 
-add-i : tie.Need-overflow-add-i invariant-loop decreases-loop
+add-i : tie.Need-overflow_add-i invariant-loop decreases-loop
 add-i c = omega arith
 
-loop-less : tie.Need-loop-smaller invariant-loop decreases-loop
+loop-less : tie.Need-loop-i-smaller invariant-loop decreases-loop
 loop-less c = omega arith
 
-loop-again : tie.Need-loop-preserved invariant-loop decreases-loop
-loop-again c = let v = c.before.before.before.before.visit-clause in
-    let t = c.before.before.before.before.before.before.before.before in
-    let at = t.before.loop in
-    let w = t.before.before.before.args.variables.now in
-    (passing_next at.invariant.0 t.loop-test.true v.new.0 v.new.1.0 (λ times links. visit_tables (merge_clause w) at.i (tables at.clauses at.literals w times links) (v.ensures.0 times links)) v.auto.0 v.auto.1.0, v.ensures.1)
+loop-again : tie.Need-loop-i-preserved invariant-loop decreases-loop
+loop-again c = let v = c.visit_clause in
+    let at = c.loop-i in
+    let w = c.args.variables.now in
+    (passing_next at.invariant.0 c.loop-i-test.true v.new.clauses v.new.literals (λ times links. visit_tables (merge_clause w) at.i (tables at.clauses at.literals w times links) (v.ensures.0 times links)) v.auto.clauses v.auto.literals, v.ensures.1)
 
-same_length : tie.Need-same-length invariant-loop decreases-loop
-same_length c = c.before.loop.invariant.0.sizes.0
+same_length : tie.Need-shape_of-clauses invariant-loop decreases-loop
+same_length c = c.loop-i.invariant.0.sizes.0
 
-same-length-2 : tie.Need-same-length-2 invariant-loop decreases-loop
-same-length-2 c = c.before.loop.invariant.0.sizes.1
+same-length-2 : tie.Need-shape_of-literals invariant-loop decreases-loop
+same-length-2 c = c.loop-i.invariant.0.sizes.1
 
 returns : tie.Need-returns invariant-loop decreases-loop
-returns c = passing_done c.before.loop.invariant.0 c.loop-test.false
+returns c = passing_done c.loop-i.invariant.0 c.loop-i-test.false
 
-pub visit-some-spec : {M : Type 1} → statement M
-visit-some-spec =
+pub visit_some_spec : {M : Type 1} → statement M
+visit_some_spec =
     tie.close
     (tie.spec
     invariant-loop

@@ -19,32 +19,32 @@ spread-requires c κs = search rules
 answer-requires : tie.Need-answer-requires
 answer-requires c κs = search rules
 
-same_length : tie.Need-same-length
+same_length : tie.Need-shape_of-variables-then-n-eq0
 same_length c = search rules
 
-returns : tie.Need-returns
-returns c = λ times links. let a = c.before.before.before.before.before.before.args in let t = tables a.clauses.now a.literals.now a.variables.now times links in
-    ap (λ (x : List ℤ). after c.answer.result (tables a.clauses.now a.literals.now x times links)) c.before.before.spread.ensures
-    ∙ ap (spread_behind a.st.v) (c.answer.ensures t) ∙ none_replied a.steps a.st t c.before.before.before.before.if1.true
+returns : tie.Need-returns-then-n-eq0
+returns c = λ times links. let a = c.args in let t = tables a.clauses.now a.literals.now a.variables.now times links in
+    ap (λ (x : List ℤ). after c.answer.result (tables a.clauses.now a.literals.now x times links)) c.spread.ensures
+    ∙ ap (spread_behind a.st.v) (c.answer.ensures t) ∙ none_replied a.steps a.st t c.if-n-eq0.true
 
-propagate-from-requires : tie.Need-propagate-from-requires
+propagate-from-requires : tie.Need-propagate_from-requires
 propagate-from-requires c κs = search rules
 
-same-length-2 : tie.Need-same-length-2
+same-length-2 : tie.Need-shape_of-clauses
 same-length-2 c = search rules
 
-same-length-3 : tie.Need-same-length-3
+same-length-3 : tie.Need-shape_of-literals
 same-length-3 c = search rules
 
-same-length-4 : tie.Need-same-length-4
+same-length-4 : tie.Need-shape_of-variables
 same-length-4 c = search rules
 
-returns-2 : tie.Need-returns-2
-returns-2 c = λ times links. let a = c.before.before.before.before.before.before.before.before.before.before.args in let t = tables a.clauses.now a.literals.now a.variables.now times links in
-    c.before.before.before.before.propagate-from.ensures times links ∙ ap (λ (p : Progress). propagate_from false a.steps p t a.st) (begin_some a.st.n t c.before.before.before.before.before.before.before.before.if1.false)
+returns-2 : tie.Need-returns
+returns-2 c = λ times links. let a = c.args in let t = tables a.clauses.now a.literals.now a.variables.now times links in
+    c.propagate_from.ensures times links ∙ ap (λ (p : Progress). propagate_from false a.steps p t a.st) (begin_some a.st.n t c.if-n-eq0.false)
 
-pub open-pass-spec : {M : Type 1} → statement M
-open-pass-spec =
+pub open_pass_spec : {M : Type 1} → statement M
+open_pass_spec =
     tie.close
     (tie.spec
     spread-requires

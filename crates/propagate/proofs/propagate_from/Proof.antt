@@ -11,52 +11,52 @@ use borrow.Author.Rules.{rules}
 use Rattle.propagate.proofs.propagate_from.Statement.{statement}
 use Rattle.propagate.proofs.propagate_from.Tie as tie
 
-cast-count-standing : tie.Need-overflow-cast-count-standing
+cast-count-standing : tie.Need-overflow_cast-n
 cast-count-standing c = search rules
 
-count-standing-requires : tie.Need-count-standing-requires
-count-standing-requires c κs = formed_counted c.before.before.requires.0
+count-standing-requires : tie.Need-count_standing-before-requires
+count-standing-requires c κs = formed_counted c.requires.0
 
-visit-some-requires : tie.Need-visit-some-requires
-visit-some-requires c κs = record { vars = c.before.before.before.before.before.before.args.st.v; formed = c.before.before.before.before.before.before.requires.0; below = c.before.before.before.before.before.before.requires.1 }
+visit-some-requires : tie.Need-visit_some-reach-requires
+visit-some-requires c κs = record { vars = c.args.st.v; formed = c.requires.0; below = c.requires.1 }
 
 spread-requires : tie.Need-spread-requires
-spread-requires c κs = let s = c.before.before.before.before.before.before.before.before.before.before.before.before in let a = s.args in let v = c.before.before.before.before.before.visit-some in
-    reach_rows a.st.v a.st.n a.steps a.cursor a.flag a.clauses.now a.literals.now a.variables.now v.result v.new.0 v.new.1.0 v.new.1.1.0 s.requires.0 s.requires.1 v.ensures
+spread-requires c κs = let a = c.args in let v = c.visit_some-reach in
+    reach_rows a.st.v a.st.n a.steps a.cursor a.flag a.clauses.now a.literals.now a.variables.now v.result v.new.clauses v.new.literals v.new.variables c.requires.0 c.requires.1 v.ensures
 
-cast-count-standing-2 : tie.Need-overflow-cast-count-standing-2
+cast-count-standing-2 : tie.Need-overflow_cast-n-2
 cast-count-standing-2 c = search rules
 
-count-standing-requires-2 : tie.Need-count-standing-requires-2
-count-standing-requires-2 c κs = let s = c.before.before.before.before.before.before.before.before.before.before.before.before.before.before.before in let a = s.args in let v = c.before.before.before.before.before.before.before.before.visit-some in
-    reach_counted a.st.v a.st.n a.steps a.cursor a.flag a.clauses.now a.literals.now a.variables.now v.result v.new.0 v.new.1.0 v.new.1.1.0 s.requires.0 s.requires.1 v.ensures
+count-standing-requires-2 : tie.Need-count_standing-left-requires
+count-standing-requires-2 c κs = let a = c.args in let v = c.visit_some-reach in
+    reach_counted a.st.v a.st.n a.steps a.cursor a.flag a.clauses.now a.literals.now a.variables.now v.result v.new.clauses v.new.literals v.new.variables c.requires.0 c.requires.1 v.ensures
 
-counts-of-requires : tie.Need-counts-of-requires
+counts-of-requires : tie.Need-counts_of-counts-requires
 counts-of-requires c κs = search rules
 
 answer-requires : tie.Need-answer-requires
 answer-requires c κs = search rules
 
-same_length : tie.Need-same-length
+same_length : tie.Need-shape_of-clauses
 same_length c = search rules
 
-same-length-2 : tie.Need-same-length-2
+same-length-2 : tie.Need-shape_of-literals
 same-length-2 c = search rules
 
-same-length-3 : tie.Need-same-length-3
+same-length-3 : tie.Need-shape_of-variables
 same-length-3 c = search rules
 
 returns : tie.Need-returns
-returns c = λ times links. let a = c.before.before.before.before.before.before.before.before.before.before.before.before.before.before.before.before.before.before.args in let v = c.before.before.before.before.before.before.before.before.before.before.before.visit-some in
+returns c = λ times links. let a = c.args in let v = c.visit_some-reach in
     let t = tables a.clauses.now a.literals.now a.variables.now times links in
-    let t' = tables v.new.0 v.new.1.0 v.new.1.1.0 times links in
-    ap (λ (x : List ℤ). after c.answer.result (tables v.new.0 v.new.1.0 x times links)) c.before.before.before.before.before.spread.ensures
-    ∙ replied_is a.fresh a.steps a.st v.result (going a.cursor a.flag t) t t' (v.ensures times links) c.before.Counts-of.result
-    (counts_are a.st.n v.result.visits a.clauses.now v.new.0 c.before.before.before.before.before.before.before.before.before.before.before.before.before.before.before.count-standing.result c.before.before.count-standing2.result c.before.Counts-of.result c.before.before.before.before.before.before.before.before.before.before.before.before.before.before.before.count-standing.ensures c.before.before.count-standing2.ensures c.before.Counts-of.ensures)
+    let t' = tables v.new.clauses v.new.literals v.new.variables times links in
+    ap (λ (x : List ℤ). after c.answer.result (tables v.new.clauses v.new.literals x times links)) c.spread.ensures
+    ∙ replied_is a.fresh a.steps a.st v.result (going a.cursor a.flag t) t t' (v.ensures times links) c.counts_of-counts.result
+    (counts_are a.st.n v.result.visits a.clauses.now v.new.clauses c.count_standing-before.result c.count_standing-left.result c.counts_of-counts.result c.count_standing-before.ensures c.count_standing-left.ensures c.counts_of-counts.ensures)
     (after c.answer.result t') (c.answer.ensures t')
 
-pub propagate-from-spec : {M : Type 1} → statement M
-propagate-from-spec =
+pub propagate_from_spec : {M : Type 1} → statement M
+propagate_from_spec =
     tie.close
     (tie.spec
     cast-count-standing

@@ -13,62 +13,62 @@ use Rattle.propagate.proofs.skip_or_visit.Tie as tie
 abbrev empty : Tables
 empty = tables [] [] [] [] []
 
-next-pending-requires : tie.Need-next-pending-requires
+next-pending-requires : tie.Need-next_pending-j-requires
 next-pending-requires c κs = search rules
 
-cast-skip : tie.Need-overflow-cast-skip
+cast-skip : tie.Need-overflow_cast-j
 cast-skip c = search rules
 
 skip-requires : tie.Need-skip-requires
 skip-requires c κs = search rules
 
-same_length : tie.Need-same-length
+same_length : tie.Need-shape_of-pending-then-at-j
 same_length c = search rules
 
-same-length-2 : tie.Need-same-length-2
+same-length-2 : tie.Need-shape_of-blocks-then-at-j
 same-length-2 c = search rules
 
-returns : tie.Need-returns
-returns c = (advanced_skip c.before.before.before.before.before.before.before.before.before.before.before.before.args.changed c.before.before.before.before.before.before.before.before.before.before.before.before.requires.0 c.before.before.before.before.before.before.before.before.before.before.before.before.requires.1.0 c.before.before.before.before.next-pending.result c.before.before.before.before.next-pending.ensures.0.1.1 c.skip.result c.skip.ensures.0 c.skip.ensures.1, λ d. relisted c.before.before.before.before.before.before.before.before.before.before.before.before.requires.1.0 c.before.before.before.before.next-pending.new.1.0 c.before.before.before.before.next-pending.auto.1.0 c.before.before.before.before.next-pending.ensures.1)
+returns : tie.Need-returns-then-at-j
+returns c = (advanced_skip c.args.changed c.requires.0 c.requires.1.0 c.next_pending-j.result c.next_pending-j.ensures.0.1.1 c.skip.result c.skip.ensures.0 c.skip.ensures.1, λ d. relisted c.requires.1.0 c.next_pending-j.new.blocks c.next_pending-j.auto.blocks c.next_pending-j.ensures.1)
 
-mul-size : tie.Need-overflow-mul-size
+mul-size : tie.Need-overflow_mul-size
 mul-size c = search rules
 
-add-size : tie.Need-overflow-add-size
+add-size : tie.Need-overflow_add-size
 add-size c = search rules
 
-mul-size-2 : tie.Need-overflow-mul-size-2
+mul-size-2 : tie.Need-offset_bounds-clauses-at
 mul-size-2 c = search rules
 
-slice-read-size : tie.Need-slice-read-size
+slice-read-size : tie.Need-bounds-clauses-at
 slice-read-size c = search rules
 
-visit-pending-requires : tie.Need-visit-pending-requires
-visit-pending-requires c κs = (c.before.before.before.before.before.before.before.before.before.before.before.before.before.before.before.before.before.requires.0, relisted c.before.before.before.before.before.before.before.before.before.before.before.before.before.before.before.before.before.requires.1.0 c.before.before.before.before.before.before.before.before.before.next-pending.new.1.0 c.before.before.before.before.before.before.before.before.before.next-pending.auto.1.0 c.before.before.before.before.before.before.before.before.before.next-pending.ensures.1)
+visit-pending-requires : tie.Need-visit_pending-seen-requires
+visit-pending-requires c κs = (c.requires.0, relisted c.requires.1.0 c.next_pending-j.new.blocks c.next_pending-j.auto.blocks c.next_pending-j.ensures.1)
 
-stand-after-requires : tie.Need-stand-after-requires
+stand-after-requires : tie.Need-stand_after-stand-requires
 stand-after-requires c κs = search rules
 
-same-length-3 : tie.Need-same-length-3
+same-length-3 : tie.Need-shape_of-clauses
 same-length-3 c = search rules
 
-same-length-4 : tie.Need-same-length-4
+same-length-4 : tie.Need-shape_of-literals
 same-length-4 c = search rules
 
-same-length-5 : tie.Need-same-length-5
+same-length-5 : tie.Need-shape_of-variables
 same-length-5 c = search rules
 
-same-length-6 : tie.Need-same-length-6
+same-length-6 : tie.Need-shape_of-pending
 same-length-6 c = search rules
 
-same-length-7 : tie.Need-same-length-7
+same-length-7 : tie.Need-shape_of-blocks
 same-length-7 c = search rules
 
-returns-2 : tie.Need-returns-2
-returns-2 c = (advanced_visit c.before.before.before.before.before.before.before.before.before.before.before.before.before.before.before.before.before.before.before.before.before.before.before.before.before.before.before.args.changed c.before.before.before.before.before.before.before.before.before.before.before.before.before.before.before.before.before.before.before.before.before.before.before.before.before.before.before.requires.0 c.before.before.before.before.before.before.before.before.before.before.before.before.before.before.before.before.before.before.before.before.before.before.before.before.before.before.before.requires.1.1 c.stand-after.result c.before.before.before.before.before.before.before.before.before.visit-pending.result c.before.before.before.before.before.before.before.before.before.visit-pending.new.0 c.before.before.before.before.before.before.before.before.before.visit-pending.new.1.0 c.before.before.before.before.before.before.before.before.before.visit-pending.new.1.1.0 c.before.before.before.before.before.before.before.before.before.visit-pending.ensures.0 c.stand-after.ensures, λ d. c.before.before.before.before.before.before.before.before.before.visit-pending.ensures.1 (λ z. d (contradicted_stand c.stand-after.result empty (c.stand-after.ensures empty ∙ ap (λ (y : Visited). stand_after c.before.before.before.before.before.before.before.before.before.before.before.before.before.before.before.before.before.before.before.before.before.before.before.before.before.before.before.args.n c.before.before.before.before.before.before.before.before.before.before.before.before.before.before.before.before.before.before.before.before.before.before.before.before.before.before.before.args.k c.before.before.before.before.before.before.before.before.before.before.before.before.before.before.before.before.before.before.before.before.before.before.before.before.before.before.before.args.changed (length_of c.before.before.before.before.before.before.before.before.before.before.before.before.before.before.before.before.before.before.before.before.before.before.before.before.before.before.before.args.clauses.now c.before.before.before.before.before.before.before.before.before.before.before.before.before.before.before.before.before.before.before.before.before.before.before.before.before.before.before.args.k) y empty) z))))
+returns-2 : tie.Need-returns
+returns-2 c = (advanced_visit c.args.changed c.requires.0 c.requires.1.1 c.stand_after-stand.result c.visit_pending-seen.result c.visit_pending-seen.new.clauses c.visit_pending-seen.new.literals c.visit_pending-seen.new.variables c.visit_pending-seen.ensures.0 c.stand_after-stand.ensures, λ d. c.visit_pending-seen.ensures.1 (λ z. d (contradicted_stand c.stand_after-stand.result empty (c.stand_after-stand.ensures empty ∙ ap (λ (y : Visited). stand_after c.args.n c.args.k c.args.changed (length_of c.args.clauses.now c.args.k) y empty) z))))
 
-pub skip-or-visit-spec : {M : Type 1} → statement M
-skip-or-visit-spec =
+pub skip_or_visit_spec : {M : Type 1} → statement M
+skip_or_visit_spec =
     tie.close
     (tie.spec
     next-pending-requires

@@ -4,14 +4,17 @@ use Rattle.propagate_visits.proofs.Stepping.{onward_more, onward_again, onward_e
 use Rattle.propagate_visits.proofs.onward.Statement.{statement}
 use Rattle.propagate_visits.proofs.onward.Tie as tie
 
-returns : tie.Need-returns
-returns c = onward_more c.before.args.n c.before.args.k c.before.args.changed c.if1.true
+returns : tie.Need-returns-then-k-n
+returns c = onward_more c.args.n c.args.k c.args.changed c.if-k-n.true
 
-returns-2 : tie.Need-returns-2
-returns-2 c = onward_again c.before.before.args.n c.before.before.args.k c.before.before.args.changed c.before.if1.false c.if2.true
+returns-2 : tie.Need-returns-then-changed
+returns-2 c = onward_again c.args.n c.args.k c.args.changed c.if-k-n.false c.if-changed.true
 
-returns-3 : tie.Need-returns-3
-returns-3 c = onward_ends c.before.before.args.n c.before.before.args.k c.before.before.args.changed c.before.if1.false c.if2.false
+returns-3 : tie.Need-returns
+returns-3 c = onward_ends c.args.n c.args.k c.args.changed c.if-k-n.false c.if-changed.false
 
-pub onward-spec : {M : Type 1} → statement M
-onward-spec = tie.close (tie.spec returns returns-2 returns-3)
+pub onward_spec : {M : Type 1} → statement M
+onward_spec = tie.close (tie.spec
+    returns
+    returns-2
+    returns-3)

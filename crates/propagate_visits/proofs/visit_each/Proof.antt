@@ -2,7 +2,6 @@
 use Prim.Native.Nat.{◌-◌}
 use native.Mathlib.Omega.{arith}
 use mathlib.Core.Path.{◌≡◌, refl, ◌∙◌}
-use mathlib.Core.Logic.{⊎_elim}
 use Rattle.propagate_visits.specs.Steps.{Advanced}
 use Rattle.propagate_visits.specs.declared.Stand.{Stand}
 use Rattle.propagate_visits.specs.declared.Stand.TheVariants.{Going, Settled, Contradicted}
@@ -13,66 +12,66 @@ use borrow.Author.Rules.{rules}
 use Rattle.propagate_visits.proofs.visit_each.Statement.{statement}
 use Rattle.propagate_visits.proofs.visit_each.Tie as tie
 
-abbrev invariant-loop : tie.invariant-loop
+abbrev invariant-loop : tie.invariant-loop-visits
 invariant-loop clauses₀ literals₀ variables₀ n steps cursor flag visits₀ k₀ changed₀ clauses literals variables visits k changed = Making n steps visits k changed k₀ changed₀ clauses₀ literals₀ variables₀ clauses literals variables
 
-abbrev decreases-loop : tie.decreases-loop
+abbrev decreases-loop : tie.decreases-loop-visits
 decreases-loop clauses₀ literals₀ variables₀ n steps cursor flag visits₀ k₀ changed₀ clauses literals variables visits k changed = steps - visits
 
 -- the step is one visit
-one : (c : tie.After-step invariant-loop decreases-loop) → Advanced c.before.before.before.before.before.before.before.args.n (c.before.before.before.before.before.before.before.args.steps - c.before.before.before.before.before.loop.visits) c.before.before.before.before.before.loop.k c.before.before.before.before.before.loop.changed (record { visits = 1; stand = c.step.result }) c.before.before.before.before.before.loop.clauses c.before.before.before.before.before.loop.literals c.before.before.before.before.before.loop.variables c.step.new.0 c.step.new.1.0 c.step.new.1.1.0
-one c = advanced_one c.before.before.before.before.before.loop.changed c.before.before.before.before.before.loop.invariant.stands (omega (arith, c.before.before.before.before.loop-test.true)) c.step.result c.step.new.0 c.step.new.1.0 c.step.new.1.1.0 c.step.ensures
+one : (c : tie.After-step-stand invariant-loop decreases-loop) → Advanced c.args.n (c.args.steps - c.loop-visits.visits) c.loop-visits.k c.loop-visits.changed (record { visits = 1; stand = c.step-stand.result }) c.loop-visits.clauses c.loop-visits.literals c.loop-visits.variables c.step-stand.new.clauses c.step-stand.new.literals c.step-stand.new.variables
+one c = advanced_one c.loop-visits.changed c.loop-visits.invariant.stands (omega (arith, c.loop-visits-test.true)) c.step-stand.result c.step-stand.new.clauses c.step-stand.new.literals c.step-stand.new.variables c.step-stand.ensures
 
 -- a pass that does not go on has ended
-ended : (c : tie.At-match-keys2 invariant-loop decreases-loop) (s : Stand) → c.before.before.before.before.before.step.result ≡ s → Ended s
-ended c (Going k b) e = ⊎_elim (λ z. omega arith) (λ z. omega arith) (rw e at c.match.keys2)
+ended : (c : tie.In_default invariant-loop decreases-loop) (s : Stand) → c.step-stand.result ≡ s → Ended s
+ended c (Going k b) e = absurd (c.in_default.not-Going k b e)
 ended c Settled e = tt
 ended c Contradicted e = tt
 
-loop-holds : tie.Need-loop-init invariant-loop decreases-loop
-loop-holds c = making_none c.before.requires c.before.args.steps c.before.args.flag
+loop-holds : tie.Need-loop-visits-init invariant-loop decreases-loop
+loop-holds c = making_none c.requires c.args.steps c.args.flag
 
-step-requires : tie.Need-step-requires invariant-loop decreases-loop
-step-requires c κs = c.before.before.before.before.loop.invariant.stands
+step-requires : tie.Need-step-stand-requires invariant-loop decreases-loop
+step-requires c κs = c.loop-visits.invariant.stands
 
-add-visits : tie.Need-overflow-add-visits invariant-loop decreases-loop
+add-visits : tie.Need-overflow_add-visits invariant-loop decreases-loop
 add-visits c = search rules
 
-enum-known-stand : tie.Need-enum-known-stand invariant-loop decreases-loop
+enum-known-stand : tie.Need-enum_known-stand invariant-loop decreases-loop
 enum-known-stand c = search rules
 
-same_length : tie.Need-same-length invariant-loop decreases-loop
-same_length c = c.before.before.before.before.before.step.auto.0 ∙ c.before.before.before.before.before.before.before.before.before.before.loop.invariant.sizes.0
+same_length : tie.Need-shape_of-clauses-in_default invariant-loop decreases-loop
+same_length c = c.step-stand.auto.clauses ∙ c.loop-visits.invariant.sizes.0
 
-same-length-2 : tie.Need-same-length-2 invariant-loop decreases-loop
-same-length-2 c = c.before.before.before.before.before.step.auto.1.0 ∙ c.before.before.before.before.before.before.before.before.before.before.loop.invariant.sizes.1.0
+same-length-2 : tie.Need-shape_of-literals-in_default invariant-loop decreases-loop
+same-length-2 c = c.step-stand.auto.literals ∙ c.loop-visits.invariant.sizes.1.0
 
-same-length-3 : tie.Need-same-length-3 invariant-loop decreases-loop
-same-length-3 c = c.before.before.before.before.before.step.auto.1.1.0 ∙ c.before.before.before.before.before.before.before.before.before.before.loop.invariant.sizes.1.1
+same-length-3 : tie.Need-shape_of-variables-in_default invariant-loop decreases-loop
+same-length-3 c = c.step-stand.auto.variables ∙ c.loop-visits.invariant.sizes.1.1
 
-returns : tie.Need-returns invariant-loop decreases-loop
-returns c = let s = c.before.before.before.before.before.step in advanced_ends c.before.before.before.before.before.before.before.before.before.before.loop.invariant c.before.before.before.before.before.before.before.before.before.loop-test.true (record { visits = 1; stand = s.result }) s.new.0 s.new.1.0 s.new.1.1.0 (one c.before.before.before.before.before) s.result refl (ended c s.result refl)
+returns : tie.Need-returns-in_default invariant-loop decreases-loop
+returns c = let s = c.step-stand in advanced_ends c.loop-visits.invariant c.loop-visits-test.true (record { visits = 1; stand = s.result }) s.new.clauses s.new.literals s.new.variables (one c.before.before.before.before.before) s.result refl (ended c s.result refl)
 
-loop-less : tie.Need-loop-smaller invariant-loop decreases-loop
+loop-less : tie.Need-loop-visits-smaller invariant-loop decreases-loop
 loop-less c = omega arith
 
-loop-again : tie.Need-loop-preserved invariant-loop decreases-loop
-loop-again c = let s = c.before.before.before.before.before.before.before.step in advanced_goes c.before.before.before.before.before.before.before.before.before.before.before.before.loop.invariant c.before.before.before.before.before.before.before.before.before.before.before.loop-test.true (record { visits = 1; stand = s.result }) s.new.0 s.new.1.0 s.new.1.1.0 (one c.before.before.before.before.before.before.before) c.before.stand.given.0.0 c.before.stand.given.0.1.0 c.before.stand.given.1 s.auto.0 s.auto.1.0 s.auto.1.1.0
+loop-again : tie.Need-loop-visits-preserved invariant-loop decreases-loop
+loop-again c = let s = c.step-stand in advanced_goes c.loop-visits.invariant c.loop-visits-test.true (record { visits = 1; stand = s.result }) s.new.clauses s.new.literals s.new.variables (one c.before.before.before.before.before) c.in-Going.next c.in-Going.still c.in-Going.is s.auto.clauses s.auto.literals s.auto.variables
 
-same-length-4 : tie.Need-same-length-4 invariant-loop decreases-loop
-same-length-4 c = c.before.loop.invariant.sizes.0
+same-length-4 : tie.Need-shape_of-clauses invariant-loop decreases-loop
+same-length-4 c = c.loop-visits.invariant.sizes.0
 
-same-length-5 : tie.Need-same-length-5 invariant-loop decreases-loop
-same-length-5 c = c.before.loop.invariant.sizes.1.0
+same-length-5 : tie.Need-shape_of-literals invariant-loop decreases-loop
+same-length-5 c = c.loop-visits.invariant.sizes.1.0
 
-same-length-6 : tie.Need-same-length-6 invariant-loop decreases-loop
-same-length-6 c = c.before.loop.invariant.sizes.1.1
+same-length-6 : tie.Need-shape_of-variables invariant-loop decreases-loop
+same-length-6 c = c.loop-visits.invariant.sizes.1.1
 
-returns-2 : tie.Need-returns-2 invariant-loop decreases-loop
-returns-2 c = making_done c.before.loop.invariant c.loop-test.false
+returns-2 : tie.Need-returns invariant-loop decreases-loop
+returns-2 c = making_done c.loop-visits.invariant c.loop-visits-test.false
 
-pub visit-each-spec : {M : Type 1} → statement M
-visit-each-spec =
+pub visit_each_spec : {M : Type 1} → statement M
+visit_each_spec =
     tie.close
     (tie.spec
     invariant-loop

@@ -11,78 +11,78 @@ use Rattle.propagate_visits.proofs.visit_part.Statement.{statement}
 use Rattle.propagate_visits.proofs.visit_part.Tie as tie
 
 -- no literal is true, and what is not false is left
-removed : (c : tie.After-remove-false) → Removed c.before.before.before.before.before.before.before.args.variables.now c.before.before.before.before.before.before.before.args.part.now c.remove-false.new.0 c.remove-false.result
-removed c = record { untrue = sym c.before.before.before.before.any-true.ensures ∙ c.before.before.before.if1.false; count = c.remove-false.ensures.0; held = c.remove-false.ensures.1 }
+removed : (c : tie.After-remove_false-n) → Removed c.args.variables.now c.args.part.now c.remove_false-n.new.part c.remove_false-n.result
+removed c = record { untrue = sym c.any_true.ensures ∙ c.if-any_true.false; count = c.remove_false-n.ensures.0; held = c.remove_false-n.ensures.1 }
 
 -- the part has a place for the one literal that is left
-room : (c : tie.Then3) → 0 < length c.before.before.before.remove-false.new.0
-room c = part_room (removed c.before.before.before) c.if3.true
+room : (c : tie.Then-n-eq1) → 0 < length c.remove_false-n.new.part
+room c = part_room (removed c.before.before.before) c.if-n-eq1.true
 
-any-true-requires : tie.Need-any-true-requires
+any-true-requires : tie.Need-any_true-requires
 any-true-requires c κs = search rules
 
-zero-from-requires : tie.Need-zero-from-requires
+zero-from-requires : tie.Need-zero_from-requires
 zero-from-requires c κs = search rules
 
-same_length : tie.Need-same-length
+same_length : tie.Need-shape_of-part-then-any_true
 same_length c = search rules
 
-same-length-2 : tie.Need-same-length-2
+same-length-2 : tie.Need-shape_of-variables-then-any_true
 same-length-2 c = search rules
 
-returns : tie.Need-returns
-returns c = let a = c.before.before.before.before.before.before.before.args in part_dropped a.variables.now a.part.now c.before.zero-from.new.0 (sym c.before.before.before.before.any-true.ensures ∙ c.before.before.before.if1.true) c.before.zero-from.ensures
+returns : tie.Need-returns-then-any_true
+returns c = let a = c.args in part_dropped a.variables.now a.part.now c.zero_from.new.part (sym c.any_true.ensures ∙ c.if-any_true.true) c.zero_from.ensures
 
-remove-false-requires : tie.Need-remove-false-requires
+remove-false-requires : tie.Need-remove_false-n-requires
 remove-false-requires c κs = search rules
 
-same-length-3 : tie.Need-same-length-3
+same-length-3 : tie.Need-shape_of-part-then-n-eq0
 same-length-3 c = search rules
 
-same-length-4 : tie.Need-same-length-4
+same-length-4 : tie.Need-shape_of-variables-then-n-eq0
 same-length-4 c = search rules
 
-returns-2 : tie.Need-returns-2
-returns-2 c = part_conflict (removed c.before.before) c.if2.true
+returns-2 : tie.Need-returns-then-n-eq0
+returns-2 c = part_conflict (removed c.before.before) c.if-n-eq0.true
 
-slice-copy-out-l : tie.Need-slice-copy-out-l
+slice-copy-out-l : tie.Need-slice_copy_out-l
 slice-copy-out-l c = room c
 
-set-true-requires : tie.Need-set-true-requires
-set-true-requires c κs = rw (read c.before.before.before.before.before.remove-false.new.0 0 c.before.l.given) (unit_known (removed c.before.before.before.before.before) c.before.before.if3.true c.before.before.before.before.before.before.before.before.before.before.before.before.requires.0)
+set-true-requires : tie.Need-set_true-requires
+set-true-requires c κs = rw (read c.remove_false-n.new.part 0 c.l-1.given) (unit_known (removed c.before.before.before.before.before) c.if-n-eq1.true c.requires.0)
 
-slice-set-of-part : tie.Need-slice-set-of-part
+slice-set-of-part : tie.Need-slice_set_of-part
 slice-set-of-part c = room c.before.before.before.before
 
-var-of-requires : tie.Need-var-of-requires
-var-of-requires c κs = rw (read c.before.before.before.before.before.before.before.remove-false.new.0 0 c.before.before.before.l.given) (known_small (unit_known (removed c.before.before.before.before.before.before.before) c.before.before.before.before.if3.true c.before.before.before.before.before.before.before.before.before.before.before.before.before.before.requires.0))
+var-of-requires : tie.Need-var_of-requires
+var-of-requires c κs = rw (read c.remove_false-n.new.part 0 c.l-1.given) (known_small (unit_known (removed c.before.before.before.before.before.before.before) c.if-n-eq1.true c.requires.0))
 
-cast-t25 : tie.Need-overflow-cast-t25
-cast-t25 c = let k = known_small (unit_known (removed c.before.before.before.before.before.before.before.before) c.before.before.before.before.before.if3.true c.before.before.before.before.before.before.before.before.before.before.before.before.before.before.before.requires.0) in omega (arith, k.small, rw (read c.before.before.before.before.before.before.before.before.remove-false.new.0 0 c.before.before.before.before.l.given) at c.var-of.ensures)
+cast-t25 : tie.Need-overflow_cast-result
+cast-t25 c = let k = known_small (unit_known (removed c.before.before.before.before.before.before.before.before) c.if-n-eq1.true c.requires.0) in omega (arith, k.small, rw (read c.remove_false-n.new.part 0 c.l-1.given) at c.var_of.ensures)
 
-same-length-5 : tie.Need-same-length-5
+same-length-5 : tie.Need-shape_of-part-then-n-eq1
 same-length-5 c = search rules
 
-same-length-6 : tie.Need-same-length-6
+same-length-6 : tie.Need-shape_of-variables-then-n-eq1
 same-length-6 c = search rules
 
-returns-3 : tie.Need-returns-3
-returns-3 c = let e = read c.before.before.before.before.before.before.before.before.remove-false.new.0 0 c.before.before.before.before.l.given in part_unit (removed c.before.before.before.before.before.before.before.before) c.before.before.set-true.new.0 c.before.before.before.before.before.if3.true (rw e at c.before.before.set-true.ensures) c.var-of.result (rw e at c.var-of.ensures)
+returns-3 : tie.Need-returns-then-n-eq1
+returns-3 c = let e = read c.remove_false-n.new.part 0 c.l-1.given in part_unit (removed c.before.before.before.before.before.before.before.before) c.set_true.new.variables c.if-n-eq1.true (rw e at c.set_true.ensures) c.var_of.result (rw e at c.var_of.ensures)
 
-cast-t26 : tie.Need-overflow-cast-t26
-cast-t26 c = let k = part_count (removed c.before.before.before) c.before.before.before.before.before.before.before.before.before.before.requires.1 in omega arith
+cast-t26 : tie.Need-overflow_cast-result-2
+cast-t26 c = let k = part_count (removed c.before.before.before) c.requires.1 in omega arith
 
-same-length-7 : tie.Need-same-length-7
+same-length-7 : tie.Need-shape_of-part
 same-length-7 c = search rules
 
-same-length-8 : tie.Need-same-length-8
+same-length-8 : tie.Need-shape_of-variables
 same-length-8 c = search rules
 
-returns-4 : tie.Need-returns-4
-returns-4 c = part_left (removed c.before.before.before) c.before.if2.false c.if3.false
+returns-4 : tie.Need-returns
+returns-4 c = part_left (removed c.before.before.before) c.if-n-eq0.false c.if-n-eq1.false
 
-pub visit-part-spec : {M : Type 1} → statement M
-visit-part-spec =
+pub visit_part_spec : {M : Type 1} → statement M
+visit_part_spec =
     tie.close
     (tie.spec
     any-true-requires

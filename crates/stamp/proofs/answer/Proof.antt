@@ -6,14 +6,17 @@ use borrow.Author.Rules.{rules}
 use Rattle.stamp.proofs.answer.Statement.{statement}
 use Rattle.stamp.proofs.answer.Tie as tie
 
-returns : tie.Need-returns
-returns c = sym (ap (λ (b : Bool). answer_of b c.before.args.st) c.if1.true)
+returns : tie.Need-returns-then-cyclic
+returns c = sym (ap (λ (b : Bool). answer_of b c.args.st) c.if-cyclic.true)
 
 closed-requires : tie.Need-closed-requires
 closed-requires c κs = search rules
 
-returns-2 : tie.Need-returns-2
-returns-2 c = rw c.closed.ensures (sym (ap (λ (b : Bool). answer_of b c.before.before.args.st) c.before.if1.false))
+returns-2 : tie.Need-returns
+returns-2 c = rw c.closed.ensures (sym (ap (λ (b : Bool). answer_of b c.args.st) c.if-cyclic.false))
 
-pub answer-spec : {M : Type 1} → statement M
-answer-spec = tie.close (tie.spec returns closed-requires returns-2)
+pub answer_spec : {M : Type 1} → statement M
+answer_spec = tie.close (tie.spec
+    returns
+    closed-requires
+    returns-2)

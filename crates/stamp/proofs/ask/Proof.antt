@@ -15,26 +15,26 @@ use Rattle.stamp.proofs.ask_ordered.Reads as ask-ordered-reads
 abbrev lent : tie.Start → Tables
 lent s = tables s.args.clauses.now s.args.literals.now s.args.variables.now s.args.times.now s.args.links.now
 
-may-open-requires : tie.Need-may-open-requires
+may-open-requires : tie.Need-may_open-opening-requires
 may-open-requires c κs = search rules
 
-enum-known-opening : tie.Need-enum-known-opening
+enum-known-opening : tie.Need-enum_known-opening
 enum-known-opening c = search rules
 
-enum_told : tie.Need-enum-told
+enum_told : tie.Need-enum_told-1
 enum_told c = search rules
 
-ask-ordered-requires : tie.Need-ask-ordered-requires
-ask-ordered-requires c κs = let s = c.before.before.before.before.before in granted_formed (lent s) s.args.st (sym c.before.before.may-open.ensures ∙ c.enum_told.given.1)
+ask-ordered-requires : tie.Need-ask_ordered-requires
+ask-ordered-requires c κs = granted_formed (lent c.before.before.before.before) c.args.st (sym c.may_open-opening.ensures ∙ c.in-Granted.is)
 
-returns : tie.Need-returns
-returns c = let s = c.before.before.before.before.before.before in ask_by_lem s.args.order.now (lent s) s.args.st (Denied c.before.opening.given.0.0) (sym c.before.before.before.may-open.ensures ∙ c.before.opening.given.1)
+returns : tie.Need-returns-in-Denied
+returns c = ask_by_lem c.args.order.now (lent c.before.before.before.before) c.args.st (Denied c.in-Denied.r) (sym c.may_open-opening.ensures ∙ c.in-Denied.is)
 
-returns-2 : tie.Need-returns-2
-returns-2 c = let s = c.before.before.before.before.before.before in c.ask-ordered.ensures s.args.times.now s.args.links.now ∙ ask_by_lem s.args.order.now (lent s) s.args.st Granted (sym c.before.before.before.may-open.ensures ∙ c.before.enum_told.given.1)
+returns-2 : tie.Need-returns-in-Granted
+returns-2 c = c.ask_ordered.ensures c.args.times.now c.args.links.now ∙ ask_by_lem c.args.order.now (lent c.before.before.before.before.before) c.args.st Granted (sym c.may_open-opening.ensures ∙ c.in-Granted.is)
 
-pub ask-spec : {M : Type 1} → statement M
-ask-spec =
+pub ask_spec : {M : Type 1} → statement M
+ask_spec =
     tie.close
     (tie.spec
     may-open-requires

@@ -10,38 +10,38 @@ use Rattle.stamp.proofs.stamp.Tie as tie
 abbrev lent : tie.Start → Tables
 lent s = tables s.args.clauses.now s.args.literals.now s.args.variables.now s.args.times.now s.args.links.now
 
-ask-requires : tie.Need-ask-requires
+ask-requires : tie.Need-ask-ruling-requires
 ask-requires c κs = search rules
 
-enum-known-ruling : tie.Need-enum-known-ruling
+enum-known-ruling : tie.Need-enum_known-ruling
 enum-known-ruling c = search rules
 
-enum_told : tie.Need-enum-told
+enum_told : tie.Need-enum_told-1
 enum_told c = search rules
 
-stamp-acyclic-requires : tie.Need-stamp-acyclic-requires
-stamp-acyclic-requires c κs = let K = fit_known (lent c.before.before.before.before.before.before.before.before.before) c.before.before.before.before.before.before.before.before.before.args.st c.before.before.before.before.before.before.before.before.before.args.order.now (sym c.before.before.before.before.ask.ensures ∙ c.before.before.enum_told.given.1) in ((known_proper K, K.full), known_records K)
+stamp-acyclic-requires : tie.Need-stamp_acyclic-requires
+stamp-acyclic-requires c κs = let K = fit_known (lent c.before.before.before.before.before.before) c.args.st c.args.order.now (sym c.ask-ruling.ensures ∙ c.in-Fit.is) in ((known_proper K, K.full), known_records K)
 
-same_length : tie.Need-same-length
+same_length : tie.Need-shape_of-times-in-No
 same_length c = search rules
 
-same-length-2 : tie.Need-same-length-2
+same-length-2 : tie.Need-shape_of-links-in-No
 same-length-2 c = search rules
 
-returns : tie.Need-returns
-returns c = call_refused c.before.before.before.before.before.before.before.before.args.order.now (lent c.before.before.before.before.before.before.before.before) c.before.before.before.before.before.before.before.before.args.st c.before.ruling.given.0.0 (sym c.before.before.before.ask.ensures ∙ c.before.ruling.given.1)
+returns : tie.Need-returns-in-No
+returns c = call_refused c.args.order.now (lent c.before.before.before.before) c.args.st c.in-No.r (sym c.ask-ruling.ensures ∙ c.in-No.is)
 
-same-length-3 : tie.Need-same-length-3
+same-length-3 : tie.Need-shape_of-times-in-Fit
 same-length-3 c = search rules
 
-same-length-4 : tie.Need-same-length-4
+same-length-4 : tie.Need-shape_of-links-in-Fit
 same-length-4 c = search rules
 
-returns-2 : tie.Need-returns-2
-returns-2 c = c.before.before.before.stamp-acyclic.ensures c.before.before.before.before.before.before.before.before.before.before.before.before.before.args.variables.now ∙ call_fit c.before.before.before.before.before.before.before.before.before.before.before.before.before.args.order.now (lent c.before.before.before.before.before.before.before.before.before.before.before.before.before) c.before.before.before.before.before.before.before.before.before.before.before.before.before.args.st (sym c.before.before.before.before.before.before.before.before.ask.ensures ∙ c.before.before.before.before.before.before.enum_told.given.1)
+returns-2 : tie.Need-returns-in-Fit
+returns-2 c = c.stamp_acyclic.ensures c.args.variables.now ∙ call_fit c.args.order.now (lent c.before.before.before.before.before.before.before.before.before.before) c.args.st (sym c.ask-ruling.ensures ∙ c.in-Fit.is)
 
-pub stamp-spec : {M : Type 1} → statement M
-stamp-spec =
+pub stamp_spec : {M : Type 1} → statement M
+stamp_spec =
     tie.close
     (tie.spec
     ask-requires

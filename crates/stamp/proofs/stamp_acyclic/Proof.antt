@@ -12,65 +12,65 @@ use Rattle.stamp.proofs.Writing.{own_blank}
 use Rattle.stamp.proofs.stamp_acyclic.Statement.{statement}
 use Rattle.stamp.proofs.stamp_acyclic.Tie as tie
 
-cast-v : tie.Need-overflow-cast-v
+cast-v : tie.Need-overflow_cast-v
 cast-v c = search rules
 
-cast-n : tie.Need-overflow-cast-n
+cast-n : tie.Need-overflow_cast-n
 cast-n c = search rules
 
-mul-size : tie.Need-overflow-mul-size
+mul-size : tie.Need-overflow_mul-size
 mul-size c = search rules
 
-array-borrow-prefix-slots : tie.Need-array-borrow-prefix-slots
+array-borrow-prefix-slots : tie.Need-slice_bounds-slots-end
 array-borrow-prefix-slots c = search rules
 
-slice-aggregate-write-stamps : tie.Need-slice-aggregate-write-stamps
-slice-aggregate-write-stamps c = sym (front_zeros (2 * c.before.before.before.before.before.args.st.v) 2048 (omega (arith, c.before.before.before.before.before.requires.0.0.listed.few)))
+slice-aggregate-write-stamps : tie.Need-slice_bounds-write_stamps-end
+slice-aggregate-write-stamps c = sym (front_zeros (2 * c.args.st.v) 2048 (omega (arith, c.requires.0.0.listed.few)))
 
-array-borrow-prefix-discoveries : tie.Need-array-borrow-prefix-discoveries
+array-borrow-prefix-discoveries : tie.Need-slice_bounds-discoveries-end
 array-borrow-prefix-discoveries c = search rules
 
-slice-aggregate-write-stamps-2 : tie.Need-slice-aggregate-write-stamps-2
-slice-aggregate-write-stamps-2 c = sym (front_zeros (2 * c.before.before.before.before.before.before.args.st.v) 2048 (omega (arith, c.before.before.before.before.before.before.requires.0.0.listed.few)))
+slice-aggregate-write-stamps-2 : tie.Need-slice_bounds-write_stamps-end-2
+slice-aggregate-write-stamps-2 c = sym (front_zeros (2 * c.args.st.v) 2048 (omega (arith, c.requires.0.0.listed.few)))
 
-array-borrow-prefix-finishes : tie.Need-array-borrow-prefix-finishes
+array-borrow-prefix-finishes : tie.Need-slice_bounds-finishes-end
 array-borrow-prefix-finishes c = search rules
 
-slice-aggregate-write-stamps-3 : tie.Need-slice-aggregate-write-stamps-3
-slice-aggregate-write-stamps-3 c = sym (front_zeros (2 * c.before.before.before.before.before.before.before.args.st.v) 2048 (omega (arith, c.before.before.before.before.before.before.before.requires.0.0.listed.few)))
+slice-aggregate-write-stamps-3 : tie.Need-slice_bounds-write_stamps-end-3
+slice-aggregate-write-stamps-3 c = sym (front_zeros (2 * c.args.st.v) 2048 (omega (arith, c.requires.0.0.listed.few)))
 
-array-borrow-prefix-parents : tie.Need-array-borrow-prefix-parents
+array-borrow-prefix-parents : tie.Need-slice_bounds-parents-end
 array-borrow-prefix-parents c = search rules
 
-slice-aggregate-write-stamps-4 : tie.Need-slice-aggregate-write-stamps-4
-slice-aggregate-write-stamps-4 c = sym (front_zeros (2 * c.before.before.before.before.before.before.before.before.args.st.v) 2048 (omega (arith, c.before.before.before.before.before.before.before.before.requires.0.0.listed.few)))
+slice-aggregate-write-stamps-4 : tie.Need-slice_bounds-write_stamps-end-4
+slice-aggregate-write-stamps-4 c = sym (front_zeros (2 * c.args.st.v) 2048 (omega (arith, c.requires.0.0.listed.few)))
 
-array-borrow-prefix-starts : tie.Need-array-borrow-prefix-starts
+array-borrow-prefix-starts : tie.Need-slice_bounds-starts-end
 array-borrow-prefix-starts c = search rules
 
-slice-aggregate-write-stamps-5 : tie.Need-slice-aggregate-write-stamps-5
-slice-aggregate-write-stamps-5 c = sym (front_zeros (2 * c.before.before.before.before.before.before.before.before.before.args.st.v) 2048 (omega (arith, c.before.before.before.before.before.before.before.before.before.requires.0.0.listed.few)))
+slice-aggregate-write-stamps-5 : tie.Need-slice_bounds-write_stamps-end-5
+slice-aggregate-write-stamps-5 c = sym (front_zeros (2 * c.args.st.v) 2048 (omega (arith, c.requires.0.0.listed.few)))
 
-write-stamps-requires : tie.Need-write-stamps-requires
-write-stamps-requires c κs = let s = c.before.before.before.before.before.before.before.before.before.before.before in (s.requires.0, (own_blank s.args.st.v s.requires.0.0.listed.few, s.requires.1))
+write-stamps-requires : tie.Need-write_stamps-cyclic-requires
+write-stamps-requires c κs = (c.requires.0, (own_blank c.args.st.v c.requires.0.0.listed.few, c.requires.1))
 
 answer-requires : tie.Need-answer-requires
 answer-requires c κs = search rules
 
-same_length : tie.Need-same-length
+same_length : tie.Need-shape_of-times
 same_length c = search rules
 
-same-length-2 : tie.Need-same-length-2
+same-length-2 : tie.Need-shape_of-links
 same-length-2 c = search rules
 
 returns : tie.Need-returns
-returns c = λ variables. let a = c.before.before.before.before.before.before.before.before.before.before.before.before.before.before.before.before.before.before.before.before.before.args in let w = c.before.before.before.before.before.before.before.before.before.write-stamps in
-    let u : Tables = tables a.clauses.now a.literals.now variables w.new.1.1.1.1.1.1.1.1.1.1.0 w.new.1.1.1.1.1.1.1.1.1.1.1.0 in
+returns c = λ variables. let a = c.args in let w = c.write_stamps-cyclic in
+    let u : Tables = tables a.clauses.now a.literals.now variables w.new.times w.new.links in
     ap (λ (o : Outcome). after o u) c.answer.ensures
     ∙ acyclic_by a.order.now (tables a.clauses.now a.literals.now variables a.times.now a.links.now) a.st u w.result w.ensures.0 (w.ensures.1 variables)
 
-pub stamp-acyclic-spec : {M : Type 1} → statement M
-stamp-acyclic-spec =
+pub stamp_acyclic_spec : {M : Type 1} → statement M
+stamp_acyclic_spec =
     tie.close
     (tie.spec
     cast-v

@@ -7,64 +7,64 @@ use Rattle.stamp_walk.proofs.Copying.{Copying, copying_none, copying_step, copyi
 use Rattle.stamp_walk.proofs.copy_times.Statement.{statement}
 use Rattle.stamp_walk.proofs.copy_times.Tie as tie
 
-abbrev invariant-loop : tie.invariant-loop
+abbrev invariant-loop : tie.invariant-loop-s
 invariant-loop discoveries finishes times₀ s₀ times s = Copying discoveries finishes times₀ times s
 
-abbrev decreases-loop : tie.decreases-loop
+abbrev decreases-loop : tie.decreases-loop-s
 decreases-loop discoveries finishes times₀ s₀ times s = length discoveries - s
 
-loop-holds : tie.Need-loop-init invariant-loop decreases-loop
+loop-holds : tie.Need-loop-s-init invariant-loop decreases-loop
 loop-holds c = copying_none _ _ _
 
-mul_at : tie.Need-overflow-mul-at invariant-loop decreases-loop
+mul_at : tie.Need-overflow_mul-at invariant-loop decreases-loop
 mul_at c = search rules
 
-mul-times : tie.Need-overflow-mul-times invariant-loop decreases-loop
+mul-times : tie.Need-offset_bounds-discoveries-s invariant-loop decreases-loop
 mul-times c = search rules
 
-shared-slice-read-times : tie.Need-shared-slice-read-times invariant-loop decreases-loop
+shared-slice-read-times : tie.Need-bounds-discoveries-s invariant-loop decreases-loop
 shared-slice-read-times c = search rules
 
-mul-times-2 : tie.Need-overflow-mul-times-2 invariant-loop decreases-loop
+mul-times-2 : tie.Need-offset_bounds-times-at invariant-loop decreases-loop
 mul-times-2 c = search rules
 
-slice-write-times : tie.Need-slice-write-times invariant-loop decreases-loop
+slice-write-times : tie.Need-bounds-times-at invariant-loop decreases-loop
 slice-write-times c = search rules
 
-mul-times-3 : tie.Need-overflow-mul-times-3 invariant-loop decreases-loop
+mul-times-3 : tie.Need-offset_bounds-finishes-s invariant-loop decreases-loop
 mul-times-3 c = search rules
 
-shared-slice-read-times-2 : tie.Need-shared-slice-read-times-2 invariant-loop decreases-loop
+shared-slice-read-times-2 : tie.Need-bounds-finishes-s invariant-loop decreases-loop
 shared-slice-read-times-2 c = search rules
 
-add_times : tie.Need-overflow-add-times invariant-loop decreases-loop
+add_times : tie.Need-overflow_add-times invariant-loop decreases-loop
 add_times c = search rules
 
-mul-times-4 : tie.Need-overflow-mul-times-4 invariant-loop decreases-loop
+mul-times-4 : tie.Need-offset_bounds-times-at-in-loop-s invariant-loop decreases-loop
 mul-times-4 c = search rules
 
-slice-write-times-2 : tie.Need-slice-write-times-2 invariant-loop decreases-loop
-slice-write-times-2 c = simp length-set (omega (arith, c.before.before.before.loop.invariant.size, c.before.before.loop-test.true, c.before.before.before.before.requires))
+slice-write-times-2 : tie.Need-bounds-times-at-in-loop-s invariant-loop decreases-loop
+slice-write-times-2 c = simp length-set (omega (arith, c.loop-s.invariant.size, c.loop-s-test.true, c.requires))
 
-add-s : tie.Need-overflow-add-s invariant-loop decreases-loop
+add-s : tie.Need-overflow_add-s invariant-loop decreases-loop
 add-s c = search rules
 
-loop-less : tie.Need-loop-smaller invariant-loop decreases-loop
+loop-less : tie.Need-loop-s-smaller invariant-loop decreases-loop
 loop-less c = search rules
 
-loop-again : tie.Need-loop-preserved invariant-loop decreases-loop
-loop-again c = let a = c.before.before.before.before.args in let l = c.before.before.before.loop in
-    copying_step a.discoveries.now a.finishes.now a.times.now l.times l.s 0 0 c.before.before.loop-test.true c.before.before.before.before.requires.0 l.invariant
+loop-again : tie.Need-loop-s-preserved invariant-loop decreases-loop
+loop-again c = let a = c.args in let l = c.loop-s in
+    copying_step a.discoveries.now a.finishes.now a.times.now l.times l.s 0 0 c.loop-s-test.true c.requires.0 l.invariant
 
-same_length : tie.Need-same-length invariant-loop decreases-loop
+same_length : tie.Need-shape_of-times invariant-loop decreases-loop
 same_length c = search rules
 
 returns : tie.Need-returns invariant-loop decreases-loop
-returns c = let a = c.before.before.args in let l = c.before.loop in
-    copying_done a.discoveries.now a.finishes.now a.times.now l.times l.s c.loop-test.false c.before.before.requires.0 c.before.before.requires.1 l.invariant
+returns c = let a = c.args in let l = c.loop-s in
+    copying_done a.discoveries.now a.finishes.now a.times.now l.times l.s c.loop-s-test.false c.requires.0 c.requires.1 l.invariant
 
-pub copy-times-spec : {M : Type 1} → statement M
-copy-times-spec =
+pub copy_times_spec : {M : Type 1} → statement M
+copy_times_spec =
     tie.close
     (tie.spec
     invariant-loop

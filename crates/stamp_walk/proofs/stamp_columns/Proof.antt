@@ -10,57 +10,56 @@ use Rattle.stamp_walk.proofs.Graphing.{own_scratch}
 use Rattle.stamp_walk.proofs.stamp_columns.Statement.{statement}
 use Rattle.stamp_walk.proofs.stamp_columns.Tie as tie
 
-mul-slots : tie.Need-overflow-mul-slots
+mul-slots : tie.Need-overflow_mul-slots
 mul-slots c = search rules
 
-add-ends : tie.Need-overflow-add-ends
+add-ends : tie.Need-overflow_add-ends
 add-ends c = search rules
 
-slice-aggregate-stamp-graph : tie.Need-slice-aggregate-stamp-graph
+slice-aggregate-stamp-graph : tie.Need-slice_bounds-stamp_graph-end
 slice-aggregate-stamp-graph c = search rules
 
-slice-aggregate-stamp-graph-2 : tie.Need-slice-aggregate-stamp-graph-2
+slice-aggregate-stamp-graph-2 : tie.Need-slice_bounds-stamp_graph-end-2
 slice-aggregate-stamp-graph-2 c = search rules
 
-array-borrow-prefix-offsets : tie.Need-array-borrow-prefix-offsets
+array-borrow-prefix-offsets : tie.Need-slice_bounds-offsets-end
 array-borrow-prefix-offsets c = search rules
 
-slice-aggregate-stamp-graph-3 : tie.Need-slice-aggregate-stamp-graph-3
-slice-aggregate-stamp-graph-3 c = sym (front_zeros (2 * c.before.before.before.before.before.before.before.before.before.args.v + 1) 2049 (omega (arith, c.before.before.before.before.before.before.before.before.before.requires.0.0.listed.few)))
+slice-aggregate-stamp-graph-3 : tie.Need-slice_bounds-stamp_graph-end-3
+slice-aggregate-stamp-graph-3 c = sym (front_zeros (2 * c.args.v + 1) 2049 (omega (arith, c.requires.0.0.listed.few)))
 
-slice-aggregate-stamp-graph-4 : tie.Need-slice-aggregate-stamp-graph-4
+slice-aggregate-stamp-graph-4 : tie.Need-slice_bounds-stamp_graph-end-4
 slice-aggregate-stamp-graph-4 c = search rules
 
-array-borrow-prefix-root : tie.Need-array-borrow-prefix-root
+array-borrow-prefix-root : tie.Need-slice_bounds-root-end
 array-borrow-prefix-root c = search rules
 
-slice-aggregate-stamp-graph-5 : tie.Need-slice-aggregate-stamp-graph-5
-slice-aggregate-stamp-graph-5 c = sym (front_filled (2 * c.before.before.before.before.before.before.before.before.before.before.before.args.v) 2048 false (omega (arith, c.before.before.before.before.before.before.before.before.before.before.before.requires.0.0.listed.few)))
+slice-aggregate-stamp-graph-5 : tie.Need-slice_bounds-stamp_graph-end-5
+slice-aggregate-stamp-graph-5 c = sym (front_filled (2 * c.args.v) 2048 false (omega (arith, c.requires.0.0.listed.few)))
 
-slice-aggregate-stamp-graph-6 : tie.Need-slice-aggregate-stamp-graph-6
+slice-aggregate-stamp-graph-6 : tie.Need-slice_bounds-stamp_graph-end-6
 slice-aggregate-stamp-graph-6 c = search rules
 
-stamp-graph-requires : tie.Need-stamp-graph-requires
-stamp-graph-requires c κs = let s = c.before.before.before.before.before.before.before.before.before.before.before.before.before.before.before.before in
-    (s.requires.0, (own_scratch (take (2 * s.args.v) (replicate 2048 false)) s.requires.0.0 (front_filled (2 * s.args.v) 2048 false (omega (arith, s.requires.0.0.listed.few))), s.requires.1))
+stamp-graph-requires : tie.Need-stamp_graph-requires
+stamp-graph-requires c κs = (c.requires.0, (own_scratch (take (2 * c.args.v) (replicate 2048 false)) c.requires.0.0 (front_filled (2 * c.args.v) 2048 false (omega (arith, c.requires.0.0.listed.few))), c.requires.1))
 
-same_length : tie.Need-same-length
+same_length : tie.Need-shape_of-discoveries
 same_length c = search rules
 
-same-length-2 : tie.Need-same-length-2
+same-length-2 : tie.Need-shape_of-finishes
 same-length-2 c = search rules
 
-same-length-3 : tie.Need-same-length-3
+same-length-3 : tie.Need-shape_of-parents
 same-length-3 c = search rules
 
-same-length-4 : tie.Need-same-length-4
+same-length-4 : tie.Need-shape_of-starts
 same-length-4 c = search rules
 
 returns : tie.Need-returns
 returns c = search rules
 
-pub stamp-columns-spec : {M : Type 1} → statement M
-stamp-columns-spec =
+pub stamp_columns_spec : {M : Type 1} → statement M
+stamp_columns_spec =
     tie.close
     (tie.spec
     mul-slots

@@ -19,65 +19,65 @@ slots-room : 16384 ≤ length {A = ℕ} (replicate 16384 0)
 slots-room = omega (arith, length-replicate {A = ℕ} 16384 0)
 
 -- the visits that are made are left
-room : (c : tie.After-fewer) → c.before.before.before.before.before.args.cursor + c.fewer.result ≤ c.before.before.before.before.before.args.st.n
-room c = omega (arith, c.fewer.ensures.1, c.before.before.before.before.before.requires.1)
+room : (c : tie.After-fewer-m) → c.args.cursor + c.fewer-m.result ≤ c.args.st.n
+room c = omega (arith, c.fewer-m.ensures.1, c.requires.1)
 
-cast-count-standing : tie.Need-overflow-cast-count-standing
+cast-count-standing : tie.Need-overflow_cast-n
 cast-count-standing c = search rules
 
-count-standing-requires : tie.Need-count-standing-requires
-count-standing-requires c κs = formed_counted c.before.before.before.requires.0.formed
+count-standing-requires : tie.Need-count_standing-before-requires
+count-standing-requires c κs = formed_counted c.requires.0.formed
 
-sub-fewer : tie.Need-overflow-sub-fewer
+sub-fewer : tie.Need-overflow_sub-n
 sub-fewer c = search rules
 
-fewer-requires : tie.Need-fewer-requires
+fewer-requires : tie.Need-fewer-m-requires
 fewer-requires c κs = search rules
 
-slice-aggregate-sweep-visits : tie.Need-slice-aggregate-sweep-visits
+slice-aggregate-sweep-visits : tie.Need-slice_bounds-sweep_visits-end
 slice-aggregate-sweep-visits c = search rules
 
-slice-aggregate-sweep-visits-2 : tie.Need-slice-aggregate-sweep-visits-2
+slice-aggregate-sweep-visits-2 : tie.Need-slice_bounds-sweep_visits-end-2
 slice-aggregate-sweep-visits-2 c = search rules
 
-cast-sweep-visits : tie.Need-overflow-cast-sweep-visits
+cast-sweep-visits : tie.Need-overflow_cast-m
 cast-sweep-visits c = search rules
 
-sweep-visits-requires : tie.Need-sweep-visits-requires
-sweep-visits-requires c κs = (record { number = c.before.before.before.before.before.before.before.before.before.args.st.n; sweepable = c.before.before.before.before.before.before.before.before.before.requires.0; room = room c.before.before.before.before }, slots-room, slots-room)
+sweep-visits-requires : tie.Need-sweep_visits-requires
+sweep-visits-requires c κs = (record { number = c.args.st.n; sweepable = c.requires.0; room = room c.before.before.before.before }, slots-room, slots-room)
 
-cast-count-standing-2 : tie.Need-overflow-cast-count-standing-2
+cast-count-standing-2 : tie.Need-overflow_cast-n-2
 cast-count-standing-2 c = search rules
 
-count-standing-requires-2 : tie.Need-count-standing-requires-2
-count-standing-requires-2 c κs = formed_counted (c.before.before.before.before.before.before.sweep-visits.ensures.0 c.before.before.before.before.before.before.before.before.before.before.before.before.before.before.before.before.args.st.n (room c.before.before.before.before.before.before.before.before.before.before.before) c.before.before.before.before.before.before.before.before.before.before.before.before.before.before.before.before.requires.0).formed
+count-standing-requires-2 : tie.Need-count_standing-left-requires
+count-standing-requires-2 c κs = formed_counted (c.sweep_visits.ensures.0 c.args.st.n (room c.before.before.before.before.before.before.before.before.before.before) c.requires.0).formed
 
-counts-of-requires : tie.Need-counts-of-requires
+counts-of-requires : tie.Need-counts_of-counts-requires
 counts-of-requires c κs = search rules
 
-add-k : tie.Need-overflow-add-k
-add-k c = omega (arith, room c.before.before.before.before.before.before.before.before.before.before.before.before.before, c.before.before.before.before.before.before.before.before.before.before.before.before.before.before.before.before.before.before.requires.0.formed.number)
+add-k : tie.Need-overflow_add-k
+add-k c = omega (arith, room c.before.before.before.before.before.before.before.before.before.before.before.before, c.requires.0.formed.number)
 
-answer-at-requires : tie.Need-answer-at-requires
+answer-at-requires : tie.Need-answer_at-requires
 answer-at-requires c κs = search rules
 
-same_length : tie.Need-same-length
+same_length : tie.Need-shape_of-clauses
 same_length c = search rules
 
-same-length-2 : tie.Need-same-length-2
+same-length-2 : tie.Need-shape_of-literals
 same-length-2 c = search rules
 
 returns : tie.Need-returns
-returns c = λ w. let a = c.before.before.before.before.before.before.before.before.before.before.before.before.before.before.before.before.before.before.before.args in let v = c.before.before.before.before.before.before.before.before.before.sweep-visits in
-    let m = c.before.before.before.before.before.before.before.before.before.before.before.before.before.before.fewer in
-    let s = c.before.before.before.before.before.before.before.before.before.before.before.before.before.before.before.count-standing in
-    c.answer_at.ensures (tables v.new.0 v.new.1.0 w a.times.now a.links.now)
+returns c = λ w. let a = c.args in let v = c.sweep_visits in
+    let m = c.fewer-m in
+    let s = c.count_standing-before in
+    c.answer_at.ensures (tables v.new.clauses v.new.literals w a.times.now a.links.now)
     ∙ advanced Sweep true false (sweep_clause (columns a.times.now a.links.now)) a.steps a.cursor (tables a.clauses.now a.literals.now w a.times.now a.links.now) a.st m.result m.ensures.0
-    (tables v.new.0 v.new.1.0 w a.times.now a.links.now) (v.ensures.1 w) c.before.Counts-of.result
-    (counts_are a.st.n m.result a.clauses.now v.new.0 s.result c.before.before.count-standing2.result c.before.Counts-of.result s.ensures c.before.before.count-standing2.ensures c.before.Counts-of.ensures)
+    (tables v.new.clauses v.new.literals w a.times.now a.links.now) (v.ensures.1 w) c.counts_of-counts.result
+    (counts_are a.st.n m.result a.clauses.now v.new.clauses s.result c.count_standing-left.result c.counts_of-counts.result s.ensures c.count_standing-left.ensures c.counts_of-counts.ensures)
 
-pub sweep-from-spec : {M : Type 1} → statement M
-sweep-from-spec =
+pub sweep_from_spec : {M : Type 1} → statement M
+sweep_from_spec =
     tie.close
     (tie.spec
     cast-count-standing

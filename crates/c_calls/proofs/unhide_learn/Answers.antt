@@ -1,0 +1,30 @@
+-- The numbers cannot be read, or the call is made on them.
+use Rattle.std.proofs.Common.{sym, ◌∙◌}
+use mir.Syntax.{w64}
+use mir.Facts.{to_z-of_z}
+use borrow.Author.Rules.{sfits_of}
+use Rattle.tables.specs.Tables.{tables}
+use Rattle.learn.specs.Learn.{learn_call}
+use Rattle.c_numbers.proofs.Reading.{ready_long, with_ready, with_long}
+use Rattle.c_numbers.proofs.CallingWith.{unread_learn, made_learn}
+use Rattle.c_calls.proofs.unhide_learn.Goals as goal
+
+pub returns-then-not-ready_with : goal.returns-then-not-ready_with
+returns-then-not-ready_with c =
+    unread_learn (learn_call c.args.newcomer.now) (tables c.args.clauses.now c.args.literals.now c.args.variables.now c.args.times.now c.args.links.now) c.args.state.now c.args.answer.now c.args.sizes.now c.args.learnt.now c.args.window.now _ _ (sym c.ready_with.ensures ∙ c.if-not-ready_with.true) (to_z-of_z {w = w64} {z = c.refuse_unread.result} (sfits_of c.refuse_unread.type_inv) ∙ c.refuse_unread.ensures.0) c.refuse_unread.ensures.1
+
+pub state_at-st-requires : goal.state_at-st-requires
+state_at-st-requires c = (ready_long c.args.state.now c.args.answer.now (with_ready c.args.state.now c.args.answer.now c.args.window.now (sym c.ready_with.ensures ∙ c.if-not-ready_with.false))).0
+
+pub window_at-w-requires : goal.window_at-w-requires
+window_at-w-requires c = with_long c.args.state.now c.args.answer.now c.args.window.now (sym c.ready_with.ensures ∙ c.if-not-ready_with.false)
+
+pub finish_window-requires : goal.finish_window-requires
+finish_window-requires c = with_long c.args.state.now c.args.answer.now c.args.window.now (sym c.ready_with.ensures ∙ c.if-not-ready_with.false)
+
+pub put_answer-requires : goal.put_answer-requires
+put_answer-requires c = (ready_long c.args.state.now c.args.answer.now (with_ready c.args.state.now c.args.answer.now c.args.window.now (sym c.ready_with.ensures ∙ c.if-not-ready_with.false))).1
+
+pub returns : goal.returns
+returns c =
+    made_learn (learn_call c.args.newcomer.now) (tables c.args.clauses.now c.args.literals.now c.args.variables.now c.args.times.now c.args.links.now) c.args.state.now c.args.answer.now c.args.sizes.now c.args.learnt.now c.args.window.now _ _ c.learn-made.result _ _ _ _ (sym c.ready_with.ensures ∙ c.if-not-ready_with.false) c.state_at-st.ensures c.window_at-w.ensures c.learn-made.ensures c.finish_window.ensures _ _ (to_z-of_z {w = w64} {z = c.put_answer.result} (sfits_of c.put_answer.type_inv) ∙ c.put_answer.ensures.0) c.put_answer.ensures.1
