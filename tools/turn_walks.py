@@ -389,19 +389,19 @@ def turn(text, entry, function, said, tie_name="tie", cycle=False):
                     if at is None:
                         at = next((i for i, f in enumerate(places.field) if f[1] == step[1:]), None)
                     if at is not None:
-                        if kind in ("new", "auto", "last"):
+                        if kind in ("new", "auto", "kept", "last"):
                             fields = entry["params"].get(entry["places"][at][3] or "")
                             if fields:
                                 fields = fields + ["-"]
                 if not fields:
                     return mm.group(0)
                 f, rest = by_place(fields, tail)
-                return f"{v}{step or ''}.{'new' if kind == 'last' else kind}.{f}{rest}" if f else mm.group(0)
+                return f"{v}{step or ''}.{KIND.get(kind, kind)}.{f}{rest}" if f else mm.group(0)
 
             body = re.sub(r"(?<![\w.'-])(%s)(?:\.before)*((?:\.(?!before|BEFORE)%s)*)(?![\w'-])" % (names, W), flat, body)
             for mm in re.finditer(r"let (%s) = (%s)((?:\.%s)*) in" % (W, names, W), body):
                 aliases[mm.group(1)] = mm.group(2) + mm.group(3)
-            body = re.sub(r"(?<![\w.'-])(%s)(\.(?!new|auto|requires|ensures|last)%s)?\.(new|auto|last|requires|ensures)((?:\.[01])+)" % (names, W), positions, body)
+            body = re.sub(r"(?<![\w.'-])(%s)(\.(?!new|auto|kept|requires|ensures|last)%s)?\.(new|auto|kept|last|requires|ensures)((?:\.[01])+)" % (names, W), positions, body)
             for a, of in aliases.items():
                 # a name for what a step left, or for what is required
                 mo = re.fullmatch(r"(%s)(\.(?!requires)%s)?(\.requires|\.ensures)?" % (names, W), of)
@@ -411,7 +411,7 @@ def turn(text, entry, function, said, tie_name="tie", cycle=False):
 
                 def through(mm):
                     probe = f"{v}{step or ''}{kind or ''}{mm.group(1)}"
-                    got2 = re.sub(r"^(%s)(\.(?!new|auto|requires|ensures|last)%s)?\.(new|auto|last|requires|ensures)((?:\.[01])+)" % (names, W), positions, probe)
+                    got2 = re.sub(r"^(%s)(\.(?!new|auto|kept|requires|ensures|last)%s)?\.(new|auto|kept|last|requires|ensures)((?:\.[01])+)" % (names, W), positions, probe)
                     return a + got2[len(f"{v}{step or ''}{kind or ''}") :] if got2 != probe else mm.group(0)
 
                 body = re.sub(r"(?<![\w.'-])%s((?:\.(?:new|auto|last|requires|ensures))?(?:\.[01])+)" % re.escape(a), through, body)
@@ -491,6 +491,7 @@ def own_fields():
 
 
 FIELDS = set()
+KIND = {"last": "new", "kept": "auto"}
 OLD_WORDS = {"pre": "requires", "fits": "ranges"}
 
 

@@ -37,16 +37,16 @@ module _ (w : tie.After-stamp_columns) where
   starts' = w.stamp_columns.new.starts
 
   discoveries-long : length discoveries' ≡ 2 * w.args.v
-  discoveries-long = w.stamp_columns.kept.1.1.1.1.1.0 ∙ (blank_columned w.requires.1.0).discs
+  discoveries-long = w.stamp_columns.auto.discoveries ∙ (blank_columned w.requires.1.0).discs
 
   finishes-long : length finishes' ≡ 2 * w.args.v
-  finishes-long = w.stamp_columns.kept.1.1.1.1.1.1.0 ∙ (blank_columned w.requires.1.0).fins
+  finishes-long = w.stamp_columns.auto.finishes ∙ (blank_columned w.requires.1.0).fins
 
   parents-long : length parents' ≡ 2 * w.args.v
-  parents-long = w.stamp_columns.kept.1.1.1.1.1.1.1.0 ∙ (blank_columned w.requires.1.0).pars
+  parents-long = w.stamp_columns.auto.parents ∙ (blank_columned w.requires.1.0).pars
 
   starts-long : length starts' ≡ 2 * w.args.v
-  starts-long = w.stamp_columns.kept.1.1.1.1.1.1.1.1.0 ∙ (blank_columned w.requires.1.0).tops
+  starts-long = w.stamp_columns.auto.starts ∙ (blank_columned w.requires.1.0).tops
 
   held : ColumnsHold (stamps_of (slots_from w.args.clauses.now w.args.literals.now w.args.n 0) (2 * w.args.v) (map slot_of w.args.order.now)) discoveries' finishes' parents' starts'
   held = blank_walk w.requires.0.0 w.requires.0.1 w.requires.1.0 (slots' w.before.before.before.before.before.before.before) discoveries' finishes' parents' starts' w.list_slots.ensures w.stamp_columns.ensures.stamps_are
