@@ -441,9 +441,15 @@ def turn(text, entry, function, said, tie_name="tie", cycle=False):
         body = re.sub(r"(to_z w\d+ )((?:%s\.)+)(%s)(?![\w'.-])" % (W, W), lambda mm: mm.group(1) + mm.group(2) + (mm.group(3) + "-bits" if mm.group(3) in loop_vars and ".new." not in mm.group(2) and ".args." not in mm.group(2) else mm.group(3)), body)
         body = body.replace("to_z-of_z (sfits_of", "to_z-of_z {w = w32} (sfits_of")
         body = re.sub(r"\.((?:if-%s)|(?:%s-test))\.(taken|left)(?![\w-])" % (W, W), lambda mm: "." + mm.group(1) + (".true" if mm.group(2) == "taken" else ".false"), body)
-        # the test of `!x` says what `x` is
-        body = re.sub(r"\(not-(?:true|false) _ (%s(?:\.%s)*)\)" % (W, W), r"\1", body)
-        body = re.sub(r"(?<![\w-])not-(?:true|false) _ (%s(?:\.%s)*)" % (W, W), r"\1", body)
+        # the test of `!f(..)` says what the call gave
+        called = {re.sub(r"-.*", "", f[1]) for f, p in zip(places.field, entry["places"]) if p[3]} | {(p[3] or "").split("::")[-1] for p in entry["places"]}
+
+        def plain(mm):
+            test = re.search(r"\.if-not-([A-Za-z0-9_]+)", mm.group(1))
+            return mm.group(1) if test and test.group(1) in called else mm.group(0)
+
+        body = re.sub(r"\(not-(?:true|false) _ (%s(?:\.%s)*)\)" % (W, W), plain, body)
+        body = re.sub(r"(?<![\w(-])not-(?:true|false) _ (%s(?:\.%s)*)" % (W, W), plain, body)
         out.append(body)
     text = "\n".join(out)
     inv_args = ""

@@ -172,7 +172,7 @@ move_kept (change c) g = (tt, change_same c)
 move_kept {vars} (stamp {k = k} order shaped list uncyclic) g = (fresh_stamp vars k.clauses order shaped list uncyclic, λ τ. Iff.rfl)
 move_kept (behind m) g = behind_kept m g
 
-pub moves_kept : {vars : ℕ} {k k' : Core} {w w' : Freshness} → Moves vars k w k' w' → Good vars k w → Good vars k' w' × Same k k'
+pub moves_kept : {vars : ℕ} {k : Core} {w : Freshness} {k' : Core} {w' : Freshness} → Moves vars k w k' w' → Good vars k w → Good vars k' w' × Same k k'
 moves_kept stay g = (g, λ τ. Iff.rfl)
 moves_kept (go ms m) g =
     let one = moves_kept ms g in

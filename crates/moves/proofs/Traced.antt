@@ -101,7 +101,7 @@ move_traced f (change c) T = change_traced f c T
 move_traced f (stamp order shaped list uncyclic) T = T
 move_traced f (behind m) T = behind_traced f m T
 
-pub moves_traced : (f : List Clause) {vars : ℕ} {k k' : Core} {w w' : Freshness} → Moves vars k w k' w' → Traced f k → Traced f k'
+pub moves_traced : (f : List Clause) {vars : ℕ} {k : Core} {w : Freshness} {k' : Core} {w' : Freshness} → Moves vars k w k' w' → Traced f k → Traced f k'
 moves_traced f stay T = T
 moves_traced f (go ms m) T = move_traced f m (moves_traced f ms T)
 

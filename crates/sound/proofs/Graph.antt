@@ -47,6 +47,7 @@ shaped_once vars f shaped C m = ⊎_elim (λ i. shaped.once C i) (λ (e : C ≡ 
 
 column_pair : (cs : List (List ℕ)) (s t : ℕ) → Edge s t (froms cs) (tos cs) → (a : ℕ) × (b : ℕ) × Memᴰ (a ∷ b ∷ []) cs × Reads a b s t
 unfolding froms tos
+column_pair [] s t e = elim e [ ]
 column_pair ([] ∷ cs) s t e = let r = column_pair cs s t e in (r.0, r.1, Memᴰ.tail r.2, r.3)
 column_pair ((a ∷ []) ∷ cs) s t e = let r = column_pair cs s t e in (r.0, r.1, Memᴰ.tail r.2, r.3)
 column_pair ((a ∷ b ∷ []) ∷ cs) s t (first p q) = (a, b, Memᴰ.head refl, inl (sym p, sym q))

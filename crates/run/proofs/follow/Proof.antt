@@ -13,79 +13,79 @@ abbrev lent : tie.Start → Standing
 lent s = standing_in (tables s.args.clauses.now s.args.literals.now s.args.variables.now s.args.times.now s.args.links.now) s.args.st
 
 settle-requires : tie.Need-settle-requires
-settle-requires c κs = runs_formed c.before.before.before.before.before.before.requires
+settle-requires c κs = runs_formed c.requires
 
-same_length : tie.Need-same-length
+same_length : tie.Need-shape_of-clauses-then-code-eq-SETTLE
 same_length c = search rules
 
-same-length-2 : tie.Need-same-length-2
+same-length-2 : tie.Need-shape_of-literals-then-code-eq-SETTLE
 same-length-2 c = search rules
 
-same-length-3 : tie.Need-same-length-3
+same-length-3 : tie.Need-shape_of-variables-then-code-eq-SETTLE
 same-length-3 c = search rules
 
-returns : tie.Need-returns
-returns c = let a = c.before.before.before.before.before.before.before.before.before.before.before.args in c.before.before.before.before.settle.ensures a.times.now a.links.now ∙ code_settle a.k a.code (lent c.before.before.before.before.before.before.before.before.before.before.before) c.before.before.before.before.before.before.before.before.if1.true
+returns : tie.Need-returns-then-code-eq-SETTLE
+returns c = let a = c.args in c.settle.ensures a.times.now a.links.now ∙ code_settle a.k a.code (lent c.before.before.before.before.before.before.before.before.before.before.before) c.if-code-eq-SETTLE.true
 
-follow-stamp-requires : tie.Need-follow-stamp-requires
+follow-stamp-requires : tie.Need-follow_stamp-requires
 follow-stamp-requires c κs = search rules
 
-same-length-4 : tie.Need-same-length-4
+same-length-4 : tie.Need-shape_of-clauses-then-code-eq-STAMP
 same-length-4 c = search rules
 
-same-length-5 : tie.Need-same-length-5
+same-length-5 : tie.Need-shape_of-literals-then-code-eq-STAMP
 same-length-5 c = search rules
 
-same-length-6 : tie.Need-same-length-6
+same-length-6 : tie.Need-shape_of-variables-then-code-eq-STAMP
 same-length-6 c = search rules
 
-same-length-7 : tie.Need-same-length-7
+same-length-7 : tie.Need-shape_of-times-then-code-eq-STAMP
 same-length-7 c = search rules
 
-same-length-8 : tie.Need-same-length-8
+same-length-8 : tie.Need-shape_of-links-then-code-eq-STAMP
 same-length-8 c = search rules
 
-returns-2 : tie.Need-returns-2
-returns-2 c = let a = c.before.before.before.before.before.before.before.before.before.before.before.before.before.args in c.before.before.before.follow-stamp.ensures ∙ code_stamp a.k a.code (lent c.before.before.before.before.before.before.before.before.before.before.before.before.before) c.before.before.before.before.before.before.before.before.before.before.if1.false c.before.before.before.before.before.before.before.before.before.if2.true
+returns-2 : tie.Need-returns-then-code-eq-STAMP
+returns-2 c = let a = c.args in c.follow_stamp.ensures ∙ code_stamp a.k a.code (lent c.before.before.before.before.before.before.before.before.before.before) c.if-code-eq-SETTLE.false c.if-code-eq-STAMP.true
 
-follow-failed-requires : tie.Need-follow-failed-requires
-follow-failed-requires c κs = runs_callable c.before.before.before.before.before.before.before.before.requires
+follow-failed-requires : tie.Need-follow_failed-requires
+follow-failed-requires c κs = runs_callable c.requires
 
-same-length-9 : tie.Need-same-length-9
+same-length-9 : tie.Need-shape_of-variables-then-code-eq-FAILED
 same-length-9 c = search rules
 
-same-length-10 : tie.Need-same-length-10
+same-length-10 : tie.Need-shape_of-times-then-code-eq-FAILED
 same-length-10 c = search rules
 
-same-length-11 : tie.Need-same-length-11
+same-length-11 : tie.Need-shape_of-links-then-code-eq-FAILED
 same-length-11 c = search rules
 
-returns-3 : tie.Need-returns-3
-returns-3 c = let a = c.before.before.before.before.before.before.before.before.before.before.args in c.before.follow-failed.ensures a.clauses.now a.literals.now ∙ code_failed a.k a.code (lent c.before.before.before.before.before.before.before.before.before.before) c.before.before.before.before.before.before.before.if1.false c.before.before.before.before.before.before.if2.false c.before.before.before.before.before.if3.true
+returns-3 : tie.Need-returns-then-code-eq-FAILED
+returns-3 c = let a = c.args in c.follow_failed.ensures a.clauses.now a.literals.now ∙ code_failed a.k a.code (lent c.before.before.before.before.before.before.before.before) c.if-code-eq-SETTLE.false c.if-code-eq-STAMP.false c.if-code-eq-FAILED.true
 
-follow-sweep-requires : tie.Need-follow-sweep-requires
-follow-sweep-requires c κs = runs_sweepable c.before.before.before.before.before.before.before.before.before.before.requires
+follow-sweep-requires : tie.Need-follow_sweep-requires
+follow-sweep-requires c κs = runs_sweepable c.requires
 
-same-length-12 : tie.Need-same-length-12
+same-length-12 : tie.Need-shape_of-clauses-then-code-eq-SWEEP
 same-length-12 c = search rules
 
-same-length-13 : tie.Need-same-length-13
+same-length-13 : tie.Need-shape_of-literals-then-code-eq-SWEEP
 same-length-13 c = search rules
 
-same-length-14 : tie.Need-same-length-14
+same-length-14 : tie.Need-shape_of-times-then-code-eq-SWEEP
 same-length-14 c = search rules
 
-same-length-15 : tie.Need-same-length-15
+same-length-15 : tie.Need-shape_of-links-then-code-eq-SWEEP
 same-length-15 c = search rules
 
-returns-4 : tie.Need-returns-4
-returns-4 c = let a = c.before.before.before.before.before.before.before.before.before.before.before.before.before.before.args in c.before.before.before.follow-sweep.ensures a.variables.now ∙ code_sweep a.k a.code (lent c.before.before.before.before.before.before.before.before.before.before.before.before.before.before) c.before.before.before.before.before.before.before.before.before.before.before.if1.false c.before.before.before.before.before.before.before.before.before.before.if2.false c.before.before.before.before.before.before.before.before.before.if3.false c.before.before.before.before.before.before.before.before.if4.true
+returns-4 : tie.Need-returns-then-code-eq-SWEEP
+returns-4 c = let a = c.args in c.follow_sweep.ensures a.variables.now ∙ code_sweep a.k a.code (lent c.before.before.before.before.before.before.before.before.before.before.before.before) c.if-code-eq-SETTLE.false c.if-code-eq-STAMP.false c.if-code-eq-FAILED.false c.if-code-eq-SWEEP.true
 
-returns-5 : tie.Need-returns-5
-returns-5 c = let a = c.before.before.before.before.before.before.args in code_none a.k a.code (lent c.before.before.before.before.before.before) c.before.before.before.if1.false c.before.before.if2.false c.before.if3.false c.if4.false
+returns-5 : tie.Need-returns
+returns-5 c = let a = c.args in code_none a.k a.code (lent c.before.before.before.before.before.before) c.if-code-eq-SETTLE.false c.if-code-eq-STAMP.false c.if-code-eq-FAILED.false c.if-code-eq-SWEEP.false
 
-pub follow-spec : {M : Type 1} → statement M
-follow-spec =
+pub follow_spec : {M : Type 1} → statement M
+follow_spec =
     tie.close
     (tie.spec
     settle-requires

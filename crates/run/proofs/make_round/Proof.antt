@@ -10,53 +10,53 @@ use Rattle.run.proofs.make_round.Statement.{statement}
 use Rattle.run.proofs.make_round.Tie as tie
 
 -- what the round leaves
-abbrev left : tie.After-round → Standing
-left c = standing_in (tables c.round.new.1.0 c.round.new.1.1.0 c.round.new.1.1.1.0 c.round.new.1.1.1.1.0 c.round.new.1.1.1.1.1.0) c.round.result
+abbrev left : tie.After-round-after → Standing
+left c = standing_in (tables c.round-after.new.clauses c.round-after.new.literals c.round-after.new.variables c.round-after.new.times c.round-after.new.links) c.round-after.result
 
 save-requires : tie.Need-save-requires
 save-requires c κs = search rules
 
-round-requires : tie.Need-round-requires
+round-requires : tie.Need-round-after-requires
 round-requires c κs = search rules
 
-same-tables-requires : tie.Need-same-tables-requires
-same-tables-requires c κs = let s = c.before.before.before.before.before.before.before.before.before.before.before.before.before.before.before.before.before.before.before.before.before.before.before.before.before.before.before.before.before.before.before.before.before in let r = c.before.before.before.before.before.before.before.before.before.before.before.before.before.round in copies_compare s.requires.0 (left c.before.before.before.before.before.before.before.before.before.before.before.before.before) c.before.before.before.before.before.before.before.before.before.before.before.before.before.before.before.before.before.before.before.before.before.before.before.save.ensures r.new.1.0 r.new.1.1.0 r.new.1.1.1.0 r.auto.1.0 r.auto.1.1.0 r.auto.1.1.1.0
+same-tables-requires : tie.Need-same_tables-same-requires
+same-tables-requires c κs = let r = c.round-after in copies_compare c.requires.0 (left c.before.before.before.before.before.before.before) c.save.ensures r.new.clauses r.new.literals r.new.variables r.auto.clauses r.auto.literals r.auto.variables
 
-either-requires : tie.Need-either-requires
+either-requires : tie.Need-either-stop-requires
 either-requires c κs = search rules
 
-same_length : tie.Need-same-length
+same_length : tie.Need-shape_of-clauses
 same_length c = search rules
 
-same-length-2 : tie.Need-same-length-2
+same-length-2 : tie.Need-shape_of-literals
 same-length-2 c = search rules
 
-same-length-3 : tie.Need-same-length-3
+same-length-3 : tie.Need-shape_of-variables
 same-length-3 c = search rules
 
-same-length-4 : tie.Need-same-length-4
+same-length-4 : tie.Need-shape_of-times
 same-length-4 c = search rules
 
-same-length-5 : tie.Need-same-length-5
+same-length-5 : tie.Need-shape_of-links
 same-length-5 c = search rules
 
-same-length-6 : tie.Need-same-length-6
+same-length-6 : tie.Need-shape_of-kept
 same-length-6 c = search rules
 
-same-length-7 : tie.Need-same-length-7
+same-length-7 : tie.Need-shape_of-parts
 same-length-7 c = search rules
 
-same-length-8 : tie.Need-same-length-8
+same-length-8 : tie.Need-shape_of-rows
 same-length-8 c = search rules
 
 returns : tie.Need-returns
-returns c = let s = c.before.before.before.before.before.before.before.before.before.before.before.before.before.before.before.before.before.before.before.before.before.before.before.before.before.before.before.before.before.before.before.before.before.before.before in let r = c.before.before.before.before.before.before.before.before.before.before.before.before.before.before.before.round in (
+returns c = let r = c.round-after in (
   r.ensures,
-  c.either.ensures ∙ ap (λ (b : Bool). r.result.mark || b) (c.before.same_tables.ensures s.args.st r.result s.args.times.now r.new.1.1.1.1.0 s.args.links.now r.new.1.1.1.1.1.0 refl refl ∙ copies_tell s.requires.0 (left c.before.before.before.before.before.before.before.before.before.before.before.before.before.before.before) c.before.before.before.before.before.before.before.before.before.before.before.before.before.before.before.before.before.before.before.before.before.before.before.before.before.save.ensures),
+  c.either-stop.ensures ∙ ap (λ (b : Bool). r.result.mark || b) (c.same_tables-same.ensures c.args.st r.result c.args.times.now r.new.times c.args.links.now r.new.links refl refl ∙ copies_tell c.requires.0 (left c.before.before.before.before.before.before.before.before.before) c.save.ensures),
 )
 
-pub make-round-spec : {M : Type 1} → statement M
-make-round-spec =
+pub make_round_spec : {M : Type 1} → statement M
+make_round_spec =
     tie.close
     (tie.spec
     save-requires

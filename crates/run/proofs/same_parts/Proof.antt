@@ -22,106 +22,106 @@ use Rattle.run.proofs.same_parts.Tie as tie
 abbrev same : List ℕ → List ℤ → List ℤ → ℕ → Bool
 same clauses old new i = same_list eq_z (literals_of clauses old i) (literals_of clauses new i)
 
-abbrev invariant-loop : tie.invariant-loop
+abbrev invariant-loop : tie.invariant-loop-i
 invariant-loop clauses old new n i₀ i = (i ≤ n) × (all_below i (same clauses old new) ≡ all_below n (same clauses old new))
 
-abbrev decreases-loop : tie.decreases-loop
+abbrev decreases-loop : tie.decreases-loop-i
 decreases-loop clauses old new n i₀ i = i
 
 -- the part of the clause that is next lies in both tables
-part : (c : tie.In-loop invariant-loop decreases-loop) → start_of c.before.before.before.args.clauses.now (c.before.loop.i - 1) + length_of c.before.before.before.args.clauses.now (c.before.loop.i - 1) ≤ 16384
-part c = c.before.before.before.requires.parts (c.before.loop.i - 1) (omega arith)
+part : (c : tie.In-loop-i invariant-loop decreases-loop) → start_of c.args.clauses.now (c.loop-i.i - 1) + length_of c.args.clauses.now (c.loop-i.i - 1) ≤ 16384
+part c = c.requires.parts (c.loop-i.i - 1) (omega arith)
 
 -- as it is lent
-lent : (c : tie.In-loop invariant-loop decreases-loop) (l : List ℤ) → take (start_of c.before.before.before.args.clauses.now (c.before.loop.i - 1) + length_of c.before.before.before.args.clauses.now (c.before.loop.i - 1) - start_of c.before.before.before.args.clauses.now (c.before.loop.i - 1)) (drop (start_of c.before.before.before.args.clauses.now (c.before.loop.i - 1)) l)
-    ≡ literals_of c.before.before.before.args.clauses.now l (c.before.loop.i - 1)
-lent c l = ap (λ (n : ℕ). take n (drop (start_of c.before.before.before.args.clauses.now (c.before.loop.i - 1)) l)) (mid (start_of c.before.before.before.args.clauses.now (c.before.loop.i - 1)) (length_of c.before.before.before.args.clauses.now (c.before.loop.i - 1)))
+lent : (c : tie.In-loop-i invariant-loop decreases-loop) (l : List ℤ) → take (start_of c.args.clauses.now (c.loop-i.i - 1) + length_of c.args.clauses.now (c.loop-i.i - 1) - start_of c.args.clauses.now (c.loop-i.i - 1)) (drop (start_of c.args.clauses.now (c.loop-i.i - 1)) l)
+    ≡ literals_of c.args.clauses.now l (c.loop-i.i - 1)
+lent c l = ap (λ (n : ℕ). take n (drop (start_of c.args.clauses.now (c.loop-i.i - 1)) l)) (mid (start_of c.args.clauses.now (c.loop-i.i - 1)) (length_of c.args.clauses.now (c.loop-i.i - 1)))
 
 -- and is as long as the record says
-size : (c : tie.In-loop invariant-loop decreases-loop) (l : List ℤ) → 16384 ≤ length l → length (literals_of c.before.before.before.args.clauses.now l (c.before.loop.i - 1)) ≡ length_of c.before.before.before.args.clauses.now (c.before.loop.i - 1)
-size c l le = length-take-le (length_of c.before.before.before.args.clauses.now (c.before.loop.i - 1)) (drop (start_of c.before.before.before.args.clauses.now (c.before.loop.i - 1)) l) (simp length-drop (omega (arith, part c, le)))
+size : (c : tie.In-loop-i invariant-loop decreases-loop) (l : List ℤ) → 16384 ≤ length l → length (literals_of c.args.clauses.now l (c.loop-i.i - 1)) ≡ length_of c.args.clauses.now (c.loop-i.i - 1)
+size c l le = length-take-le (length_of c.args.clauses.now (c.loop-i.i - 1)) (drop (start_of c.args.clauses.now (c.loop-i.i - 1)) l) (simp length-drop (omega (arith, part c, le)))
 
 -- what the comparison says of the clause
-told : (c : tie.After-same-literals invariant-loop decreases-loop) → c.same-literals.result ≡ same c.before.before.before.before.before.before.before.before.args.clauses.now c.before.before.before.before.before.before.before.before.args.old.now c.before.before.before.before.before.before.before.before.args.new.now (c.before.before.before.before.before.before.loop.i - 1)
-told c = c.same-literals.ensures ∙ ap₂ (same_list eq_z) (lent c.before.before.before.before.before c.before.before.before.before.before.before.before.before.args.old.now) (lent c.before.before.before.before.before c.before.before.before.before.before.before.before.before.args.new.now)
+told : (c : tie.After-same_literals invariant-loop decreases-loop) → c.same_literals.result ≡ same c.args.clauses.now c.args.old.now c.args.new.now (c.loop-i.i - 1)
+told c = c.same_literals.ensures ∙ ap₂ (same_list eq_z) (lent c.before.before.before.before.before c.args.old.now) (lent c.before.before.before.before.before c.args.new.now)
 
-loop-holds : tie.Need-loop-init invariant-loop decreases-loop
+loop-holds : tie.Need-loop-i-init invariant-loop decreases-loop
 loop-holds c = search rules
 
-sub-i : tie.Need-overflow-sub-i invariant-loop decreases-loop
+sub-i : tie.Need-overflow_sub-i invariant-loop decreases-loop
 sub-i c = search rules
 
-mul-start : tie.Need-overflow-mul-start invariant-loop decreases-loop
+mul-start : tie.Need-overflow_mul-start invariant-loop decreases-loop
 mul-start c = search rules
 
-mul-start-2 : tie.Need-overflow-mul-start-2 invariant-loop decreases-loop
+mul-start-2 : tie.Need-offset_bounds-clauses-i invariant-loop decreases-loop
 mul-start-2 c = search rules
 
-shared-slice-read-start : tie.Need-shared-slice-read-start invariant-loop decreases-loop
+shared-slice-read-start : tie.Need-bounds-clauses-i invariant-loop decreases-loop
 shared-slice-read-start c = search rules
 
-cast-start : tie.Need-overflow-cast-start invariant-loop decreases-loop
+cast-start : tie.Need-overflow_cast-start invariant-loop decreases-loop
 cast-start c = omega (arith, part c.before)
 
-mul-end : tie.Need-overflow-mul-end invariant-loop decreases-loop
+mul-end : tie.Need-overflow_mul-end invariant-loop decreases-loop
 mul-end c = search rules
 
-add-end : tie.Need-overflow-add-end invariant-loop decreases-loop
+add-end : tie.Need-overflow_add-end invariant-loop decreases-loop
 add-end c = search rules
 
-mul-end-2 : tie.Need-overflow-mul-end-2 invariant-loop decreases-loop
+mul-end-2 : tie.Need-offset_bounds-clauses-i-in-loop-i invariant-loop decreases-loop
 mul-end-2 c = search rules
 
-shared-slice-read-end : tie.Need-shared-slice-read-end invariant-loop decreases-loop
+shared-slice-read-end : tie.Need-bounds-clauses-i-in-loop-i invariant-loop decreases-loop
 shared-slice-read-end c = search rules
 
-cast-end : tie.Need-overflow-cast-end invariant-loop decreases-loop
+cast-end : tie.Need-overflow_cast-end invariant-loop decreases-loop
 cast-end c = omega (arith, part c.before.before)
 
-add-end-2 : tie.Need-overflow-add-end-2 invariant-loop decreases-loop
+add-end-2 : tie.Need-overflow_add-end-in-loop-i invariant-loop decreases-loop
 add-end-2 c = omega (arith, part c.before.before)
 
-mul-same-literals : tie.Need-overflow-mul-same-literals invariant-loop decreases-loop
+mul-same-literals : tie.Need-offset_bounds-old-start invariant-loop decreases-loop
 mul-same-literals c = omega (arith, part c.before.before)
 
-sub-same-literals : tie.Need-overflow-sub-same-literals invariant-loop decreases-loop
+sub-same-literals : tie.Need-slice_bounds-same_literals-count invariant-loop decreases-loop
 sub-same-literals c = search rules
 
-part-same-literals-start : tie.Need-slice-bounds-same-literals-start invariant-loop decreases-loop
+part-same-literals-start : tie.Need-slice_bounds-same_literals-start invariant-loop decreases-loop
 part-same-literals-start c = search rules
 
-part-same-literals-end : tie.Need-slice-bounds-same-literals-end invariant-loop decreases-loop
-part-same-literals-end c = let h = part c.before.before in let f = c.before.before.before.before.before.requires.first in search rules
+part-same-literals-end : tie.Need-slice_bounds-same_literals-end invariant-loop decreases-loop
+part-same-literals-end c = let h = part c.before.before in let f = c.requires.first in search rules
 
-mul-same-literals-2 : tie.Need-overflow-mul-same-literals-2 invariant-loop decreases-loop
+mul-same-literals-2 : tie.Need-offset_bounds-new-start invariant-loop decreases-loop
 mul-same-literals-2 c = omega (arith, part c.before.before.before)
 
-sub-same-literals-2 : tie.Need-overflow-sub-same-literals-2 invariant-loop decreases-loop
+sub-same-literals-2 : tie.Need-slice_bounds-same_literals-count-in-loop-i invariant-loop decreases-loop
 sub-same-literals-2 c = search rules
 
-part-same-literals-start-2 : tie.Need-slice-bounds-same-literals-start-2 invariant-loop decreases-loop
+part-same-literals-start-2 : tie.Need-slice_bounds-same_literals-start-in-loop-i invariant-loop decreases-loop
 part-same-literals-start-2 c = search rules
 
-part-same-literals-end-2 : tie.Need-slice-bounds-same-literals-end-2 invariant-loop decreases-loop
-part-same-literals-end-2 c = let h = part c.before.before.before in let f = c.before.before.before.before.before.before.requires.second in search rules
+part-same-literals-end-2 : tie.Need-slice_bounds-same_literals-end-in-loop-i invariant-loop decreases-loop
+part-same-literals-end-2 c = let h = part c.before.before.before in let f = c.requires.second in search rules
 
-same-literals-requires : tie.Need-same-literals-requires invariant-loop decreases-loop
-same-literals-requires c κs = ap length (lent c.before.before.before.before c.before.before.before.before.before.before.before.args.old.now) ∙ size c.before.before.before.before c.before.before.before.before.before.before.before.args.old.now c.before.before.before.before.before.before.before.requires.first ∙ sym (size c.before.before.before.before c.before.before.before.before.before.before.before.args.new.now c.before.before.before.before.before.before.before.requires.second) ∙ sym (ap length (lent c.before.before.before.before c.before.before.before.before.before.before.before.args.new.now))
+same-literals-requires : tie.Need-same_literals-requires invariant-loop decreases-loop
+same-literals-requires c κs = ap length (lent c.before.before.before.before c.args.old.now) ∙ size c.before.before.before.before c.args.old.now c.requires.first ∙ sym (size c.before.before.before.before c.args.new.now c.requires.second) ∙ sym (ap length (lent c.before.before.before.before c.args.new.now))
 
-returns : tie.Need-returns invariant-loop decreases-loop
-returns c = let a = c.before.before.before.before.before.before.before.before.before.args in sym (below_stop (same a.clauses.now a.old.now a.new.now) c.before.before.before.before.before.before.before.loop.i c.before.before.before.before.before.before.loop-test.true (sym (told c.before) ∙ not-true _ c.if1.true)) ∙ c.before.before.before.before.before.before.before.loop.invariant.1
+returns : tie.Need-returns-then-not-same_literals invariant-loop decreases-loop
+returns c = let a = c.args in sym (below_stop (same a.clauses.now a.old.now a.new.now) c.loop-i.i c.loop-i-test.true (sym (told c.before) ∙ c.if-not-same_literals.true)) ∙ c.loop-i.invariant.1
 
-loop-less : tie.Need-loop-smaller invariant-loop decreases-loop
+loop-less : tie.Need-loop-i-smaller invariant-loop decreases-loop
 loop-less c = search rules
 
-loop-again : tie.Need-loop-preserved invariant-loop decreases-loop
-loop-again c = let a = c.before.before.before.before.before.before.before.before.before.args in (omega arith, below_next (same a.clauses.now a.old.now a.new.now) c.before.before.before.before.before.before.before.loop.i c.before.before.before.before.before.before.loop-test.true (sym (told c.before) ∙ not-false _ c.if1.false) ∙ c.before.before.before.before.before.before.before.loop.invariant.1)
+loop-again : tie.Need-loop-i-preserved invariant-loop decreases-loop
+loop-again c = let a = c.args in (omega arith, below_next (same a.clauses.now a.old.now a.new.now) c.loop-i.i c.loop-i-test.true (sym (told c.before) ∙ c.if-not-same_literals.false) ∙ c.loop-i.invariant.1)
 
-returns-2 : tie.Need-returns-2 invariant-loop decreases-loop
-returns-2 c = let a = c.before.before.before.args in sym (below_none (same a.clauses.now a.old.now a.new.now) c.before.loop.i c.loop-test.false) ∙ c.before.loop.invariant.1
+returns-2 : tie.Need-returns invariant-loop decreases-loop
+returns-2 c = let a = c.args in sym (below_none (same a.clauses.now a.old.now a.new.now) c.loop-i.i c.loop-i-test.false) ∙ c.loop-i.invariant.1
 
-pub same-parts-spec : {M : Type 1} → statement M
-same-parts-spec =
+pub same_parts_spec : {M : Type 1} → statement M
+same_parts_spec =
     tie.close
     (tie.spec
     invariant-loop

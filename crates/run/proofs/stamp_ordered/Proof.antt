@@ -7,32 +7,32 @@ use borrow.Author.Rules.{rules}
 use Rattle.run.proofs.stamp_ordered.Statement.{statement}
 use Rattle.run.proofs.stamp_ordered.Tie as tie
 
-ask-ordered-requires : tie.Need-ask-ordered-requires
-ask-ordered-requires c κs = runs_formed c.before.before.requires
+ask-ordered-requires : tie.Need-ask_ordered-ruling-requires
+ask-ordered-requires c κs = runs_formed c.requires
 
-enum_told : tie.Need-enum-told
+enum_told : tie.Need-enum_told-1
 enum_told c = search rules
 
-enum-told-2 : tie.Need-enum-told-2
+enum-told-2 : tie.Need-enum_told-in-Fit
 enum-told-2 c = search rules
 
-stamp-acyclic-requires : tie.Need-stamp-acyclic-requires
-stamp-acyclic-requires c κs = let s = c.before.before.before.before.before.before.before in let K = runs_known s.requires s.args.order.now (sym (c.before.before.before.before.ask-ordered.ensures s.args.times.now s.args.links.now) ∙ c.before.before.enum-told2.given.1) in ((known_proper K, K.full), known_records K)
+stamp-acyclic-requires : tie.Need-stamp_acyclic-outcome-requires
+stamp-acyclic-requires c κs = let K = runs_known c.requires c.args.order.now (sym (c.ask_ordered-ruling.ensures c.args.times.now c.args.links.now) ∙ c.in-Fit.is) in ((known_proper K, K.full), known_records K)
 
-returns : tie.Need-returns
-returns c = let s = c.before.before.before.before.before in ap between (stamp_refused s.requires s.args.order.now c.enum_told.given.0.0 (sym (c.before.before.ask-ordered.ensures s.args.times.now s.args.links.now) ∙ c.enum_told.given.1))
+returns : tie.Need-returns-in-No
+returns c = ap between (stamp_refused c.requires c.args.order.now c.in-No.field-0 (sym (c.ask_ordered-ruling.ensures c.args.times.now c.args.links.now) ∙ c.in-No.is))
 
-same_length : tie.Need-same-length
+same_length : tie.Need-shape_of-times
 same_length c = search rules
 
-same-length-2 : tie.Need-same-length-2
+same-length-2 : tie.Need-shape_of-links
 same-length-2 c = search rules
 
-returns-2 : tie.Need-returns-2
-returns-2 c = let s = c.before.before.before.before.before.before.before.before.before.before.before.before in ap between (c.before.before.before.before.stamp-acyclic.ensures s.args.variables.now ∙ stamp_fit s.requires s.args.order.now (sym (c.before.before.before.before.before.before.before.before.before.ask-ordered.ensures s.args.times.now s.args.links.now) ∙ c.before.before.before.before.before.before.before.enum-told2.given.1))
+returns-2 : tie.Need-returns-in-Fit
+returns-2 c = ap between (c.stamp_acyclic-outcome.ensures c.args.variables.now ∙ stamp_fit c.requires c.args.order.now (sym (c.ask_ordered-ruling.ensures c.args.times.now c.args.links.now) ∙ c.in-Fit.is))
 
-pub stamp-ordered-spec : {M : Type 1} → statement M
-stamp-ordered-spec =
+pub stamp_ordered_spec : {M : Type 1} → statement M
+stamp_ordered_spec =
     tie.close
     (tie.spec
     ask-ordered-requires

@@ -16,47 +16,47 @@ use Rattle.run.proofs.stamp_turned.Statement.{statement}
 use Rattle.run.proofs.stamp_turned.Tie as tie
 
 -- what is lent of the place afterwards is the order
-front : (c : tie.After-write-order) → take (2 * c.before.before.before.before.args.st.v) (c.write-order.new.0 ++ drop (2 * c.before.before.before.before.args.st.v) c.before.before.before.before.args.place.now) ≡ order_of c.before.before.before.before.args.st.v c.before.before.before.before.args.k
-front c = take_at c.write-order.new.0 (drop (2 * c.before.before.before.before.args.st.v) c.before.before.before.before.args.place.now) (2 * c.before.before.before.before.args.st.v) (ap length c.write-order.ensures ∙ order_length c.before.before.before.before.args.st.v c.before.before.before.before.args.k) ∙ c.write-order.ensures
+front : (c : tie.After-write_order) → take (2 * c.args.st.v) (c.write_order.new.order ++ drop (2 * c.args.st.v) c.args.place.now) ≡ order_of c.args.st.v c.args.k
+front c = take_at c.write_order.new.order (drop (2 * c.args.st.v) c.args.place.now) (2 * c.args.st.v) (ap length c.write_order.ensures ∙ order_length c.args.st.v c.args.k) ∙ c.write_order.ensures
 
-cast-size : tie.Need-overflow-cast-size
+cast-size : tie.Need-overflow_cast-size
 cast-size c = search rules
 
-mul-size : tie.Need-overflow-mul-size
+mul-size : tie.Need-overflow_mul-size
 mul-size c = search rules
 
-slice-relend-prefix-write-order : tie.Need-slice-relend-prefix-write-order
+slice-relend-prefix-write-order : tie.Need-slice_bounds-write_order-end
 slice-relend-prefix-write-order c = search rules
 
-slice-aggregate-write-order : tie.Need-slice-aggregate-write-order
-slice-aggregate-write-order c = sym (length-take-le (2 * c.before.before.before.args.st.v) c.before.before.before.args.place.now (omega (arith, c.before.before.before.requires.0.shape.v-limit, c.before.before.before.requires.1)))
+slice-aggregate-write-order : tie.Need-slice_bounds-write_order-end-2
+slice-aggregate-write-order c = sym (length-take-le (2 * c.args.st.v) c.args.place.now (omega (arith, c.requires.0.shape.v_limit, c.requires.1)))
 
-write-order-requires : tie.Need-write-order-requires
-write-order-requires c κs = (length-take-le (2 * c.before.before.before.args.st.v) c.before.before.before.args.place.now (omega (arith, c.before.before.before.requires.0.shape.v-limit, c.before.before.before.requires.1)), c.before.before.before.requires.0.shape.v-limit)
+write-order-requires : tie.Need-write_order-requires
+write-order-requires c κs = (length-take-le (2 * c.args.st.v) c.args.place.now (omega (arith, c.requires.0.shape.v_limit, c.requires.1)), c.requires.0.shape.v_limit)
 
-slice-reshare-prefix-stamp-ordered : tie.Need-slice-reshare-prefix-stamp-ordered
+slice-reshare-prefix-stamp-ordered : tie.Need-slice_bounds-stamp_ordered-end
 slice-reshare-prefix-stamp-ordered c = search rules
 
-slice-aggregate-stamp-ordered : tie.Need-slice-aggregate-stamp-ordered
-slice-aggregate-stamp-ordered c = sym (ap length (front c.before.before.before.before) ∙ order_length c.before.before.before.before.before.before.before.before.args.st.v c.before.before.before.before.before.before.before.before.args.k)
+slice-aggregate-stamp-ordered : tie.Need-slice_bounds-stamp_ordered-end-2
+slice-aggregate-stamp-ordered c = sym (ap length (front c.before.before.before) ∙ order_length c.args.st.v c.args.k)
 
-stamp-ordered-requires : tie.Need-stamp-ordered-requires
+stamp-ordered-requires : tie.Need-stamp_ordered-requires
 stamp-ordered-requires c κs = search rules
 
-same_length : tie.Need-same-length
+same_length : tie.Need-shape_of-times
 same_length c = search rules
 
-same-length-2 : tie.Need-same-length-2
+same-length-2 : tie.Need-shape_of-links
 same-length-2 c = search rules
 
-same-length-3 : tie.Need-same-length-3
+same-length-3 : tie.Need-shape_of-place
 same-length-3 c = search rules
 
 returns : tie.Need-returns
-returns c = let a = c.before.before.before.before.before.before.before.before.before.before.before.before.args in c.before.before.before.stamp-ordered.ensures ∙ ap (λ (o : List ℤ). between (stamp_ordered o (tables a.clauses.now a.literals.now a.variables.now a.times.now a.links.now) a.st)) (front c.before.before.before.before.before.before.before.before)
+returns c = let a = c.args in c.stamp_ordered.ensures ∙ ap (λ (o : List ℤ). between (stamp_ordered o (tables a.clauses.now a.literals.now a.variables.now a.times.now a.links.now) a.st)) (front c.before.before.before.before.before.before.before)
 
-pub stamp-turned-spec : {M : Type 1} → statement M
-stamp-turned-spec =
+pub stamp_turned_spec : {M : Type 1} → statement M
+stamp_turned_spec =
     tie.close
     (tie.spec
     cast-size

@@ -1,5 +1,6 @@
 -- `settle::settle` meets its contract. Assumes nothing.
 use mathlib.Core.Path.{◌∙◌}
+use borrow.Author.Tests.{not-true, not-false}
 use Rattle.settle.specs.Own.{owns}
 use Rattle.settle.proofs.Settling.{Settling, settling_none, settling_done, settling_less, settling_next}
 use Rattle.settle.proofs.settle.Statement.{statement}
@@ -28,15 +29,15 @@ same-length-3 c = c.settle_once-step.auto.variables ∙ c.loop-state.invariant.s
 
 returns : tie.Need-returns-then-not-step invariant-loop decreases-loop
 returns c = let x = c.settle_once-step in
-    settling_done c.loop-state.invariant x.result.state x.result.again x.new.clauses x.new.literals x.new.variables x.ensures c.if-not-step.true
+    settling_done c.loop-state.invariant x.result.state x.result.again x.new.clauses x.new.literals x.new.variables x.ensures (not-true _ c.if-not-step.true)
 
 loop-less : tie.Need-loop-state-smaller invariant-loop decreases-loop
 loop-less c = let x = c.settle_once-step in
-    settling_less c.loop-state.invariant x.result.state x.result.again x.new.clauses x.new.literals x.new.variables x.ensures c.if-not-step.false
+    settling_less c.loop-state.invariant x.result.state x.result.again x.new.clauses x.new.literals x.new.variables x.ensures (not-false _ c.if-not-step.false)
 
 loop-again : tie.Need-loop-state-preserved invariant-loop decreases-loop
 loop-again c = let x = c.settle_once-step in
-    settling_next c.loop-state.invariant x.result.state x.result.again x.new.clauses x.new.literals x.new.variables x.ensures c.if-not-step.false x.auto.clauses x.auto.literals x.auto.variables
+    settling_next c.loop-state.invariant x.result.state x.result.again x.new.clauses x.new.literals x.new.variables x.ensures (not-false _ c.if-not-step.false) x.auto.clauses x.auto.literals x.auto.variables
 
 pub settle_spec : {M : Type 1} → statement M
 settle_spec =
