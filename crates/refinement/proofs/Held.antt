@@ -99,6 +99,8 @@ Spent (Merge i) = Unit
 Spent (Sweep i) = ⊥
 
 at_spent : (p : Pass) (c : ℕ) → At p c → Spent p → ⊥
+at_spent (Merge _) c a s = elim a [ ]
+at_spent (Propagate _ _) c a s = elim a [ ]
 at_spent Idle c a s = s
 at_spent (Sweep i) c a s = s
 

@@ -106,10 +106,14 @@ Begins (Merge i) k = ⊥
 Begins (Sweep i) k = k ≡ i
 
 at_cursor : (p : Pass) (c k : ℕ) → At p c → Begins p k → c ≡ k
+at_cursor (Merge _) c k a b = elim a [ ]
+at_cursor (Propagate _ _) c k a b = elim a [ ]
 at_cursor Idle c k a b = a ∙ sym b
 at_cursor (Sweep i) c k a b = a ∙ sym b
 
 begins_unmerged : (p : Pass) (k : ℕ) → Begins p k → NoMerge p
+begins_unmerged (Merge _) k b = elim b [ ]
+begins_unmerged (Propagate _ _) k b = elim b [ ]
 begins_unmerged Idle k b = tt
 begins_unmerged (Sweep i) k b = tt
 

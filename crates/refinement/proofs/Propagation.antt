@@ -77,7 +77,7 @@ module _ {v n : ℕ} {t : Tables} {k : core.Core} (F : FormedIn v n t) (R : Repr
   visit_follows changed = fate_follows v n i changed (fate_at (propagate_clause t.variables) i t) t k fate_simulated
 
 -- moves after moves
-pub moves_join : {v : ℕ} {a b c : core.Core} {x y z : Freshness} → Moves v a x b y → Moves v b y c z → Moves v a x c z
+pub moves_join : {v : ℕ} {a b : core.Core} {x y : Freshness} {c : core.Core} {z : Freshness} → Moves v a x b y → Moves v b y c z → Moves v a x c z
 moves_join m stay = m
 moves_join m (go n step) = go (moves_join m n) step
 

@@ -33,7 +33,7 @@ module _ (c : tie.After-make_round-turn invariant-loop decreases-loop) where
   kept = let x = c.make_round-turn in record { clauses = x.auto.clauses; literals = x.auto.literals; variables = x.auto.variables; times = x.auto.times; links = x.auto.links }
 
   places : Places c.make_round-turn.new.kept c.make_round-turn.new.parts c.make_round-turn.new.rows
-  places = let x = c.make_round-turn in let i = reached.loop-k.inv.1 in record {
+  places = let x = c.make_round-turn in let i = reached.loop-k.invariant.1 in record {
     first = x.auto.kept ∙ i.first;
     second = x.auto.parts ∙ i.second;
     third = x.auto.rows ∙ i.third;

@@ -7,36 +7,34 @@ use borrow.Author.Rules.{rules}
 use Rattle.simplify.proofs.run_loaded.Statement.{statement}
 use Rattle.simplify.proofs.run_loaded.Tie as tie
 
-returns : tie.Need-returns
+returns : tie.Need-returns-then-st
 returns c =
-    let s = c.before.before.before.before in
-    marked_load s.args.loaded.state.mark s.args.rounds (after s.args.loaded (tables s.args.clauses.now s.args.literals.now s.args.variables.now s.args.times.now s.args.links.now)) c.if1.true
+    marked_load c.args.loaded.state.mark c.args.rounds (after c.args.loaded (tables c.args.clauses.now c.args.literals.now c.args.variables.now c.args.times.now c.args.links.now)) c.if-st.true
 
 run-requires : tie.Need-run-requires
 run-requires c κs = search rules
 
-same_length : tie.Need-same-length
+same_length : tie.Need-shape_of-clauses
 same_length c = search rules
 
-same-length-2 : tie.Need-same-length-2
+same-length-2 : tie.Need-shape_of-literals
 same-length-2 c = search rules
 
-same-length-3 : tie.Need-same-length-3
+same-length-3 : tie.Need-shape_of-variables
 same-length-3 c = search rules
 
-same-length-4 : tie.Need-same-length-4
+same-length-4 : tie.Need-shape_of-times
 same-length-4 c = search rules
 
-same-length-5 : tie.Need-same-length-5
+same-length-5 : tie.Need-shape_of-links
 same-length-5 c = search rules
 
-returns-2 : tie.Need-returns-2
+returns-2 : tie.Need-returns
 returns-2 c =
-    let s = c.before.before.before.before.before.before.before.before.before.before.before.before.before.before.before.before.before in
-    c.before.before.before.before.before.before.before.run.ensures ∙ unmarked_load s.args.loaded.state.mark s.args.rounds (after s.args.loaded (tables s.args.clauses.now s.args.literals.now s.args.variables.now s.args.times.now s.args.links.now)) c.before.before.before.before.before.before.before.before.before.before.before.before.before.if1.false
+    c.run.ensures ∙ unmarked_load c.args.loaded.state.mark c.args.rounds (after c.args.loaded (tables c.args.clauses.now c.args.literals.now c.args.variables.now c.args.times.now c.args.links.now)) c.if-st.false
 
-pub run-loaded-spec : {M : Type 1} → statement M
-run-loaded-spec =
+pub run_loaded_spec : {M : Type 1} → statement M
+run_loaded_spec =
     tie.close
     (tie.spec
     returns
