@@ -248,7 +248,7 @@ fn next_token<'a>(r: Reader<'a>) -> Token
 }
 
 // The token that a reader at `at` gives. Every token of a load comes from here. The loop that judges a text keeps the reader's
-// offset and not the reader: a function with a local that holds a reference is proved by hand, and that loop is long.
+// offset and not the reader.
 fn token_from(text: &[u8], at: usize) -> Token
     ensures { result ≡ token_of (words_at (drop at text.now) at) }
 {

@@ -47,6 +47,7 @@ module _ (steps : ℕ) (C : List ℤ) (t : Tables) (st : State) (w : Places) whe
     stale false = refl
 
     opens : (p : Pass) (mark : Bool) → NoSweep p → number_of (learn_opening (opening_by p mark) C t st w) ≡ (sweep_by (entry_by own.Sweep p mark) steps t st).reply.number
+    opens (Sweep _) mark n = elim n [ ]
     opens Idle true n = refl
     opens Idle false n = stale st.fresh
     opens (Propagate cursor changed) mark n = refl
