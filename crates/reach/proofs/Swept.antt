@@ -51,6 +51,9 @@ swept_lasting vars σ f = record { step = by }
 
 -- a call that may follow keeps what is kept behind a Stamp
 follows_held : {P : ℕ → Core → Freshness → Type 0} → Lasting P → (c : Call) → Follows c → (t : Tables) (st : State) → HeldBy P t st → HeldBy P (call_on c t st).tables (call_on c t st).state
+follows_held {P = P} lasting (lists.merge _) may t st H = elim may [ ]
+follows_held {P = P} lasting (lists.propagate _) may t st H = elim may [ ]
+follows_held {P = P} lasting (lists.stamp _) may t st H = elim may [ ]
 follows_held lasting lists.failed may t st H = failed_held lasting t st H
 follows_held lasting (lists.sweep steps) may t st H = sweep_held lasting steps t st H
 follows_held lasting (lists.programme codes) may t st H = programme_held codes t st H

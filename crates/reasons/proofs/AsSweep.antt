@@ -52,6 +52,7 @@ sweep_opens steps t st n = by (shape_ok t st)
     stale false = refl
 
     opens : (p : Pass) (mark : Bool) → NoSweep p → (sweep_by (entry_by own.Sweep p mark) steps t st).reply.number ≡ opening_number (opening_by p mark) st.fresh
+    opens (Sweep _) mark d = elim d [ ]
     opens Idle true d = refl
     opens Idle false d = stale st.fresh
     opens (Propagate cursor changed) mark d = refl
