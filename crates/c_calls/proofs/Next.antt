@@ -67,6 +67,6 @@ told_found m t s a kept e = let placed : Placed m.state = left_placed m t (state
   tables = refl;
 }
 
--- THE LAW, with `calls-keep` for each call
+-- THE LAW, with `calls_keep` for each call
 pub next_call : (call : Tables → State → After) → Keeps call → (t : Tables) (s a : List ℕ) → ready s a ≡ true → Found (call t (state_of s)) (call_c call t s a)
 next_call call keeps t s a e = rw (called call t s a e) (told_found (call t (state_of s)) t s a (keeps t (state_of s)) e)

@@ -70,7 +70,7 @@ module _ (t : Tables) (s a sizes : List ℕ) (learnt : List ℤ) (w : List ℕ) 
       window_kept (inl made) = inl made.0
       window_kept (inr same) = inr same.2
 
-  -- THE LAW, with `load-with-keeps` or `join-with-keeps`
+  -- THE LAW, with `load_with_keeps` or `join_with_keeps`
   pub next_load : (call : Tables → State → Places → AfterWindow) → KeepsWith call → FoundLoad (call t (state_of s) (places sizes learnt (window_at w))) (load_c call t s a sizes learnt w)
   next_load call keeps = rw (called_load call t s a sizes learnt w e) (told_load_found (call t (state_of s) (places sizes learnt (window_at w))) (keeps t (state_of s) (places sizes learnt (window_at w))))
 
@@ -93,12 +93,12 @@ module _ (t : Tables) (s a sizes : List ℕ) (learnt : List ℤ) (w : List ℕ) 
     window = window_next m sizes learnt w only.2;
   }
 
-  -- THE LAW, with `learn-only`
+  -- THE LAW, with `learn_only`
   pub next_learn : (call : Tables → State → Places → AfterWindow) → KeepsOnly call → FoundLearn t s (call t (state_of s) (places sizes learnt (window_at w))) (learn_c call t s a sizes learnt w)
   next_learn call keeps = rw (called_learn call t s a sizes learnt w e) (told_learn_found (call t (state_of s) (places sizes learnt (window_at w))) (keeps t (state_of s) (places sizes learnt (window_at w))))
 
 -- ---- a call that does not take the window, which keeps its numbers
 
--- THE LAW, with `calls-keep` for each call
+-- THE LAW, with `calls_keep` for each call
 pub next_beside : (call : Tables → State → After) → Keeps call → (t : Tables) (s a w : List ℕ) → ready_with s a w ≡ true → ready_with (call_c call t s a).state (call_c call t s a).answer w ≡ true
 next_beside call keeps t s a w e = with_able (call_c call t s a).state (call_c call t s a).answer w (next_call call keeps t s a (with_ready s a w e)).able (with_long s a w e)

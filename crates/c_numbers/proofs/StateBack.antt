@@ -35,7 +35,7 @@ pass_readable_lem (Propagate cursor false) = refl
 pass_readable_lem (Merge cursor) = refl
 pass_readable_lem (Sweep cursor) = refl
 
--- a programme that has its 32 places, as every one has that a call leaves (laws `calls-keep` and `load-with-keeps`, crate c_calls)
+-- a programme that has its 32 places, as every one has that a call leaves (laws `calls_keep` and `load_with_keeps`, crate c_calls)
 abbrev pub Placed : State → Type 0
 Placed st = length st.programme.codes ≡ 32
 

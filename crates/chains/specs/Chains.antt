@@ -15,7 +15,7 @@ unfoldable pub climb : List ℤ → ℕ → ℤ → ℤ → List ℤ → List �
 climb links zero top l below = l ∷ below
 climb links (suc steps) top l below = elim (eq_z l top) [ true ↦ l ∷ below | false ↦ climb links steps top (parent_in links (slot_of l)) (l ∷ below) ]
 
--- the chain between two ends. There are at most 2,048 literals, and under fresh stamps a climb to a literal that holds the other ends within 2,047 steps (law `chain-descends`)
+-- the chain between two ends. There are at most 2,048 literals, and under fresh stamps a climb to a literal that holds the other ends within 2,047 steps (law `chain_descends`)
 unfoldable pub chain_of : List ℤ → Ends → List ℤ
 chain_of links e = climb links 2047 e.top e.bottom []
 

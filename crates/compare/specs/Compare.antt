@@ -25,7 +25,7 @@ comparable times v p q = leb 4096 (length times) && (has_record v p && has_recor
 unfoldable pub compare_call : List ℕ → ℕ → ℤ → ℤ → Comparison
 compare_call times v p q = elim (comparable times v p q) [ true ↦ Answered (compare (interval_of times p) (interval_of times q)) | false ↦ Refused Shape ]
 
--- the same as a rule: an answer is given exactly if it holds (law `compare-given`)
+-- the same as a rule: an answer is given exactly if it holds (law `compare_given`)
 pub record MayCompare (times : List ℕ) (v : ℕ) (p q : ℤ) : Type 0 where
   pub long : 4096 ≤ length times
   pub first : Literal v p

@@ -1,6 +1,7 @@
 pub mod Satisfying
 pub mod Records
 pub mod Stands
+pub mod Standing
 pub mod Ending
 pub mod Texts
 pub mod Refusing

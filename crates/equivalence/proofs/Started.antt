@@ -19,7 +19,7 @@ use Rattle.call_lists.specs.Starts.{Start, load, join, formula_of, verdict_on, S
 use Rattle.refinement.proofs.Starting.{Laid, started_laid}
 use Rattle.refinement.proofs.Demand3.{demand_3, held}
 use Rattle.equivalence.specs.Equivalent.{TextFor}
-use Rattle.equivalence.proofs.Stands.{written_stands}
+use Rattle.equivalence.proofs.Standing.{written_stands}
 
 module _ (b : Started) where
   -- behind any list of calls

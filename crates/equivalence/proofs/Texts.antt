@@ -33,7 +33,7 @@ use Rattle.simplify.specs.Texts.{empty_tables, simplify_in, simplify_text, resul
 use Rattle.state.proofs.Numbers.{number_bounds}
 use Rattle.equivalence.specs.Equivalent.{Equivalent}
 use Rattle.equivalence.specs.Returns.{RefusalLine}
-use Rattle.equivalence.proofs.Stands.{written_stands}
+use Rattle.equivalence.proofs.Standing.{written_stands}
 use Rattle.equivalence.proofs.Ending.{end_from, refused_text, end_stands, end_shape, end_variables, accepted_text}
 
 -- ---- reading it back

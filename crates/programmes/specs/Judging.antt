@@ -1,5 +1,5 @@
 -- The rules decided, and the first code that breaks them. Document 02, CR 5: "Any other is refused with 12 and the index of the first offending code (0 for a wrong length)."
--- `fits_by` and `stamped_by` are what the walk over the codes asks of one code; laws `fits_by` and `stamped-by` say that this is the rule.
+-- `fits_by` and `stamped_by` are what the walk over the codes asks of one code; laws `fits_by_lem` and `stamped_by_lem` say that this is the rule.
 -- Assumes nothing: these are definitions, with the decisions that they need.
 use Rattle.std.specs.Prelude.{ℕ, zero, suc, ◌<◌, ◌≡◌, refl, Bool, true, false, not, ◌&&◌, List, ◌⊎◌, length, leb, ltb}
 use Rattle.std.proofs.Common.{arith, sym, ap, ◌∙◌, inl, inr, ⊎_elim}

@@ -234,7 +234,7 @@ fn propagate_from(
     answer(st, fresh, counts, stand)
 }
 
-// A call that opens the pass: with no clause it is done at once. The tables keep the shape rule: `entry::entry_of` has checked it, and for a run the passes before keep it (`propagate-shaped`, `merge-shaped`).
+// A call that opens the pass: with no clause it is done at once. The tables keep the shape rule: `entry::entry_of` has checked it, and for a run the passes before keep it (`propagate_shaped`, `merge_shaped`).
 pub fn open_pass(
     clauses: &mut [u32],
     literals: &mut [i32],

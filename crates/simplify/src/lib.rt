@@ -30,7 +30,7 @@ fn run_loaded(
     run::run(clauses, literals, variables, times, links, st, rounds)
 }
 
-// Run and Write. A run right after an unmarked load is not refused (law `run-taken`, crate `refinement`), so its answer is not looked at.
+// Run and Write. A run right after an unmarked load is not refused (law `run_taken`, crate `refinement`), so its answer is not looked at.
 fn run_and_write(
     clauses: &mut [u32],
     literals: &mut [i32],

@@ -14,7 +14,7 @@ pub record Stands (t : Tables) (st : State) (τ : Assignment) : Type 0 where
   pub truths : (w : ℕ) → w < st.v → value_of t.variables (w + 1) ≡ pos 1 → τ (w + 1) ≡ true
   pub falsehoods : (w : ℕ) → w < st.v → value_of t.variables (w + 1) ≡ negsuc 0 → τ (w + 1) ≡ false
 
--- the same, read with values at those variables alone that are their own class, as the base had them. Change request 4: "What stands" describes the same assignments (`by-own` of crate refinement)
+-- the same, read with values at those variables alone that are their own class, as the base had them. Change request 4: "What stands" describes the same assignments (`by_own` of crate refinement)
 pub record StandsByOwn (t : Tables) (st : State) (τ : Assignment) : Type 0 where
   pub unmarked : st.mark ≡ false
   pub clauses : (i : ℕ) → i < st.n → standing t.clauses i ≡ 1 → some_true τ (literals_of t.clauses t.literals i) ≡ true
