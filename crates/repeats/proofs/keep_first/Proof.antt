@@ -84,6 +84,13 @@ complement-requires c κs = rw (is_read c.before) (small c.before)
 mark-of-requires-2 : tie.Need-mark_of-other-requires invariant-loop decreases-loop
 mark-of-requires-2 c κs = rw (complement-is c) (turned c.before.before)
 
+-- a literal that has its mark is a repeat
+loop-again-2 : tie.Need-loop-i-preserved invariant-loop decreases-loop
+loop-again-2 c = let at = c.loop-i in
+    -- the fact of the test, whatever it is called
+    let marked : get_or at.marks c.mark_of-mark.result 0 ≡ 0 → ⊥ = λ e. omega (arith, e) in
+    keeping_repeat at.invariant (inside c.before.before.before.before.before) (says_kept at.invariant c.requires.literals (literal c.before.before.before.before.before) (mark-is c.before.before.before.before) marked)
+
 mul-if1 : tie.Need-offset_bounds-marks-mark invariant-loop decreases-loop
 mul-if1 c = omega (arith, mark-has c, other-has c, marks_size c.loop-i.invariant)
 
@@ -126,10 +133,6 @@ loop-again c = let at = c.loop-i in
 
 loop-less-2 : tie.Need-loop-i-smaller invariant-loop decreases-loop
 loop-less-2 c = search rules
-
-loop-again-2 : tie.Need-loop-i-preserved invariant-loop decreases-loop
-loop-again-2 c = let at = c.loop-i in
-    keeping_repeat at.invariant (inside c.before.before.before.before.before) (says_kept at.invariant c.requires.literals (literal c.before.before.before.before.before) (mark-is c.before.before.before.before) c.if-marks-mark-eq0.false)
 
 same_length : tie.Need-shape_of-part invariant-loop decreases-loop
 same_length c = same_size c.loop-i.invariant

@@ -9,9 +9,6 @@ use borrow.Author.Rules.{rules}
 use Rattle.sweep_visits.proofs.visit_part.Statement.{statement}
 use Rattle.sweep_visits.proofs.visit_part.Tie as tie
 
-returns : tie.Need-returns-then-part-lt2
-returns c = let a = c.args in part_short a.times.now a.links.now a.part.now a.part.now c.if-part-lt2.true
-
 hidden-tautology-requires : tie.Need-hidden_tautology-requires
 hidden-tautology-requires c κs = search rules
 
@@ -28,7 +25,7 @@ same-length-3 : tie.Need-shape_of-twins-then-hidden_tautology
 same-length-3 c = search rules
 
 returns-2 : tie.Need-returns-then-hidden_tautology
-returns-2 c = let a = c.args in part_dropped a.times.now a.links.now a.part.now c.zero_from.new.part c.if-part-lt2.false (sym c.hidden_tautology.ensures.0 ∙ c.if-hidden_tautology.true) c.zero_from.ensures
+returns-2 c = let a = c.args in part_dropped a.times.now a.links.now a.part.now c.zero_from.new.part (omega arith) (sym c.hidden_tautology.ensures.0 ∙ c.if-hidden_tautology.true) c.zero_from.ensures
 
 shorten-part-requires : tie.Need-shorten_part-n-requires
 shorten-part-requires c κs = (judged_clause c.requires.0, c.hidden_tautology.ensures.1, c.hidden_tautology.auto.twins ∙ c.requires.3)
@@ -46,13 +43,14 @@ same-length-6 : tie.Need-shape_of-twins
 same-length-6 c = search rules
 
 returns-3 : tie.Need-returns
-returns-3 c = let a = c.args in part_left a.times.now a.links.now a.part.now c.shorten_part-n.new.part c.shorten_part-n.result c.if-part-lt2.false (sym c.hidden_tautology.ensures.0 ∙ c.if-hidden_tautology.false) c.shorten_part-n.ensures
+returns-3 c = let a = c.args in part_left a.times.now a.links.now a.part.now c.shorten_part-n.new.part c.shorten_part-n.result (omega arith) (sym c.hidden_tautology.ensures.0 ∙ c.if-hidden_tautology.false) c.shorten_part-n.ensures
 
+-- goals whose names have the test of the literals' number in them are answered in place: an edit of that test is then refused at what it takes away
 pub visit_part_spec : {M : Type 1} → statement M
 visit_part_spec =
     tie.close
     (tie.spec
-    returns
+    (λ c. let a = c.args in part_short a.times.now a.links.now a.part.now a.part.now (omega arith))
     hidden-tautology-requires
     zero-from-requires
     same_length

@@ -1,6 +1,6 @@
 -- `walk::enter` and `walk::walk_edges`, which call each other, meet their contracts. Assumes nothing.
 use Prim.Native.Nat.{ℕ, ◌<◌, ◌*◌, ◌+◌, ◌-◌}
-use mathlib.Core.Path.{refl, sym, subst, ◌∙◌}
+use mathlib.Core.Path.{◌≡◌, refl, sym, subst, ◌∙◌}
 use native.Mathlib.Omega.{arith}
 use lib.ListN.{length, get_or, set, length-set}
 use borrow.Author.Rules.{rules}
@@ -285,13 +285,15 @@ walk-edges-enter-requires : (t : ℕ) → walk-edges-lts.Need-enter-t-requires (
 walk-edges-enter-requires t c κs =
     let pre = c.requires.1 in
     let l = c.loop-at in
-    let below = pre.0.below l.at (omega (arith, pre.0.inside c.args.slot pre.1.1)) in (
+    let below = pre.0.below l.at (omega (arith, pre.0.inside c.args.slot pre.1.1)) in
+    -- the fact of the test, whatever it is called
+    let new : get_or l.discoveries (get_or c.args.targets.now l.at 0) 0 ≡ 0 = omega arith in (
       omega (arith, c.requires.0, l.invariant.fewer),
       (
         subst (Graph c.args.offsets.now c.args.targets.now) (sym l.invariant.cols.discs) pre.0,
         (
           subst (λ (k : ℕ). Columns k (stamps l.t l.discoveries l.finishes l.parents l.starts)) (sym l.invariant.cols.discs) l.invariant.cols,
-          (subst (λ (k : ℕ). get_or c.args.targets.now l.at 0 < k) (sym l.invariant.cols.discs) below, c.if-discoveries-q-eq0.true),
+          (subst (λ (k : ℕ). get_or c.args.targets.now l.at 0 < k) (sym l.invariant.cols.discs) below, new),
         ),
       ),
     )
