@@ -29,5 +29,5 @@ returns c = λ w.
     let r = c.put_record in
     let clause = sweepable_one c.requires.0 in
     let b : Bounds a.k a.clauses.now c.part_start-start.result c.part_end-end.result = record { starts = c.part_start-start.ensures; ends = c.part_end-end.ensures } in
-    visit_is b a.literals.now w (visitable_inside clause) (sweep_clause (columns a.times.now a.links.now)) (λ e. c.if-flag-eq0.false (c.flag_of-flag.ensures ∙ e)) v.result r.new.clauses v.new.part w
+    visit_is b a.literals.now w (visitable_inside clause) (sweep_clause (columns a.times.now a.links.now)) (λ e. omega (arith, e)) v.result r.new.clauses v.new.part w
     v.ensures (shrinks_variables w (sweep_shrinks (columns a.times.now a.links.now) _)) r.ensures a.times.now a.links.now
