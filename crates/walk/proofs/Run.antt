@@ -6,9 +6,8 @@ use native.Mathlib.Numerals.{add-one}
 use native.Mathlib.Omega.{arith}
 use mathlib.Core.Path.{◌≡◌, refl, sym, ap, subst, ◌∙◌}
 use mathlib.Core.List.{List, [], ◌∷◌, Memᴰ}
-use lib.ListN.{length, get_or, set, take, length-set}
-use lib.Seq.{slice, slice-cons, slice_empty}
-use Rattle.base.proofs.Lists.{mem_take, mem_drop, each_mem}
+use lib.ListN.{length, get_or, set, take, drop, length-set}
+use Rattle.base.proofs.Lists.{mem_take, mem_drop, each_mem, get_d_mem, drop_step, drop_done}
 use Rattle.walk.specs.Walk.{Stamps, arrive, leave, edge, edges, enters, fresh}
 use Rattle.walk.specs.Compressed.{Graph, Columns, adj_of, stamps}
 
@@ -114,14 +113,13 @@ pub graph_inside : (offsets targets : List ℕ) (size : ℕ) → Graph offsets t
 unfolding adj_of
 graph_inside offsets targets size g s q lt m = mem_below targets size g.below (mem_take (get_or offsets (s + 1) 0) targets (mem_drop (get_or offsets s 0) (take (get_or offsets (s + 1) 0) targets) m))
 
--- ---- the loop over a slot's edges: the walk of what is left is the whole walk
+-- ---- a loop that visits the slots of a list: the walk of what is left is the whole walk
 
-pub record Going (offsets targets : List ℕ) (size slot start at₀ end at : ℕ) (σ₀ σ : Stamps) : Type 0 where
-  pub within : at ≤ end
+-- `visit n` visits a slot, with n as the bound on the depth; the loop stands at place i of `slots`
+pub record Going (visit : ℕ → ℕ → Stamps → Stamps) (size : ℕ) (slots : List ℕ) (i : ℕ) (σ₀ σ : Stamps) : Type 0 where
   pub cols : Columns size σ
   pub fewer : fresh σ.discoveries ≤ fresh σ₀.discoveries
-  pub same : (n : ℕ) → fresh σ₀.discoveries ≤ n
-      → edges (λ q. enters n (adj_of offsets targets) start slot q) (slice at end targets) σ ≡ edges (λ q. enters n (adj_of offsets targets) start slot q) (slice at₀ end targets) σ₀
+  pub same : (n : ℕ) → fresh σ₀.discoveries ≤ n → edges (visit n) (drop i slots) σ ≡ edges (visit n) slots σ₀
 
 pub columns_less : (size : ℕ) (σ σ' : Stamps) → Less σ σ' → Columns size σ → Columns size σ'
 columns_less size σ σ' l c =
@@ -135,22 +133,20 @@ columns_less size σ σ' l c =
 
 -- ---- the needs of `enter` and `walk_edges`, as laws of the walk
 
--- what stamping a slot leaves for the walk of its edges
-pub arrived : (offsets targets d f p s : List ℕ) (t slot parent start : ℕ) → Graph offsets targets (length d) → Columns (length d) (stamps t d f p s) → slot < length d → get_or d slot 0 ≡ 0
-    → (Graph offsets targets (length (set d slot (t + 1)))) × ((Columns (length (set d slot (t + 1))) (stamps (t + 1) (set d slot (t + 1)) f (set p slot parent) (set s slot start))) × (slot < length (set d slot (t + 1))))
-arrived offsets targets d f p s t slot parent start g c lt e =
-    let one = fresh_set d slot t lt e in (
-      subst (Graph offsets targets) (sym (length-set d slot (t + 1))) g,
-      (
-        record {
-          discs = refl;
-          fins = c.fins ∙ sym (length-set d slot (t + 1));
-          pars = length-set p slot parent ∙ c.pars ∙ sym (length-set d slot (t + 1));
-          starts = length-set s slot start ∙ c.starts ∙ sym (length-set d slot (t + 1));
-          room = omega (arith, c.room, one);
-        },
-        subst (λ (k : ℕ). slot < k) (sym (length-set d slot (t + 1))) lt,
-      ),
+-- what stamping a slot leaves for the walk of its edges: one slot less is not yet entered, and the time has room
+pub arrived : (size slot parent start : ℕ) (σ : Stamps) → Columns size σ → slot < size → get_or σ.discoveries slot 0 ≡ 0
+    → (fresh σ.discoveries ≡ suc (fresh (arrive start parent slot σ).discoveries)) × Columns size (arrive start parent slot σ)
+unfolding arrive
+arrived size slot parent start σ c lt e =
+    let one = fresh_set σ.discoveries slot σ.time (subst (λ (k : ℕ). slot < k) (sym c.discs) lt) e in (
+      one,
+      record {
+        discs = length-set σ.discoveries slot (σ.time + 1) ∙ c.discs;
+        fins = c.fins;
+        pars = length-set σ.parents slot parent ∙ c.pars;
+        starts = length-set σ.starts slot start ∙ c.starts;
+        room = omega (arith, c.room, one);
+      },
     )
 
 -- what the walk of the edges leaves
@@ -161,49 +157,46 @@ walked offsets targets size n slot start σ σ' g c lt e =
     columns_less size σ σ' (subst (Less σ) (sym e) (edges_less (adj_of offsets targets) size inside (λ q. enters n (adj_of offsets targets) start slot q) (λ q τ l k f. enters_less (adj_of offsets targets) size inside n start slot q τ l k f) (adj_of offsets targets slot) (λ q m. inside slot q lt m) σ c.discs)) c
 
 -- and with the finish stored it is the whole entering
-pub finished : (adj : ℕ → List ℕ) (n slot parent start t r : ℕ) (d f p s d' f' p' s' : List ℕ) → slot < length d → get_or d slot 0 ≡ 0 → fresh d ≤ n
-    → ((m : ℕ) → fresh (set d slot (t + 1)) ≤ m → stamps r d' f' p' s' ≡ edges (λ q. enters m adj start slot q) (adj slot) (stamps (t + 1) (set d slot (t + 1)) f (set p slot parent) (set s slot start)))
-    → stamps (r + 1) d' (set f' slot (r + 1)) p' s' ≡ enters n adj start parent slot (stamps t d f p s)
-unfolding arrive leave
-finished adj n slot parent start t r d f p s d' f' p' s' lt e le walk =
-    let (m, is, enough, step) = enters_step n adj start parent slot (stamps t d f p s) lt e le in
+pub finished : (adj : ℕ → List ℕ) (n slot parent start : ℕ) (σ ω : Stamps) → slot < length σ.discoveries → get_or σ.discoveries slot 0 ≡ 0 → fresh σ.discoveries ≤ n
+    → ((m : ℕ) → fresh (arrive start parent slot σ).discoveries ≤ m → ω ≡ edges (λ q. enters m adj start slot q) (adj slot) (arrive start parent slot σ))
+    → leave slot ω ≡ enters n adj start parent slot σ
+finished adj n slot parent start σ ω lt e le walk =
+    let (m, is, enough, step) = enters_step n adj start parent slot σ lt e le in
     ap (leave slot) (walk m enough) ∙ sym step
 
--- one turn of the loop
-pub going_step : (offsets targets : List ℕ) (size slot start at₀ end at : ℕ) (σ₀ σ σ' : Stamps) → Graph offsets targets size → slot < size → end ≤ length targets → at < end
-    → Going offsets targets size slot start at₀ end at σ₀ σ
-    → ((n : ℕ) → fresh σ₀.discoveries ≤ n → σ' ≡ edge (λ q. enters n (adj_of offsets targets) start slot q) (get_or targets at 0) σ)
-    → Going offsets targets size slot start at₀ end (at + 1) σ₀ σ'
+-- an edge of a slot goes to a slot
+pub edge_below : (offsets targets slots : List ℕ) (size slot i : ℕ) → Graph offsets targets size → slot < size → slots ≡ adj_of offsets targets slot → i < length slots → get_or slots i 0 < size
+edge_below offsets targets slots size slot i g lt is inner =
+    graph_inside offsets targets size g slot (get_or slots i 0) lt (subst (λ (l : List ℕ). Memᴰ (get_or slots i 0) l) is (get_d_mem slots i 0 inner))
+
+-- one turn of the loop, at a slot whose visit keeps what every walk keeps
+pub going_step : (visit : ℕ → ℕ → Stamps → Stamps) (size : ℕ) (slots : List ℕ) (i : ℕ) (σ₀ σ σ' : Stamps) → i < length slots
+    → ((n : ℕ) → get_or σ.discoveries (get_or slots i 0) 0 ≡ 0 → Less σ (visit n (get_or slots i 0) σ))
+    → Going visit size slots i σ₀ σ
+    → ((n : ℕ) → fresh σ₀.discoveries ≤ n → σ' ≡ edge (visit n) (get_or slots i 0) σ)
+    → Going visit size slots (i + 1) σ₀ σ'
 unfolding edges
-going_step offsets targets size slot start at₀ end at σ₀ σ σ' g lt bound less going one =
-    let inside = graph_inside offsets targets size g in
-    let visit : ℕ → ℕ → Stamps → Stamps = λ n q. enters n (adj_of offsets targets) start slot q in
-    let q : ℕ = get_or targets at 0 in
-    let first : Less σ (edge (visit (fresh σ₀.discoveries)) q σ) = edge_cases (Less σ) (visit (fresh σ₀.discoveries)) q σ (λ e. enters_less (adj_of offsets targets) size inside (fresh σ₀.discoveries) start slot q σ going.cols.discs (g.below at (omega arith)) e) (less_refl σ) in
-    let next : Less σ σ' = subst (Less σ) (sym (one (fresh σ₀.discoveries) (le_refl _))) first in
+going_step visit size slots i σ₀ σ σ' lt less going one =
+    let q : ℕ = get_or slots i 0 in
+    let n₀ : ℕ = fresh σ₀.discoveries in
+    let first : Less σ (edge (visit n₀) q σ) = edge_cases (Less σ) (visit n₀) q σ (less n₀) (less_refl σ) in
+    let next : Less σ σ' = subst (Less σ) (sym (one n₀ (le_refl _))) first in
     record {
-      within = omega arith;
       cols = columns_less size σ σ' next going.cols;
       fewer = le_trans next.fewer going.fewer;
       same = λ n le.
-          ap (edges (visit n) (slice (at + 1) end targets)) (one n le)
-          ∙ ap (λ (k : ℕ). edges (visit n) (slice k end targets) (edge (visit n) q σ)) (add-one at)
-          ∙ ap (λ (l : List ℕ). edges (visit n) l σ) (sym (slice-cons at end targets 0 less bound))
+          ap (edges (visit n) (drop (i + 1) slots)) (one n le)
+          ∙ ap (λ (l : List ℕ). edges (visit n) l σ) (sym (drop_step slots i lt))
           ∙ going.same n le;
     }
 
 -- the loop is over
-pub going_done : (offsets targets : List ℕ) (size slot start end at : ℕ) (σ₀ σ : Stamps) → end ≤ at → end ≡ get_or offsets (slot + 1) 0
-    → Going offsets targets size slot start (get_or offsets slot 0) end at σ₀ σ
-    → (n : ℕ) → fresh σ₀.discoveries ≤ n → σ ≡ edges (λ q. enters n (adj_of offsets targets) start slot q) (adj_of offsets targets slot) σ₀
-unfolding edges adj_of
-going_done offsets targets size slot start end at σ₀ σ over is going n le =
-    let visit : ℕ → Stamps → Stamps = λ q. enters n (adj_of offsets targets) start slot q in
-    let level : at ≡ end = omega (arith, going.within) in
-    sym (ap (λ (l : List ℕ). edges visit l σ) (slice_empty end targets))
-    ∙ ap (λ (k : ℕ). edges visit (slice k end targets) σ) (sym level)
-    ∙ going.same n le
-    ∙ ap (λ (k : ℕ). edges visit (slice (get_or offsets slot 0) k targets) σ₀) is
+pub going_done : (visit : ℕ → ℕ → Stamps → Stamps) (size : ℕ) (slots : List ℕ) (i : ℕ) (σ₀ σ : Stamps) → i ≤ length slots → length slots ≤ i
+    → Going visit size slots i σ₀ σ
+    → (n : ℕ) → fresh σ₀.discoveries ≤ n → σ ≡ edges (visit n) slots σ₀
+unfolding edges
+going_done visit size slots i σ₀ σ a b going n le =
+    sym (ap (λ (l : List ℕ). edges (visit n) l σ) (drop_done slots i a b)) ∙ going.same n le
 
 pub stamps_eq : {t t' : ℕ} {d d' f f' p p' s s' : List ℕ} → d ≡ d' → f ≡ f' → p ≡ p' → s ≡ s' → t ≡ t' → stamps t d f p s ≡ stamps t' d' f' p' s'
 stamps_eq d f p s t = λ i. record { time = t i; discoveries = d i; finishes = f i; parents = p i; starts = s i }

@@ -3,7 +3,38 @@
 
 ghost use Rattle.std.specs.Prelude.{◌≡◌, ℕ, ◌+◌, ◌<◌, ◌≤◌, length, get_or, replicate};
 ghost use Rattle.walk.specs.Walk.{enters, start_walk, edge, edges, fresh};
-ghost use Rattle.walk.specs.Compressed.{adj_of, stamps, Graph, Columns};
+ghost use Rattle.walk.specs.Compressed.{adj_of, Graph, Columns};
+ghost use Rattle.walk.specs.Slots.{discoveries_of, finishes_of, parents_of, starts_of, stamps_of};
+
+// A graph in compressed form: slot s has edges to the targets from offset s up to offset s + 1.
+#[derive(Clone, Copy)]
+pub struct CompressedGraph<'a> {
+    pub offsets: &'a [u32],
+    pub targets: &'a [u32],
+}
+
+impl<'a> CompressedGraph<'a> {
+    // The slots that `slot` has edges to, in order.
+    fn edges(self, slot: usize) -> &'a [u32]
+        requires slot_in_bounds { slot + 1 < length self.offsets.now }
+        requires rising { get_or self.offsets.now slot 0 ≤ get_or self.offsets.now (slot + 1) 0 }
+        requires inside { get_or self.offsets.now (slot + 1) 0 ≤ length self.targets.now }
+        ensures { result.now ≡ adj_of self.entry.offsets.now self.entry.targets.now slot }
+    {
+        let begin = self.offsets[slot] as usize;
+        let end = self.offsets[slot + 1] as usize;
+        &self.targets[begin..end]
+    }
+}
+
+// What the walk says of a slot: when it was discovered and finished, from which slot it was entered, and at which slot its tree starts. A slot is not yet entered while its discovery is 0.
+#[derive(Clone, Copy)]
+pub struct SlotStamp {
+    pub discovery: u32,
+    pub finish: u32,
+    pub parent: u32,
+    pub start: u32,
+}
 
 // Enters `slot`, coming from `parent`, in the tree that starts at `start`: stamps it, walks its edges, and returns the time.
 #[cycle(enter_walk_edges)]
@@ -12,37 +43,23 @@ fn enter(
     parent: u32,
     start: u32,
     time: u32,
-    offsets: &[u32],
-    targets: &[u32],
-    discoveries: &mut [u32],
-    finishes: &mut [u32],
-    parents: &mut [u32],
-    starts: &mut [u32],
+    graph: CompressedGraph<'_>,
+    stamps: &mut [SlotStamp],
 ) -> u32
-    requires graph { Graph offsets.now targets.now (length discoveries.old) }
-    requires columns { Columns (length discoveries.old) (stamps time discoveries.old finishes.old parents.old starts.old) }
-    requires slot_in_bounds { (slot < length discoveries.old) × (get_or discoveries.old slot 0 ≡ 0) }
-    ensures { (n : ℕ) → fresh discoveries.old ≤ n →
-        stamps result discoveries.new finishes.new parents.new starts.new
-        ≡ enters n (adj_of offsets.now targets.now) start parent slot
-        (stamps time discoveries.old finishes.old parents.old starts.old) }
+    requires graph { Graph graph.offsets.now graph.targets.now (length stamps.old) }
+    requires columns { Columns (length stamps.old) (stamps_of time stamps.old) }
+    requires slot_in_bounds { (slot < length stamps.old) × (get_or (discoveries_of stamps.old) slot 0 ≡ 0) }
+    ensures { (n : ℕ) → fresh (discoveries_of stamps.old) ≤ n →
+        stamps_of result stamps.new
+        ≡ enters n (adj_of graph.entry.offsets.now graph.entry.targets.now) start parent slot (stamps_of time stamps.old) }
 {
     let discovered = time + 1;
-    discoveries[slot] = discovered;
-    parents[slot] = parent;
-    starts[slot] = start;
-    let finished = walk_edges(
-        slot,
-        start,
-        discovered,
-        offsets,
-        targets,
-        discoveries,
-        finishes,
-        parents,
-        starts,
-    ) + 1;
-    finishes[slot] = finished;
+    let stamp = &mut stamps[slot];
+    stamp.discovery = discovered;
+    stamp.parent = parent;
+    stamp.start = start;
+    let finished = walk_edges(slot, start, discovered, graph, stamps) + 1;
+    stamps[slot].finish = finished;
     finished
 }
 
@@ -52,128 +69,74 @@ fn walk_edges(
     slot: usize,
     start: u32,
     time: u32,
-    offsets: &[u32],
-    targets: &[u32],
-    discoveries: &mut [u32],
-    finishes: &mut [u32],
-    parents: &mut [u32],
-    starts: &mut [u32],
+    graph: CompressedGraph<'_>,
+    stamps: &mut [SlotStamp],
 ) -> u32
-    requires graph { Graph offsets.now targets.now (length discoveries.old) }
-    requires columns { Columns (length discoveries.old) (stamps time discoveries.old finishes.old parents.old starts.old) }
-    requires slot_in_bounds { slot < length discoveries.old }
-    ensures { (n : ℕ) → fresh discoveries.old ≤ n →
-        stamps result discoveries.new finishes.new parents.new starts.new
-        ≡ edges (λ q. enters n (adj_of offsets.now targets.now) start slot q)
-        (adj_of offsets.now targets.now slot)
-        (stamps time discoveries.old finishes.old parents.old starts.old) }
+    requires graph { Graph graph.offsets.now graph.targets.now (length stamps.old) }
+    requires columns { Columns (length stamps.old) (stamps_of time stamps.old) }
+    requires slot_in_bounds { slot < length stamps.old }
+    ensures { (n : ℕ) → fresh (discoveries_of stamps.old) ≤ n →
+        stamps_of result stamps.new
+        ≡ edges (λ q. enters n (adj_of graph.entry.offsets.now graph.entry.targets.now) start slot q)
+        (adj_of graph.entry.offsets.now graph.entry.targets.now slot)
+        (stamps_of time stamps.old) }
 {
     let mut t = time;
-    let mut at = offsets[slot] as usize;
-    let end = offsets[slot + 1] as usize;
-    while at < end {
-        let q = targets[at] as usize;
-        if discoveries[q] == 0 {
-            t = enter(
-                q,
-                slot as u32,
-                start,
-                t,
-                offsets,
-                targets,
-                discoveries,
-                finishes,
-                parents,
-                starts,
-            );
+    for &q in graph.edges(slot) {
+        let is_new = stamps[q as usize].discovery == 0;
+        if is_new {
+            t = enter(q as usize, slot as u32, start, t, graph, stamps);
         }
-        at += 1;
     }
     t
 }
 
 // Starts at `slot`, if it is not yet entered, and returns the time.
-fn start_at(
-    slot: u32,
-    time: u32,
-    offsets: &[u32],
-    targets: &[u32],
-    discoveries: &mut [u32],
-    finishes: &mut [u32],
-    parents: &mut [u32],
-    starts: &mut [u32],
-) -> u32
-    requires graph { Graph offsets.now targets.now (length discoveries.old) }
-    requires columns { Columns (length discoveries.old) (stamps time discoveries.old finishes.old parents.old starts.old) }
-    requires slot_in_bounds { slot < length discoveries.old }
-    ensures { (n : ℕ) → fresh discoveries.old ≤ n →
-        stamps result discoveries.new finishes.new parents.new starts.new
-        ≡ edge (start_walk n (adj_of offsets.now targets.now)) slot
-        (stamps time discoveries.old finishes.old parents.old starts.old) }
+fn start_at(slot: u32, time: u32, graph: CompressedGraph<'_>, stamps: &mut [SlotStamp]) -> u32
+    requires graph { Graph graph.offsets.now graph.targets.now (length stamps.old) }
+    requires columns { Columns (length stamps.old) (stamps_of time stamps.old) }
+    requires slot_in_bounds { slot < length stamps.old }
+    ensures { (n : ℕ) → fresh (discoveries_of stamps.old) ≤ n →
+        stamps_of result stamps.new
+        ≡ edge (start_walk n (adj_of graph.entry.offsets.now graph.entry.targets.now)) slot (stamps_of time stamps.old) }
 {
     let s = slot as usize;
-    if discoveries[s] == 0 {
-        enter(
-            s,
-            slot,
-            slot,
-            time,
-            offsets,
-            targets,
-            discoveries,
-            finishes,
-            parents,
-            starts,
-        )
+    if stamps[s].discovery == 0 {
+        enter(s, slot, slot, time, graph, stamps)
     } else {
         time
     }
 }
 
-// Starts at each slot of `order` that is not yet entered, in order. The graph is compressed by `implications::build`, the columns have a place for each slot, and the order has slots alone.
+// Starts at each slot of `order` that is not yet entered, in order. The graph is compressed by `implications::build`, there is a stamp for each slot, and the order has slots alone.
 pub fn start_each(
     order: &[u32],
     time: u32,
-    offsets: &[u32],
-    targets: &[u32],
-    discoveries: &mut [u32],
-    finishes: &mut [u32],
-    parents: &mut [u32],
-    starts: &mut [u32],
+    graph: CompressedGraph<'_>,
+    stamps: &mut [SlotStamp],
 ) -> u32
-    requires graph { Graph offsets.now targets.now (length discoveries.old) }
-    requires columns { Columns (length discoveries.old) (stamps time discoveries.old finishes.old parents.old starts.old) }
-    requires by_index { (i : ℕ) → i < length order.now → get_or order.now i 0 < length discoveries.old }
-    ensures { (n : ℕ) → fresh discoveries.old ≤ n →
-        stamps result discoveries.new finishes.new parents.new starts.new
-        ≡ edges (start_walk n (adj_of offsets.now targets.now)) order.now
-        (stamps time discoveries.old finishes.old parents.old starts.old) }
+    requires graph { Graph graph.offsets.now graph.targets.now (length stamps.old) }
+    requires columns { Columns (length stamps.old) (stamps_of time stamps.old) }
+    requires by_index { (i : ℕ) → i < length order.now → get_or order.now i 0 < length stamps.old }
+    ensures { (n : ℕ) → fresh (discoveries_of stamps.old) ≤ n →
+        stamps_of result stamps.new
+        ≡ edges (start_walk n (adj_of graph.entry.offsets.now graph.entry.targets.now)) order.now (stamps_of time stamps.old) }
 {
     let mut t = time;
-    let mut k = 0;
-    while k < order.len() {
-        t = start_at(
-            order[k],
-            t,
-            offsets,
-            targets,
-            discoveries,
-            finishes,
-            parents,
-            starts,
-        );
-        k += 1;
+    for &slot in order {
+        t = start_at(slot, t, graph, stamps);
     }
     t
 }
 
-// Sets every entry to 0.
-pub fn clear(discoveries: &mut [u32])
-    ensures { discoveries.new ≡ replicate (length discoveries.old) 0 }
+// Makes every slot one that is not yet entered.
+pub fn clear(stamps: &mut [SlotStamp])
+    ensures discoveries { discoveries_of stamps.new ≡ replicate (length stamps.old) 0 }
+    ensures finishes { finishes_of stamps.new ≡ finishes_of stamps.old }
+    ensures parents { parents_of stamps.new ≡ parents_of stamps.old }
+    ensures starts { starts_of stamps.new ≡ starts_of stamps.old }
 {
-    let mut i = 0;
-    while i < discoveries.len() {
-        discoveries[i] = 0;
-        i += 1;
+    for stamp in stamps.iter_mut() {
+        stamp.discovery = 0;
     }
 }
