@@ -1,6 +1,6 @@
 -- What the functions of the two walks that find the groups ask of their slices and say to each other. No promise is read from these.
 -- Assumes nothing: these are definitions.
-use Rattle.std.specs.Prelude.{ℕ, ◌*◌, ◌≤◌, ◌<◌, ◌≡◌, length, get_or}
+use Rattle.std.specs.Prelude.{ℕ, zero, suc, ◌+◌, ◌-◌, ◌*◌, ◌≤◌, ◌<◌, ◌≡◌, length, get_or}
 use mathlib.Core.List.{List, [], ◌∷◌, Memᴰ}
 use Rattle.walk.specs.Compressed.{adj_of, Graph}
 use Rattle.implications.specs.Skew.{Skew}
@@ -23,6 +23,20 @@ pub record Finishes (finishes : List ℕ) : Type 0 where
   pub few : length finishes ≤ 2048
   pub times : (s : ℕ) → s < length finishes → get_or finishes s 0 ≤ 4096
   pub apart : (s u : ℕ) → s < length finishes → u < length finishes → get_or finishes s 0 ≡ get_or finishes u 0 → s ≡ u
+
+-- how many entries are not 0
+unfoldable pub marked : List ℕ → ℕ
+marked [] = 0
+marked (zero ∷ l) = marked l
+marked (suc k ∷ l) = suc (marked l)
+
+-- an array by time: each slot below s stands at its finish, as one more than itself, and nothing else does
+pub record Timed (finishes at : List ℕ) (s : ℕ) : Type 0 where
+  pub within : s ≤ length finishes
+  pub size : length at ≡ 4097
+  pub count : marked at ≡ s
+  pub placed : (k : ℕ) → k < s → get_or at (get_or finishes k 0) 0 ≡ k + 1
+  pub only : (t : ℕ) → 0 < get_or at t 0 → (get_or at t 0 ≤ s) × (get_or finishes (get_or at t 0 - 1) 0 ≡ t)
 
 -- what `groups` asks: a graph of pairs of slots that taking twins reverses, and a place for each slot in every column
 pub record Mirrored (offsets targets d f p s order rep : List ℕ) : Type 0 where
