@@ -14,11 +14,28 @@ use Rattle.walk.proofs.Run.{arrived, finished, stamps_eq}
 abbrev pub blank_stamp : SlotStamp
 blank_stamp = record { discovery = 0; finish = 0; parent = 0; start = 0 }
 
+-- each column is as long as the stamps are many
+pub discoveries_long : (l : List SlotStamp) → length (discoveries_of l) ≡ length l
+discoveries_long l = length-map l (λ (x : SlotStamp). x.discovery)
+
+pub finishes_long : (l : List SlotStamp) → length (finishes_of l) ≡ length l
+finishes_long l = length-map l (λ (x : SlotStamp). x.finish)
+
+pub parents_long : (l : List SlotStamp) → length (parents_of l) ≡ length l
+parents_long l = length-map l (λ (x : SlotStamp). x.parent)
+
+pub starts_long : (l : List SlotStamp) → length (starts_of l) ≡ length l
+starts_long l = length-map l (λ (x : SlotStamp). x.start)
+
+-- an entry of a column
 pub discovery_at : (l : List SlotStamp) (i : ℕ) → get_or (discoveries_of l) i 0 ≡ (get_or l i blank_stamp).discovery
 discovery_at l i = get_or-map (λ (x : SlotStamp). x.discovery) l i blank_stamp
 
 pub finish_at : (l : List SlotStamp) (i : ℕ) → get_or (finishes_of l) i 0 ≡ (get_or l i blank_stamp).finish
 finish_at l i = get_or-map (λ (x : SlotStamp). x.finish) l i blank_stamp
+
+pub parent_at : (l : List SlotStamp) (i : ℕ) → get_or (parents_of l) i 0 ≡ (get_or l i blank_stamp).parent
+parent_at l i = get_or-map (λ (x : SlotStamp). x.parent) l i blank_stamp
 
 pub start_at : (l : List SlotStamp) (i : ℕ) → get_or (starts_of l) i 0 ≡ (get_or l i blank_stamp).start
 start_at l i = get_or-map (λ (x : SlotStamp). x.start) l i blank_stamp
@@ -101,5 +118,5 @@ pub finished_stamps : (adj : ℕ → List ℕ) (n : ℕ) (l l' : List SlotStamp)
     → stamps_of (r + 1) (leaving l' r slot) ≡ enters n adj start parent slot (stamps_of t l)
 finished_stamps adj n l l' t r slot parent start lt e le walk =
     leaving_is l' r slot
-    ∙ finished adj n slot parent start (stamps_of t l) (stamps_of r l') (subst (λ (k : ℕ). slot < k) (sym (length-map l (λ (x : SlotStamp). x.discovery))) lt) e le
+    ∙ finished adj n slot parent start (stamps_of t l) (stamps_of r l') (subst (λ (k : ℕ). slot < k) (sym (discoveries_long l)) lt) e le
     (subst (λ (σ : Stamps). (m : ℕ) → fresh σ.discoveries ≤ m → stamps_of r l' ≡ edges (λ q. enters m adj start slot q) (adj slot) σ) (arriving_is l t slot parent start) walk)

@@ -6,7 +6,7 @@ use native.Mathlib.Omega.{arith}
 use mathlib.Core.Path.{◌≡◌, refl, sym, ap, subst}
 use mathlib.Core.List.{List, [], ◌∷◌, Memᴰ}
 use lib.ListN.{length, replicate}
-use Rattle.std.proofs.lemmas.List.{length-map}
+use Rattle.walk.proofs.Columns.{discoveries_long, finishes_long, parents_long, starts_long}
 use Rattle.walk.specs.declared.SlotStamp.{SlotStamp}
 use Rattle.walk.specs.Slots.{discoveries_of, stamps_of}
 use Rattle.walk.specs.Walk.{Stamps, edges, start_walk, fresh}
@@ -34,10 +34,10 @@ pub begun : (offsets targets : List ℕ) (l l' : List SlotStamp) → discoveries
 begun offsets targets l l' none len g = (
   subst (Graph offsets targets) (sym len) g,
   record {
-    discs = length-map l' (λ (x : SlotStamp). x.discovery);
-    fins = length-map l' (λ (x : SlotStamp). x.finish);
-    pars = length-map l' (λ (x : SlotStamp). x.parent);
-    starts = length-map l' (λ (x : SlotStamp). x.start);
+    discs = discoveries_long l';
+    fins = finishes_long l';
+    pars = parents_long l';
+    starts = starts_long l';
     room = omega (arith, g.small, ap fresh none, fresh_all (length l));
   },
 )

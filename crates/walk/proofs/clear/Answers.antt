@@ -1,16 +1,14 @@
 -- `walk::clear` meets its contract. Assumes nothing.
 use Rattle.std.proofs.Common.{◌≡◌, ℕ, ◌<◌, List, length, set, refl, sym, subst, ◌∙◌, ap}
-use Rattle.std.proofs.lemmas.List.{length-map}
 use borrow.Author.Fill.{fill_more}
-use Rattle.walk.specs.declared.SlotStamp.{SlotStamp}
 use Rattle.walk.specs.Slots.{discoveries_of}
-use Rattle.walk.proofs.Columns.{discoveries_set, finishes_kept, parents_kept, starts_kept}
+use Rattle.walk.proofs.Columns.{discoveries_set, finishes_kept, parents_kept, starts_kept, discoveries_long}
 use Rattle.walk.proofs.clear.Goals as goal
 
 pub loop-stamp-preserved : goal.loop-stamp-preserved
 loop-stamp-preserved c =
     let l = c.loop-stamp in
-    let columns : length (discoveries_of c.args.stamps.now) ≡ length c.args.stamps.now = length-map c.args.stamps.now (λ (x : SlotStamp). x.discovery) in
+    let columns : length (discoveries_of c.args.stamps.now) ≡ length c.args.stamps.now = discoveries_long c.args.stamps.now in
     record {
       discoveries =
           discoveries_set l.stamps l.stamp-index _
