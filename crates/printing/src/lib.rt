@@ -14,7 +14,6 @@ fn put_byte(out: &mut [u8], at: usize, b: u8) -> usize
 {
     if at < out.len() {
         out[at] = b;
-        return at + 1;
     }
     at + 1
 }
@@ -48,11 +47,9 @@ pub fn put_clause(out: &mut [u8], at: usize, clause: &[i32]) -> usize
     ensures { Stored (clause_text clause.now) at out.old out.new result }
 {
     let mut next = at;
-    let mut i = 0;
-    while i < clause.len() {
-        next = put_literal(out, next, clause[i]);
+    for &l in clause {
+        next = put_literal(out, next, l);
         next = put_byte(out, next, b' ');
-        i += 1;
     }
     next = put_byte(out, next, b'0');
     put_byte(out, next, b'\n')
@@ -63,10 +60,8 @@ fn put_text(out: &mut [u8], at: usize, s: &[u8]) -> usize
     ensures { Stored s.now at out.old out.new result }
 {
     let mut next = at;
-    let mut i = 0;
-    while i < s.len() {
-        next = put_byte(out, next, s[i]);
-        i += 1;
+    for &b in s {
+        next = put_byte(out, next, b);
     }
     next
 }
