@@ -2,7 +2,7 @@
 use Prim.Native.Nat.{ℕ, zero, suc, ◌+◌, ◌*◌, ◌-◌, ◌^◌, ◌≤◌, ◌<◌}
 use native.Mathlib.Omega.{arith}
 use native.Mathlib.Numerals.{add-one}
-use mathlib.Core.Path.{◌≡◌, refl, sym, ap, ◌∙◌}
+use mathlib.Core.Path.{◌≡◌, refl, sym, ap, ◌∙◌, subst}
 use mathlib.Core.Bool.{Bool, true, false}
 use mathlib.Core.List.{List, [], ◌∷◌, ◌++◌, append_assoc}
 use lib.ListN.{length, take, drop, length-append}
@@ -112,6 +112,17 @@ by_clause xs ls (suc m) i h =
 pub standing_gathered : (xs : List ℕ) (ls : List ℤ) (n : ℕ) → 3 * n ≤ length xs → standing_clauses (take (3 * n) xs) ls ≡ gathered (written_at xs ls) n 0
 standing_gathered xs ls n h = by_clause xs ls n 0 (omega arith)
 
+-- ---- the record of variable w
+
+before : (w : ℕ) → 0 < w → w - 1 + 1 ≡ w
+before w h = omega arith
+
+pub unit_of : (xs : List ℤ) (w : ℕ) → 0 < w → unit_at xs (w - 1) ≡ unit_for w (own_value w (class_of xs w) (value_of xs w))
+unit_of xs w h = ap (λ (k : ℕ). unit_for k (own_value k (class_of xs k) (value_of xs k))) (before w h)
+
+pub class_clauses_of : (xs : List ℤ) (w : ℕ) → 0 < w → class_at xs (w - 1) ≡ class_for w (class_of xs w)
+class_clauses_of xs w h = ap (λ (k : ℕ). class_for k (class_of xs k)) (before w h)
+
 -- ---- a loop that stores
 
 -- records from i on are still to be written, from `next` on
@@ -127,17 +138,23 @@ module _ {f : ℕ → List (List ℤ)} {n at : ℕ} {out₀ : List ℕ} {i next 
   text_cons : i < n → clauses_text (gathered f (n - i) i) ≡ clauses_text (f i) ++ clauses_text (gathered f (n - (i + 1)) (i + 1))
   text_cons h = ap clauses_text (gathered_cons f n i h) ∙ text_append (f i) (gathered f (n - (i + 1)) (i + 1))
 
-  pub putting_room : i < n → at + length (clauses_text (gathered f n 0)) < 2 ^ 63 → next + length (clauses_text (f i)) < 2 ^ 63
-  putting_room h k = omega (arith, p.size, ap length (text_cons h), length-append (clauses_text (f i)) (clauses_text (gathered f (n - (i + 1)) (i + 1))))
+  pub putting_room : i < n → {cs : List (List ℤ)} → f i ≡ cs → at + length (clauses_text (gathered f n 0)) < 2 ^ 63 → next + length (clauses_text cs) < 2 ^ 63
+  putting_room h {cs} e k =
+      omega (arith, p.size, ap length (text_cons h), length-append (clauses_text (f i)) (clauses_text (gathered f (n - (i + 1)) (i + 1))), ap (λ (ds : List (List ℤ)). length (clauses_text ds)) e)
 
-  pub putting_step : {next₁ : ℕ} {out₁ : List ℕ} → i < n → Stored (clauses_text (f i)) next out out₁ next₁ → Putting f n at out₀ (i + 1) next₁ out₁
-  putting_step {next₁} {out₁} h s =
+  putting_one : {next₁ : ℕ} {out₁ : List ℕ} → i < n → Stored (clauses_text (f i)) next out out₁ next₁ → Putting f n at out₀ (i + 1) next₁ out₁
+  putting_one {next₁} {out₁} h s =
       let rest : List ℕ = clauses_text (gathered f (n - (i + 1)) (i + 1)) in
       record {
         left = (λ j. sets (s.stored j) (s.next j) rest) ∙ sym (sets_append out next (clauses_text (f i)) rest) ∙ ap (sets out next) (sym (text_cons h)) ∙ p.left;
         size = omega (arith, s.next, p.size, ap length (text_cons h), length-append (clauses_text (f i)) rest);
         same = ap length s.stored ∙ length-sets out next (clauses_text (f i)) ∙ p.same;
       }
+
+  -- record i's clauses are cs, and j is the next record
+  pub putting_step : i < n → {cs : List (List ℤ)} → f i ≡ cs → {j : ℕ} → j ≡ i + 1 → {next₁ : ℕ} {out₁ : List ℕ} → Stored (clauses_text cs) next out out₁ next₁ → Putting f n at out₀ j next₁ out₁
+  putting_step h {cs} e {j} q {next₁} {out₁} s =
+      subst (λ (k : ℕ). Putting f n at out₀ k next₁ out₁) (sym q) (putting_one h (subst (λ (ds : List (List ℤ)). Stored (clauses_text ds) next out out₁ next₁) (sym e) s))
 
   pub putting_end : n ≤ i → Stored (clauses_text (gathered f n 0)) at out₀ out next
   unfolding clauses_text
@@ -153,9 +170,9 @@ pub record Counting (f : ℕ → List (List ℤ)) (n i count : ℕ) : Type 0 whe
 pub counting_begin : (f : ℕ → List (List ℤ)) (n : ℕ) → Counting f n 0 0
 counting_begin f n = let e : n - 0 ≡ n = omega arith in record { left = rw e (omega arith) }
 
-pub counting_step : {f : ℕ → List (List ℤ)} {n i count count₁ : ℕ} → Counting f n i count → i < n → count₁ ≡ count + length (f i) → Counting f n (i + 1) count₁
-counting_step {f} {n} {i} {count} {count₁} p h e = record {
-  left = omega (arith, e, p.left, ap length (gathered_cons f n i h), length-append (f i) (gathered f (n - (i + 1)) (i + 1)));
+pub counting_step : {f : ℕ → List (List ℤ)} {n i count : ℕ} → Counting f n i count → i < n → {cs : List (List ℤ)} → f i ≡ cs → {j : ℕ} → j ≡ i + 1 → {count₁ : ℕ} → count₁ ≡ count + length cs → Counting f n j count₁
+counting_step {f} {n} {i} {count} p h {cs} e {j} q {count₁} a = record {
+  left = rw q (omega (arith, a, p.left, ap length (gathered_cons f n i h), length-append (f i) (gathered f (n - (i + 1)) (i + 1)), ap length e));
 }
 
 pub counting_end : {f : ℕ → List (List ℤ)} {n i count : ℕ} → Counting f n i count → n ≤ i → count ≡ length (gathered f n 0)

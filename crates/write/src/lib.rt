@@ -91,9 +91,7 @@ fn put_units(out: &mut [u8], at: usize, variables: &[i32], v: usize) -> usize
     ensures { Stored (clauses_text (gathered (unit_at variables.now) v 0)) at out.old out.new result }
 {
     let mut next = at;
-    let mut w = 0;
-    while w < v {
-        w += 1;
+    for w in 1..=v {
         next = put_unit(out, next, w, own_value(variables, w));
     }
     next
@@ -105,9 +103,7 @@ fn put_classes(out: &mut [u8], at: usize, variables: &[i32], v: usize) -> usize
     ensures { Stored (clauses_text (gathered (class_at variables.now) v 0)) at out.old out.new result }
 {
     let mut next = at;
-    let mut w = 0;
-    while w < v {
-        w += 1;
+    for w in 1..=v {
         next = put_class(out, next, w, variables[2 * w - 2]);
     }
     next
@@ -119,13 +115,11 @@ fn put_standing(out: &mut [u8], at: usize, clauses: &[u32], literals: &[i32], n:
     ensures { Stored (clauses_text (gathered (written_at clauses.now literals.now) n 0)) at out.old out.new result }
 {
     let mut next = at;
-    let mut i = 0;
-    while i < n {
+    for i in 0..n {
         let start = clauses[3 * i] as usize;
         let len = clauses[3 * i + 1] as usize;
         let flag = clauses[3 * i + 2];
         next = put_if_standing(out, next, literals, start, len, flag);
-        i += 1;
     }
     next
 }
@@ -137,9 +131,7 @@ fn count_units(variables: &[i32], v: usize) -> u32
     ensures { result ≡ length (gathered (unit_at variables.now) v 0) }
 {
     let mut count = 0;
-    let mut w = 0;
-    while w < v {
-        w += 1;
+    for w in 1..=v {
         if own_value(variables, w) != 0 {
             count += 1;
         }
@@ -152,9 +144,7 @@ fn count_classes(variables: &[i32], v: usize) -> u32
     ensures { result ≡ length (gathered (class_at variables.now) v 0) }
 {
     let mut count = 0;
-    let mut w = 0;
-    while w < v {
-        w += 1;
+    for w in 1..=v {
         if variables[2 * w - 2] != w as i32 {
             count += 2;
         }
@@ -167,10 +157,8 @@ fn count_standing(clauses: &[u32], n: usize) -> u32
     ensures { (literals : List ℤ) → result ≡ length (gathered (written_at clauses.now literals) n 0) }
 {
     let mut count = 0;
-    let mut i = 0;
-    while i < n {
-        i += 1;
-        if clauses[3 * i - 1] != 0 {
+    for i in 0..n {
+        if clauses[3 * i + 2] != 0 {
             count += 1;
         }
     }
