@@ -1,12 +1,13 @@
 -- Zeros up to an end, the variables' records, and a load's tables from what was laid. Assumes nothing.
-use mathlib.Core.Path.{◌≡◌, refl, sym, ap, ◌∙◌, subst}
+use mathlib.Core.Path.{◌≡◌, refl, sym, ap, ◌∙◌}
 use mathlib.Core.Bool.{Bool, true, false}
 use mathlib.Core.List.{List, [], ◌∷◌, ◌++◌, append_assoc, append-nil}
 use Prim.Native.Nat.{ℕ, suc, ◌+◌, ◌*◌, ◌-◌, ◌≤◌, ◌<◌}
 use native.Mathlib.Omega.{arith}
 use native.Mathlib.Numerals.{add-one}
-use lib.ListN.{length, take, drop, set, replicate, length-set, length-append, take-append-drop, replicate-append-replicate}
-use lib.Seq.{take-suc-set, drop-set-lt, length-take-le, sets, sets-eq, take_at}
+use lib.ListN.{length, take, drop, set, replicate, length-set, length-append, length-drop}
+use borrow.Rule.Slice.PartMut.{put_mid}
+use lib.Seq.{drop-set-lt, drop-drop, length-take-le, sets, sets-eq, take_at}
 use lib.IntN.{ℤ, pos}
 use Rattle.base.specs.Decide.{Decides, says_yes, agrees}
 use Rattle.state.specs.States.{loaded_state}
@@ -26,43 +27,18 @@ use Rattle.load.specs.Load.{accept, load_by, load_formula, laid, filled, clause_
 use Rattle.load.specs.Laid.{cleared, Layable, LayableBy, either_verdict, either_clauses, LaidBy}
 use Rattle.load.specs.declared.Progress.{Progress}
 
--- ---- zeros from k up to i, on the way to `end`, in a table of any numbers
-pub record Clearing {A : Type 0} (z : A) (p₀ : List A) (k end : ℕ) (p : List A) (i : ℕ) : Type 0 where
-  pub past : k ≤ i
-  pub within : i ≤ end
-  pub room : end ≤ length p
-  pub size : length p ≡ length p₀
-  pub front : take i p ≡ take k p₀ ++ replicate (i - k) z
-  pub beyond : drop end p ≡ drop end p₀
-
+-- ---- zeros from k up to `end`, in a table of any numbers
 module _ {A : Type 0} (z : A) where
-  pub clear_start : {p : List A} {k end : ℕ} → k ≤ end → end ≤ length p → Clearing z p k end p k
-  clear_start {p} {k} h r =
-      let e : k - k ≡ 0 = omega arith in
-      record { past = omega arith; within = h; room = r; size = refl; front = rw (e, append-nil (take k p)); beyond = refl }
+  -- a part of the table that is all zeros is put back
+  pub cleared_part : (p : List A) (k end : ℕ) {d : List A} → k ≤ end → end ≤ length p → d ≡ replicate (length (take (end - k) (drop k p))) z → put_mid k (end - k) p d ≡ cleared z p k end
+  cleared_part p k end {d} h r e =
+      let n : length (take (end - k) (drop k p)) ≡ end - k = length-take-le (end - k) (drop k p) (omega (arith, length-drop k p)) in
+      let s : k + (end - k) ≡ end = omega arith in
+      let behind : drop (end - k) (drop k p) ≡ drop end p = drop-drop (end - k) k p ∙ ap (λ (j : ℕ). drop j p) s in
+      rw (e, n, behind)
 
-  zeros_more : (xs : List A) (a b : ℕ) → b ≤ a → (xs ++ replicate (a - b) z) ++ (z ∷ []) ≡ xs ++ replicate (a + 1 - b) z
-  zeros_more xs a b h =
-      let e : a - b + 1 ≡ a + 1 - b = omega arith in
-      rw (append_assoc, replicate-append-replicate (a - b) 1 z, e)
-
-  pub clear_step : {p₀ p : List A} {k end i : ℕ} → Clearing z p₀ k end p i → i < end → Clearing z p₀ k end (set p i z) (i + 1)
-  clear_step {p₀} {p} {k} {end} {i} f h = record {
-    past = omega (arith, f.past);
-    within = omega arith;
-    room = simp length-set f.room;
-    size = length-set p i z ∙ f.size;
-    front = rw (← zeros_more (take k p₀) i k f.past, add-one i, take-suc-set p i z (omega (arith, f.room)), f.front);
-    beyond = drop-set-lt end p i z h ∙ f.beyond;
-  }
-
-  pub clear_end : {p₀ p : List A} {k end i : ℕ} → Clearing z p₀ k end p i → end ≤ i → p ≡ cleared z p₀ k end
-  clear_end {p₀} {p} {k} {end} {i} f h =
-      let q : i ≡ end = omega (arith, f.within) in
-      sym (take-append-drop end p)
-      ∙ ap (λ (d : List A). take end p ++ d) f.beyond
-      ∙ ap (λ (d : List A). d ++ drop end p₀) (subst (λ (j : ℕ). take j p ≡ take k p₀ ++ replicate (j - k) z) q f.front)
-      ∙ append_assoc (take k p₀) (replicate (end - k) z) (drop end p₀)
+  pub cleared_front : (p : List A) (end : ℕ) {d : List A} → end ≤ length p → d ≡ replicate (length (take end p)) z → d ++ drop end p ≡ cleared z p 0 end
+  cleared_front p end {d} r e = let n : end - 0 ≡ end = omega arith in rw (e, length-take-le end p r, n)
 
   -- what was laid at the front, and zeros behind it
   cleared_filled : (p₀ p xs : List A) (k end : ℕ) → take k p ≡ xs → k ≤ length p → drop end p ≡ drop end p₀ → cleared z p k end ≡ filled z end xs p₀
@@ -78,9 +54,6 @@ pub record Owning (w₀ : List ℤ) (v : ℕ) (w : List ℤ) (i : ℕ) : Type 0 
   pub size : length w ≡ length w₀
   pub front : variable_records 1 v ≡ take (2 * i) w ++ variable_records (i + 1) (v - i)
   pub beyond : drop 2048 w ≡ drop 2048 w₀
-
-pub own_start : (w : List ℤ) (v : ℕ) → v ≤ 1024 → 2048 ≤ length w → Owning w v w 0
-own_start w v h r = let e : v - 0 ≡ v = omega arith in record { within = omega arith; small = h; room = r; size = refl; front = rw e; beyond = refl }
 
 pair_front : (w : List ℤ) (i : ℕ) (a b : ℤ) → 2 * i + 2 ≤ length w → take (2 * (i + 1)) (set (set w (2 * i) a) (2 * i + 1) b) ≡ take (2 * i) w ++ (a ∷ b ∷ [])
 pair_front w i a b h =

@@ -213,8 +213,8 @@ module _ {n : ℕ} {ns : List ℤ} {c₀ : List ℕ} {l₀ : List ℤ} {c : List
     pub lay_next : {l'' : List ℤ} {p'' : Progress} {c'' : List ℕ} → l'' ≡ l' → (p'' ≡ next_clause p w) × (c'' ≡ put_clause_record c p.clauses p.start (kept_size w) (flag w.both)) → Laying n ns c₀ l₀ c'' l'' p''
     lay_next f g = rw (g.0, g.1, f, e) lay_clause
 
-    pub lay_less : {p'' : Progress} → p'' ≡ next_clause p w → n - p''.clauses < n - p.clauses
-    lay_less g = let q = ap (λ (x : Progress). x.clauses) g in omega (arith, q)
+    pub lay_counts : {p'' : Progress} → p'' ≡ next_clause p w → p''.clauses ≡ p.clauses + 1
+    lay_counts g = ap (λ (x : Progress). x.clauses) g
 
 -- ---- no clause is left
 pub laid_all : {n : ℕ} {ns : List ℤ} {c₀ : List ℕ} {l₀ : List ℤ} {c : List ℕ} {l : List ℤ} {p : Progress} → Laying n ns c₀ l₀ c l p → n ≤ p.clauses → LaidBy (clauses_in n ns) c₀ l₀ c l p

@@ -6,7 +6,7 @@ use lib.Dec.{eqb}
 use Prim.Native.Nat.{ℕ, zero, suc, ◌+◌, ◌-◌, ◌≤◌, ◌<◌}
 use native.Mathlib.Omega.{arith}
 use native.Mathlib.Numerals.{add-one}
-use lib.ListN.{length, take, drop, get_or, set, replicate, length-set, length-append, length-replicate, drop_of_length-le}
+use lib.ListN.{length, take, drop, get_or, set, replicate, length-set, length-append, length-replicate}
 use lib.Seq.{drop-cons, sets, sets-eq, length-sets, length-take-le, take_at, drop_at}
 use lib.IntN.{ℤ, pos}
 use borrow.Rule.Slice.PartMut.{put_mid}
@@ -14,10 +14,10 @@ use Rattle.literal.specs.Literals.{Literal}
 use Rattle.literal.specs.Clauses.{distinct, tautology}
 use Rattle.literal.specs.Holding.{holding}
 use Rattle.literal.specs.Ranged.{InClause}
-use Rattle.literal.proofs.Signed.{eq_eq_z, ne_eq_z}
+use Rattle.literal.proofs.Signed.{ne_eq_z}
 use Rattle.repeats.proofs.Repeats.{distinct_short, tautology_distinct}
 use Rattle.dimacs.specs.Numbers.{first_clause}
-use Rattle.load.specs.Laid.{written, kept_size, flag, put_clause_record, progress, next_clause, Collectable}
+use Rattle.load.specs.Laid.{written, kept_size, flag, put_clause_record, progress, next_clause}
 use Rattle.load.specs.declared.Written.{Written}
 use Rattle.load.specs.declared.Progress.{Progress}
 
@@ -28,26 +28,11 @@ pub record Collecting (ns : List ℤ) (at start : ℕ) (l₀ l : List ℤ) (i en
   pub size : length l ≡ length l₀
   pub room : (start + length (first_clause (drop at ns)) ≤ length l₀) × (start + length (first_clause (drop at ns)) ≤ 16384)
 
-pub collect_none : {ns : List ℤ} {at start : ℕ} {l : List ℤ} → Collectable ns at start (length l) → Collecting ns at start l l at start
-collect_none h = record { ends = refl; stores = refl; size = refl; room = (h.room, h.small.1) }
-
--- a clause that begins with 0, with the numbers' end, or with a literal
-clause_zero : (ns : List ℤ) (i : ℕ) → i < length ns → get_or ns i (pos 0) ≡ pos 0 → first_clause (drop i ns) ≡ []
-clause_zero ns i h e = rw (drop-cons ns i (pos 0) h, first_clause, eq_eq_z (get_or ns i (pos 0)) (pos 0) e)
-
-clause_end : (ns : List ℤ) (i : ℕ) → length ns ≤ i → first_clause (drop i ns) ≡ []
-clause_end ns i h = ap first_clause (drop_of_length-le ns h)
-
+-- a clause that begins with a literal
 clause_more : (ns : List ℤ) (i : ℕ) → i < length ns → (get_or ns i (pos 0) ≡ pos 0 → ⊥) → first_clause (drop i ns) ≡ get_or ns i (pos 0) ∷ first_clause (drop (i + 1) ns)
 clause_more ns i h n = rw (drop-cons ns i (pos 0) h, first_clause, ne_eq_z (get_or ns i (pos 0)) (pos 0) n, add-one i)
 
 module _ {ns : List ℤ} {at start : ℕ} {l₀ l : List ℤ} {i end : ℕ} (C : Collecting ns at start l₀ l i end) where
-  pub collect_room : i < length ns → (get_or ns i (pos 0) ≡ pos 0 → ⊥) → end < length l
-  collect_room h n = omega (arith, ap length (clause_more ns i h n), C.ends, C.size, C.room.0)
-
-  pub collect_small : i < length ns → (get_or ns i (pos 0) ≡ pos 0 → ⊥) → end < 16384
-  collect_small h n = omega (arith, ap length (clause_more ns i h n), C.ends, C.room.1)
-
   pub collect_more : i < length ns → (get_or ns i (pos 0) ≡ pos 0 → ⊥) → {x : ℤ} → x ≡ get_or ns i (pos 0) → Collecting ns at start l₀ (set l end x) (i + 1) (end + 1)
   collect_more h n {x} e =
       let m = clause_more ns i h n in
@@ -57,15 +42,6 @@ module _ {ns : List ℤ} {at start : ℕ} {l₀ l : List ℤ} {i end : ℕ} (C :
         size = simp length-set C.size;
         room = C.room;
       }
-
-  collect_stop : first_clause (drop i ns) ≡ [] → (end ≡ start + length (first_clause (drop at ns))) × (l ≡ sets l₀ start (first_clause (drop at ns)))
-  collect_stop e = (omega (arith, ap length e, C.ends), ap (sets l end) (sym e) ∙ C.stores)
-
-  pub collect_zero : i < length ns → get_or ns i (pos 0) ≡ pos 0 → (end ≡ start + length (first_clause (drop at ns))) × (l ≡ sets l₀ start (first_clause (drop at ns)))
-  collect_zero h e = collect_stop (clause_zero ns i h e)
-
-  pub collect_end : length ns ≤ i → (end ≡ start + length (first_clause (drop at ns))) × (l ≡ sets l₀ start (first_clause (drop at ns)))
-  collect_end h = collect_stop (clause_end ns i h)
 
 -- ---- the collected clause is lent on as a part of the literal table, and a list of the same length is put back
 module _ (c l : List ℤ) (start end : ℕ) (e : end ≡ start + length c) (room : start + length c ≤ length l) where

@@ -45,16 +45,13 @@ fn collect(numbers: &[i32], at: usize, literals: &mut [i32], start: usize) -> us
     requires { Collectable numbers.now at start (length literals.old) }
     ensures { (result ≡ start + length (first_clause (drop at numbers.now))) × (literals.new ≡ sets literals.old start (first_clause (drop at numbers.now))) }
 {
-    let mut i = at;
     let mut end = start;
-    while i < numbers.len() {
-        let l = numbers[i];
+    for &l in numbers.iter().skip(at) {
         if l == 0 {
-            return end;
+            break;
         }
         literals[end] = l;
         end += 1;
-        i += 1;
     }
     end
 }
@@ -91,7 +88,7 @@ fn kept_size(c: Written) -> usize
 fn standing_flag(dropped: bool) -> u32
     ensures { result ≡ flag dropped }
 {
-    if dropped { 0 } else { 1 }
+    u32::from(!dropped)
 }
 
 // The record of clause k, counted from 0.
@@ -143,35 +140,11 @@ fn lay_clauses(
         at: 0,
         mark: false,
     };
-    while p.clauses < n {
+    for _k in 0..n {
         let c = lay_literals(numbers, p.at, literals, p.start, marks);
         p = end_clause(clauses, p, c);
     }
     p
-}
-
-// Zeros from `from` up to `end`.
-fn clear_words(table: &mut [u32], from: usize, end: usize)
-    requires { (from ≤ end) × (end ≤ length table.old) }
-    ensures { table.new ≡ cleared 0 table.old from end }
-{
-    let mut i = from;
-    while i < end {
-        table[i] = 0;
-        i += 1;
-    }
-}
-
-// The same in a table of signed numbers.
-fn clear_literals(table: &mut [i32], from: usize, end: usize)
-    requires { (from ≤ end) × (end ≤ length table.old) }
-    ensures { table.new ≡ cleared (pos 0) table.old from end }
-{
-    let mut i = from;
-    while i < end {
-        table[i] = 0;
-        i += 1;
-    }
 }
 
 // Each variable its own class, with no value; zeros behind.
@@ -180,14 +153,12 @@ fn lay_variables(variables: &mut [i32], v: u32)
     ensures { variables.new ≡ filled (pos 0) 2048 (variable_records 1 v) variables.old }
 {
     let n = v as usize;
-    let mut i = 0;
-    while i < n {
+    for i in 0..n {
         let class = (i + 1) as i32;
         variables[2 * i] = class;
         variables[2 * i + 1] = 0;
-        i += 1;
     }
-    clear_literals(variables, 2 * n, 2048);
+    variables[2 * n..2048].fill(0);
 }
 
 // The tables of the n clauses in the numbers, and the state that goes with them.
@@ -206,8 +177,8 @@ fn lay(
 {
     let mut marks = [0u32; 2049];
     let p = lay_clauses(numbers, n as usize, clauses, literals, &mut marks);
-    clear_words(clauses, 3 * p.clauses, 12288);
-    clear_literals(literals, p.start, 16384);
+    clauses[3 * p.clauses..12288].fill(0);
+    literals[p.start..16384].fill(0);
     lay_variables(variables, v);
     Outcome {
         answer: Answer::Loaded,
@@ -314,8 +285,8 @@ fn empty_window(outcome: Outcome, sizes: &mut [u32], learnt: &mut [i32], window:
     if answer.number() > 0 {
         return Windowed { outcome, window };
     }
-    clear_words(sizes, 0, 64);
-    clear_literals(learnt, 0, 4096);
+    sizes[..64].fill(0);
+    learnt[..4096].fill(0);
     Windowed {
         outcome,
         window: Window::empty(),

@@ -2,7 +2,6 @@
 use mathlib.Core.Path.{◌∙◌}
 use mathlib.Core.List.{List}
 use lib.IntN.{ℤ}
-use borrow.Author.Tests.{not-true, not-false}
 use Rattle.tables.specs.Tables.{Tables, tables}
 use Rattle.dimacs.specs.declared.Verdict.{Verdict}
 use Rattle.load.specs.Laid.{either_verdict, either_clauses}
