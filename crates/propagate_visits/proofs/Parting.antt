@@ -1,5 +1,5 @@
 -- The returns of a visit to a part: which fate the tests have shown, and what then stands in the part. Assumes nothing.
-use Prim.Native.Nat.{ℕ, zero, suc, ◌-◌, ◌≤◌, ◌<◌}
+use Prim.Native.Nat.{ℕ, zero, suc, ◌-◌, ◌<◌}
 use native.Mathlib.Omega.{arith}
 use mathlib.Core.Path.{◌≡◌, refl, sym, ap, subst, ◌∙◌}
 use mathlib.Core.Bool.{Bool, true, false, not}
@@ -105,9 +105,6 @@ module _ {w p q : List ℤ} {r : ℕ} (R : Removed w p q r) where
   pub unit_known : r ≡ 1 → EachKnown w p → Known w (get_or q 0 (pos 0))
   unit_known o K = subst (Known w) (sym (unit_is o)) ((known_filter w (λ l. not (is_false w l)) p K).each 0 (omega (arith, sym R.count ∙ o)))
 
-  pub part_room : r ≡ 1 → 0 < length q
-  part_room o = subst (λ (C : List ℤ). 0 < length C) (sym (one_left o)) (omega arith)
-
   pub part_unit : (w' : List ℤ) → r ≡ 1 → w' ≡ set_true w (get_or q 0 (pos 0)) → (u : ℕ) → u ≡ nat_abs (get_or q 0 (pos 0)) → Leaves w p (MadeTrue u) (set q 0 (pos 0)) w'
   part_unit w' o s u su =
       told w p (left_one w p R.untrue (sym R.count ∙ o)).1 (λ i. part_of (MadeTrue ((su ∙ ap nat_abs (unit_is o)) i)) (emptied i)) (s ∙ ap (set_true w) (unit_is o))
@@ -120,6 +117,3 @@ module _ {w p q : List ℤ} {r : ℕ} (R : Removed w p q r) where
 
   pub part_left : (r ≡ 0 → ⊥) → (r ≡ 1 → ⊥) → Leaves w p (Left r) q w
   part_left z o = told w p (left_more w p R.untrue (λ k. z (R.count ∙ k)) (λ k. o (R.count ∙ k))) (λ i. part_of (Left (R.count i)) (R.held i)) refl
-
-  pub part_count : length p ≤ 16384 → r ≤ 16384
-  part_count few = omega (arith, R.count, filter_shorter (λ l. not (is_false w l)) p)

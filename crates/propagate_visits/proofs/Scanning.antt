@@ -6,18 +6,15 @@ use mathlib.Core.List.{List}
 use lib.ListN.{length, drop, get_or, set}
 use lib.IntN.{ℤ, pos}
 use Rattle.base.proofs.Lists.{filter_in, filter_out}
-use Rattle.literal.proofs.Compact.{Compact, start, stay, gone}
+use Rattle.literal.proofs.Compact.{Compact, stay, gone}
 use Rattle.tables.specs.Values.{is_false}
-use Rattle.visits.proofs.Ahead.{Ahead, ahead_none, ahead_next, ahead_set}
+use Rattle.visits.proofs.Ahead.{Ahead, ahead_next, ahead_set}
 use Rattle.propagate_visits.specs.Visits.{not_false}
 
 -- literals move to the front, and what is still to be read is as it was
 pub record Moving (variables p₀ p : List ℤ) (n i : ℕ) : Type 0 where
   pub compact : Compact (λ (s : List ℤ). not_false variables) p₀ p n i
   pub unread : Ahead p₀ p i
-
-pub moving_none : (variables p : List ℤ) → Moving variables p p 0 0
-moving_none variables p = record { compact = start; unread = ahead_none p }
 
 module _ {variables p₀ p : List ℤ} {n i : ℕ} (M : Moving variables p₀ p n i) (lt : i < length p) where
   pub moving_stays : is_false variables (get_or p i (pos 0)) ≡ false → Moving variables p₀ (set p n (get_or p i (pos 0))) (n + 1) (i + 1)

@@ -7,7 +7,7 @@ use mathlib.Core.List.{List}
 use lib.Dec.{ltb}
 use lib.ListN.{length}
 use lib.IntN.{ℤ}
-use borrow.Author.Tests.{ltb-true, lt-ltb, le-ltb}
+use borrow.Author.Tests.{ltb-true, lt-ltb}
 use Rattle.tables.specs.Tables.{Tables, tables, length_of, standing}
 use Rattle.tables.specs.Fates.{Fate, kept, left, dropped, unit, conflict, store, fate_at}
 use Rattle.visits.specs.Formed.{Formed}
@@ -26,14 +26,6 @@ branch k t b changed = elim b [ true ↦ going k changed t | false ↦ elim chan
 pub onward_more : (n k : ℕ) (changed : Bool) → k < n → (t : Tables) → going k changed t ≡ onward n k changed t
 unfolding branch
 onward_more n k changed h t = sym (ap (λ (b : Bool). branch k t b changed) (lt-ltb k n h))
-
-pub onward_again : (n k : ℕ) (changed : Bool) → n ≤ k → changed ≡ true → (t : Tables) → going 0 false t ≡ onward n k changed t
-unfolding branch
-onward_again n k changed h e t = sym (ap (λ (b : Bool). branch k t b changed) (le-ltb k n h) ∙ ap (branch k t false) e)
-
-pub onward_ends : (n k : ℕ) (changed : Bool) → n ≤ k → changed ≡ false → (t : Tables) → settled t ≡ onward n k changed t
-unfolding branch
-onward_ends n k changed h e t = sym (ap (λ (b : Bool). branch k t b changed) (le-ltb k n h) ∙ ap (branch k t false) e)
 
 -- ---- one visit
 
@@ -114,3 +106,10 @@ pub making_done : {n steps made k : ℕ} {changed : Bool} {k₀ : ℕ} {changed�
 unfolding propagate_visits
 making_done {n} {steps} {made} {k} {changed} {c = c} {l = l} {w = w} M h times links =
     ap (λ (m : ℕ). propagate_visits n m made (going k changed (tables c l w times links))) (let e : 0 ≡ steps - made = omega (arith, h) in e) ∙ M.left times links
+
+-- the visits made are all of them
+pub making_all : {n steps made k : ℕ} {changed : Bool} {k₀ : ℕ} {changed₀ : Bool} {c₀ : List ℕ} {l₀ w₀ : List ℤ} {c : List ℕ} {l w : List ℤ}
+    → Making n steps made k changed k₀ changed₀ c₀ l₀ w₀ c l w → steps ≤ made → (times : List ℕ) (links : List ℤ)
+    → reached steps (going k changed (tables c l w times links)) ≡ propagate_visits n steps 0 (going k₀ changed₀ (tables c₀ l₀ w₀ times links))
+making_all {n} {steps} {made} {k} {changed} {c = c} {l = l} {w = w} M h times links =
+    ap (λ (m : ℕ). reached m (going k changed (tables c l w times links))) (let e : steps ≡ made = omega (arith, h, M.within) in e) ∙ making_done M h times links

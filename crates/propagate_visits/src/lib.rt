@@ -34,15 +34,7 @@ fn any_true(part: &[i32], variables: &[i32]) -> bool
     requires { EachKnown variables.now part.now }
     ensures { result ≡ any (is_true variables.now) part.now }
 {
-    let mut i = 0;
-    while i < part.len() {
-        let l = part[i];
-        i += 1;
-        if visits::is_true(variables, l) {
-            return true;
-        }
-    }
-    false
+    part.iter().any(|&l| visits::is_true(variables, l))
 }
 
 // Keeps the literals that are not false, in order at the front, with 0 behind; how many stay.
@@ -52,10 +44,8 @@ fn remove_false(part: &mut [i32], variables: &[i32]) -> usize
         × (part.new ≡ holding (not_false variables.now part.old) part.old) }
 {
     let mut n = 0;
-    let mut i = 0;
-    while i < part.len() {
+    for i in 0..part.len() {
         let l = part[i];
-        i += 1;
         if !visits::is_false(variables, l) {
             part[n] = l;
             n += 1;
@@ -75,17 +65,16 @@ fn visit_part(part: &mut [i32], variables: &mut [i32]) -> Visited
         literal::zero_from(part, 0);
         return Visited::Dropped;
     }
-    let n = remove_false(part, variables);
-    if n == 0 {
-        return Visited::Conflict;
+    match remove_false(part, variables) {
+        0 => Visited::Conflict,
+        1 => {
+            let l = part[0];
+            visits::set_true(variables, l);
+            part[0] = 0;
+            Visited::MadeTrue(literal::var_of(l) as u32)
+        }
+        n => Visited::Left(n as u32),
     }
-    if n == 1 {
-        let l = part[0];
-        visits::set_true(variables, l);
-        part[0] = 0;
-        return Visited::MadeTrue(literal::var_of(l) as u32);
-    }
-    Visited::Left(n as u32)
 }
 
 // A visit to clause k. Its part of the literal table is lent on. The tables keep the shape rule and the clause is one of theirs, as for every visit of a pass that has passed its entry.
@@ -115,12 +104,12 @@ fn onward(n: u32, k: u32, changed: bool) -> Stand
     ensures { (t : Tables) → progress_of result t ≡ onward n k changed t }
 {
     if k < n {
-        return Stand::Going(k, changed);
+        Stand::Going(k, changed)
+    } else if changed {
+        Stand::Going(0, false)
+    } else {
+        Stand::Settled
     }
-    if changed {
-        return Stand::Going(0, false);
-    }
-    Stand::Settled
 }
 
 // Where the pass stands after a visit to clause k, which had `size` literals. The pass stands before clause k, and n is within its limit by the shape rule.
@@ -130,9 +119,8 @@ pub fn stand_after(n: u32, k: u32, changed: bool, size: u32, seen: Visited) -> S
 {
     match seen {
         Visited::Kept => onward(n, k + 1, changed),
-        Visited::Left(m) => onward(n, k + 1, base::either(changed, m < size)),
-        Visited::Dropped => onward(n, k + 1, true),
-        Visited::MadeTrue(_) => onward(n, k + 1, true),
+        Visited::Left(m) => onward(n, k + 1, changed || m < size),
+        Visited::Dropped | Visited::MadeTrue(_) => onward(n, k + 1, true),
         Visited::Conflict => Stand::Contradicted,
     }
 }
@@ -170,20 +158,19 @@ pub fn visit_each(
     ensures { (times : List ℕ) (links : List ℤ) → reached_as result (returned clauses.new literals.new variables.new times links)
         ≡ propagate_visits n steps 0 (going cursor flag (lent clauses.old literals.old variables.old times links)) }
 {
-    let mut visits: u32 = 0;
     let mut k = cursor;
     let mut changed = flag;
-    while visits < steps {
+    for made in 0..steps {
         let stand = step(clauses, literals, variables, n, k, changed);
-        visits += 1;
         let Stand::Going(next, still) = stand else {
+            let visits = made + 1;
             return Reach { visits, stand };
         };
         k = next;
         changed = still;
     }
     Reach {
-        visits,
+        visits: steps,
         stand: Stand::Going(k, changed),
     }
 }
@@ -194,8 +181,8 @@ pub fn skip(n: u32, room: u32, k: u32, j: u32, changed: bool) -> Reach
     ensures visits_nonzero { (0 < result.visits) × ((result.visits ≤ room) × ((k + result.visits ≤ n) × (k + result.visits ≤ j))) }
     ensures t_value { (t : Tables) → progress_of result.stand t ≡ onward n (k + result.visits) changed t }
 {
-    let end = visits::fewer(j, n);
-    let visits = visits::fewer(end - k, room);
+    let end = j.min(n);
+    let visits = room.min(end - k);
     let stand = onward(n, k + visits, changed);
     Reach { visits, stand }
 }
