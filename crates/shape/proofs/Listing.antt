@@ -1,6 +1,5 @@
 -- The pass over one clause's literals, with the number of the clause in which each variable stood last. Assumes nothing.
 use Prim.Native.Nat.{ℕ, ◌+◌, ◌-◌, ◌≤◌, ◌<◌}
-use native.Mathlib.Nat.{not-suc-le-zero}
 use native.Mathlib.Omega.{arith}
 use mathlib.Core.Path.{◌≡◌, sym, ap, ◌∙◌}
 use mathlib.Core.Bool.{Bool, true}
@@ -23,20 +22,6 @@ pub record Listing (v : ℕ) (literals variables : List ℤ) (settled : Bool) (s
   pub seen : (j : ℕ) → j < k → get_or last (variable_at literals (start + j) - 1) 0 ≡ number
   pub source : (w : ℕ) → get_or last w 0 ≡ number → (j : ℕ) × (j < k) × (variable_at literals (start + j) ≡ w + 1)
   pub below : Below (number + 1) last
-
-pub listing_begin : (v : ℕ) (literals variables : List ℤ) (settled : Bool) (start number : ℕ) (last : List ℕ) → length last ≡ 1024 → Below number last
-    → Listing v literals variables settled start number 0 last
-listing_begin v literals variables settled start number last len B = record {
-  so_far = record {
-    ranged = λ k l. absurd (not-suc-le-zero l);
-    once = λ k l. absurd (not-suc-le-zero l);
-    own = λ s k l. absurd (not-suc-le-zero l);
-  };
-  size = len;
-  seen = λ j l. absurd (not-suc-le-zero l);
-  source = λ w e. absurd (omega (arith, B.each w));
-  below = record { each = λ w. omega (arith, B.each w) };
-}
 
 module _ (v : ℕ) (literals variables : List ℤ) (settled : Bool) (start number k : ℕ) (last : List ℕ) (L : Listing v literals variables settled start number k last) (within : v ≤ 1024) where
   -- the variable of the literal that comes now

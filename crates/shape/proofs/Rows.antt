@@ -1,12 +1,9 @@
 -- The pass over the clause records, with the last start and the largest end so far. Assumes nothing.
 use Prim.Native.Nat.{ℕ, ◌+◌, ◌≤◌, ◌<◌}
-use native.Mathlib.Nat.{not-suc-le-zero}
 use native.Mathlib.Omega.{arith}
 use mathlib.Core.Path.{◌≡◌, refl}
-use mathlib.Core.Logic.{inl, inr}
 use mathlib.Core.List.{List}
 use borrow.Author.Count.{below_more}
-use Rattle.base.specs.Decide.{zero_or}
 use Rattle.tables.specs.Tables.{start_of, length_of, standing}
 use Rattle.shape.specs.Shape.{Parts}
 use Rattle.shape.specs.Row.{Row}
@@ -19,38 +16,7 @@ pub record Rows (clauses : List ℕ) (i floor end : ℕ) : Type 0 where
   pub end_over : (j : ℕ) → j < i → 0 < length_of clauses j → start_of clauses j + length_of clauses j ≤ end
   pub end_met : (0 < end) → (j : ℕ) × (j < i) × (0 < length_of clauses j) × (end ≡ start_of clauses j + length_of clauses j)
 
-pub rows_begin : (clauses : List ℕ) → Rows clauses 0 0 0
-rows_begin clauses = record {
-  so_far = record {
-    flag = λ i l. absurd (not-suc-le-zero l);
-    dropped = λ i l. absurd (not-suc-le-zero l);
-    inside = λ i l. absurd (not-suc-le-zero l);
-    rising = λ j l. absurd (not-suc-le-zero l);
-    apart = λ j l. absurd (not-suc-le-zero l);
-  };
-  floor_over = λ j l. absurd (not-suc-le-zero l);
-  floor_met = λ h. absurd (not-suc-le-zero h);
-  end_over = λ j l. absurd (not-suc-le-zero l);
-  end_met = λ h. absurd (not-suc-le-zero h);
-}
-
 module _ (clauses : List ℕ) (i floor end : ℕ) (R : Rows clauses i floor end) where
-  -- record i of a right table is a right row after those before it
-  pub row_must : (n : ℕ) → i < n → Parts n clauses → Row (start_of clauses i) (length_of clauses i) (standing clauses i) floor end
-  row_must n lt P = record {
-    flagged = P.flag i lt;
-    dropped = P.dropped i lt;
-    inside = P.inside i lt;
-    rising = elim (zero_or floor) [
-      | inl z ↦ omega arith
-      | inr h ↦ let m = R.floor_met h in omega (arith, m.2, P.rising i lt m.0 m.1)
-    ];
-    apart = λ has. elim (zero_or end) [
-      | inl z ↦ omega arith
-      | inr h ↦ let m = R.end_met h in omega (arith, m.3, P.apart i lt m.0 m.1 m.2 has)
-    ];
-  }
-
   module _ (W : Row (start_of clauses i) (length_of clauses i) (standing clauses i) floor end) where
     next_parts : Parts (i + 1) clauses
     next_parts = record {

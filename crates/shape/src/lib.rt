@@ -20,28 +20,11 @@ use state::{Pass, State};
 fn row_ok(start: u32, len: u32, flag: u32, floor: u32, end: u32) -> bool
     ensures { Decides result (Row start len flag floor end) }
 {
-    if 1 < flag {
-        return false;
-    }
-    if start < floor {
-        return false;
-    }
-    if 16384 < start {
-        return false;
-    }
-    if 16384 - start < len {
-        return false;
-    }
-    if len == 0 {
-        return true;
-    }
-    if flag == 0 {
-        return false;
-    }
-    if start < end {
-        return false;
-    }
-    true
+    flag <= 1
+        && floor <= start
+        && start <= 16384
+        && len <= 16384 - start
+        && (len == 0 || (flag != 0 && end <= start))
 }
 
 // The records of the first n clauses.
@@ -49,17 +32,15 @@ fn rows_ok(clauses: &[u32], n: usize) -> bool
     requires { (n ≤ 4096) × (3 * n ≤ length clauses.now) }
     ensures { Decides result (Parts n clauses.now) }
 {
-    let mut i = 0;
-    let mut floor: u32 = 0;
-    let mut end: u32 = 0;
-    while i < n {
+    let mut floor = 0;
+    let mut end = 0;
+    for i in 0..n {
         let start = clauses[3 * i];
         let len = clauses[3 * i + 1];
         let flag = clauses[3 * i + 2];
         if !row_ok(start, len, flag, floor, end) {
             return false;
         }
-        i += 1;
         floor = start;
         if len != 0 {
             end = start + len;
@@ -75,13 +56,7 @@ fn own_ok(variables: &[i32], w: usize, settled: bool) -> bool
     requires { (0 < w) × (w ≤ 1024) × (2 * w ≤ length variables.now) }
     ensures { Decides result (settled ≡ true → class_of variables.now w ≡ pos w) }
 {
-    if !settled {
-        return true;
-    }
-    if variables[2 * w - 2] != w as i32 {
-        return false;
-    }
-    true
+    !settled || variables[2 * w - 2] == w as i32
 }
 
 // The literals of one clause, in the tables or in the window. `last` has for each variable the number of the clause in which it stood last, all below this clause's number.
@@ -98,21 +73,16 @@ pub fn literals_ok(
     requires { (start + len ≤ length literals.now) × (v ≤ 1024) × (2 * v ≤ length variables.now) × (length last.old ≡ 1024) × Below number last.old }
     ensures { Decides result (Literals v literals.now variables.now settled start len) × Below (number + 1) last.new }
 {
-    let mut k = 0;
-    while k < len {
-        let l = literals[start + k];
+    for &l in &literals[start..start + len] {
         if !literal::in_range(l, v) {
             return false;
         }
         let w = literal::var_of(l);
-        if last[w - 1] == number {
-            return false;
-        }
-        if !own_ok(variables, w, settled) {
+        let repeated = last[w - 1] == number;
+        if repeated || !own_ok(variables, w, settled) {
             return false;
         }
         last[w - 1] = number;
-        k += 1;
     }
     true
 }
@@ -123,16 +93,7 @@ pub fn literals_ok(
 fn empty_ok(flag: u32, len: usize, mark: bool) -> bool
     ensures { Decides result (flag ≡ 1 → len ≡ 0 → mark ≡ true) }
 {
-    if mark {
-        return true;
-    }
-    if len != 0 {
-        return true;
-    }
-    if flag == 1 {
-        return false;
-    }
-    true
+    mark || len != 0 || flag != 1
 }
 
 // The clauses whose records are right, with an empty table of where each variable stood last.
@@ -149,27 +110,24 @@ fn clauses_by(
     requires { (v ≤ 1024) × (n ≤ 4096) × (3 * n ≤ length clauses.now) × (16384 ≤ length literals.now) × (2 * v ≤ length variables.now) × Parts n clauses.now × (last.old ≡ replicate 1024 0) }
     ensures { Decides result (Clauses v n settled mark clauses.now literals.now variables.now) }
 {
-    let mut i = 0;
-    while i < n {
+    for i in 0..n {
         let start = clauses[3 * i] as usize;
         let len = clauses[3 * i + 1] as usize;
         let flag = clauses[3 * i + 2];
-        if !empty_ok(flag, len, mark) {
+        if !empty_ok(flag, len, mark)
+            || !literals_ok(
+                literals,
+                variables,
+                start,
+                len,
+                v,
+                i < settled,
+                i as u32 + 1,
+                last,
+            )
+        {
             return false;
         }
-        if !literals_ok(
-            literals,
-            variables,
-            start,
-            len,
-            v,
-            i < settled,
-            i as u32 + 1,
-            last,
-        ) {
-            return false;
-        }
-        i += 1;
     }
     true
 }
@@ -207,19 +165,7 @@ fn variable_ok(variables: &[i32], w: usize) -> bool
         return false;
     }
     let u = literal::var_of(class);
-    if variables[2 * u - 2] != u as i32 {
-        return false;
-    }
-    if value == 0 {
-        return true;
-    }
-    if value == 1 {
-        return true;
-    }
-    if value == -1 {
-        return true;
-    }
-    false
+    variables[2 * u - 2] == u as i32 && matches!(value, -1..=1)
 }
 
 // The value of the class literal of variable w, sign included. The shape rule has the class and its value, here for the variables that were checked before.
@@ -237,14 +183,8 @@ fn variables_ok(variables: &[i32], v: u32) -> bool
     requires { (v ≤ 1024) × (2 * v ≤ length variables.now) }
     ensures { Decides result (((w : ℕ) → w < v → Variable variables.now (w + 1)) × Spread v variables.now) }
 {
-    let n = v as usize;
-    let mut w = 0;
-    while w < n {
-        w += 1;
-        if !variable_ok(variables, w) {
-            return false;
-        }
-        if variables[2 * w - 1] != class_value(variables, w) {
+    for w in 1..=v as usize {
+        if !variable_ok(variables, w) || variables[2 * w - 1] != class_value(variables, w) {
             return false;
         }
     }
@@ -257,47 +197,32 @@ fn variables_ok(variables: &[i32], v: u32) -> bool
 fn cursor_ok(st: State) -> bool
     ensures { Decides result (Cursor st.pass st.n st.mark) }
 {
-    let p = st.pass;
-    match p {
+    match st.pass {
         Pass::Idle => true,
-        Pass::Propagate(c, _) => within(c, st.n, st.mark),
-        Pass::Merge(c) => within(c, st.n, st.mark),
-        Pass::Sweep(c) => within(c, st.n, st.mark),
+        Pass::Propagate(c, _) | Pass::Merge(c) | Pass::Sweep(c) => within(c, st.n, st.mark),
     }
 }
 
 fn within(cursor: u32, n: u32, mark: bool) -> bool
     ensures { Decides result ((cursor < n) × (mark ≡ false)) }
 {
-    if mark {
-        return false;
-    }
-    if cursor < n {
-        return true;
-    }
-    false
+    !mark && cursor < n
 }
 
 // The open pass and the programme.
 fn state_ok(st: State) -> bool
     ensures { Decides result (Cursor st.pass st.n st.mark × Passing st.programme) }
 {
-    if !programmes::programme_ok(st.programme) {
-        return false;
-    }
-    cursor_ok(st)
+    programmes::programme_ok(st.programme) && cursor_ok(st)
 }
 
 // The number of clauses from the first on whose variables must be their own class.
 fn settled_to(st: State) -> u32
     ensures { result ≡ settled_to st.pass st.n }
 {
-    let p = st.pass;
-    match p {
-        Pass::Idle => st.n,
-        Pass::Propagate(_, _) => st.n,
+    match st.pass {
         Pass::Merge(c) => c,
-        Pass::Sweep(_) => st.n,
+        Pass::Idle | Pass::Propagate(_, _) | Pass::Sweep(_) => st.n,
     }
 }
 
@@ -306,10 +231,7 @@ fn fresh_ok(times: &[u32], links: &[i32], v: u32, fresh: bool) -> bool
     requires { (v ≤ 1024) × (4 * v ≤ length times.now) × (4 * v ≤ length links.now) }
     ensures { Decides result (fresh ≡ true → FreshStamps v times.now links.now) }
 {
-    if fresh {
-        return stamps::stamps_ok(times, links, v);
-    }
-    true
+    !fresh || stamps::stamps_ok(times, links, v)
 }
 
 // ---- the rule
@@ -325,33 +247,19 @@ pub fn shape_ok(
 ) -> bool
     ensures { result ≡ shape_ok (lent clauses.now literals.now variables.now times.now links.now) st }
 {
-    if !tables::long_ok(clauses, literals, variables, times, links) {
-        return false;
-    }
-    let v = st.v;
-    let n = st.n;
-    if 1024 < v {
-        return false;
-    }
-    if 4096 < n {
-        return false;
-    }
-    if !state_ok(st) {
-        return false;
-    }
-    if !variables_ok(variables, v) {
-        return false;
-    }
-    if !clauses_ok(
-        clauses,
-        literals,
-        variables,
-        v,
-        n as usize,
-        settled_to(st) as usize,
-        st.mark,
-    ) {
-        return false;
-    }
-    fresh_ok(times, links, v, st.fresh)
+    tables::long_ok(clauses, literals, variables, times, links)
+        && st.v <= 1024
+        && st.n <= 4096
+        && state_ok(st)
+        && variables_ok(variables, st.v)
+        && clauses_ok(
+            clauses,
+            literals,
+            variables,
+            st.v,
+            st.n as usize,
+            settled_to(st) as usize,
+            st.mark,
+        )
+        && fresh_ok(times, links, st.v, st.fresh)
 }

@@ -1,6 +1,5 @@
 -- `shape::clauses_ok` meets its contract. Assumes nothing.
 use mathlib.Core.Path.{refl}
-use borrow.Author.Tests.{not-true, not-false}
 use Rattle.base.specs.Decide.{says_no}
 use borrow.Author.Rules.{rules}
 use Rattle.shape.proofs.clauses_ok.Statement.{statement}
