@@ -129,8 +129,7 @@ pub fn put_record(clauses: &mut [u32], k: usize, seen: Visited)
     match seen {
         Visited::Kept => {}
         Visited::Left(n) => set_length(clauses, k, n),
-        Visited::Dropped => drop_record(clauses, k),
-        Visited::MadeTrue(_) => drop_record(clauses, k),
+        Visited::Dropped | Visited::MadeTrue(_) => drop_record(clauses, k),
         Visited::Conflict => set_length(clauses, k, 0),
     }
 }
@@ -149,13 +148,11 @@ pub fn count_standing(clauses: &[u32], n: usize) -> Totals
     requires { Counted n clauses.now }
     ensures { (result.clauses ≡ standing_count (take (3 * n) clauses.now)) × (result.literals ≡ literal_count (take (3 * n) clauses.now)) }
 {
-    let mut i = 0;
-    let mut standing: u32 = 0;
-    let mut literals: u32 = 0;
-    while i < n {
+    let mut standing = 0;
+    let mut literals = 0;
+    for i in 0..n {
         let size = clauses[3 * i + 1];
         let flag = clauses[3 * i + 2];
-        i += 1;
         if flag != 0 {
             standing += 1;
             literals += size;
@@ -167,21 +164,11 @@ pub fn count_standing(clauses: &[u32], n: usize) -> Totals
     }
 }
 
-// a - b, or 0 where b is more.
-fn less(a: u32, b: u32) -> u32
-    ensures { result ≡ a - b }
-{
-    if a < b {
-        return 0;
-    }
-    a - b
-}
-
 // The smaller of two numbers: the visits that a call makes. That they are at most those left keeps them inside the table.
 pub fn fewer(a: u32, b: u32) -> u32
     ensures { (result ≡ min a b) × (result ≤ b) }
 {
-    if a < b { a } else { b }
+    a.min(b)
 }
 
 // What a call answers: the visits made, and what stood before minus what stands after.
@@ -190,8 +177,8 @@ pub fn counts_of(visits: u32, before: Totals, after: Totals) -> Counts
 {
     Counts {
         visits,
-        clauses: less(before.clauses, after.clauses),
-        literals: less(before.literals, after.literals),
+        clauses: before.clauses.saturating_sub(after.clauses),
+        literals: before.literals.saturating_sub(after.literals),
     }
 }
 
@@ -207,14 +194,15 @@ pub fn answer_at(
     ensures { (t : Tables) → after result t ≡ stands_at pass fresh_open fresh_done counts k st t }
 {
     if k < st.n {
-        return Outcome {
+        Outcome {
             answer: Answer::Open(counts),
             state: st.opened(pass, fresh_open),
-        };
-    }
-    Outcome {
-        answer: Answer::Done(counts),
-        state: st.closed(fresh_done),
+        }
+    } else {
+        Outcome {
+            answer: Answer::Done(counts),
+            state: st.closed(fresh_done),
+        }
     }
 }
 
@@ -228,8 +216,7 @@ fn is_valued(variables: &[i32], l: i32) -> bool
     ensures { result ≡ valued variables.now l }
 {
     let w = literal::var_of(l);
-    let value = variables[2 * w - 1];
-    value != 0
+    variables[2 * w - 1] != 0
 }
 
 // Whether a literal of the part has a valued variable.
@@ -237,15 +224,7 @@ fn any_valued(part: &[i32], variables: &[i32]) -> bool
     requires { EachKnown variables.now part.now }
     ensures { result ≡ any (valued variables.now) part.now }
 {
-    let mut i = 0;
-    while i < part.len() {
-        let l = part[i];
-        i += 1;
-        if is_valued(variables, l) {
-            return true;
-        }
-    }
-    false
+    part.iter().any(|&l| is_valued(variables, l))
 }
 
 // Whether clause i stands and has one literal, or a valued variable.
@@ -253,17 +232,9 @@ fn is_unsettled(clauses: &[u32], literals: &[i32], variables: &[i32], i: usize) 
     requires { Asked i clauses.now literals.now variables.now }
     ensures { (times : List ℕ) (links : List ℤ) → result ≡ unsettled (lent clauses.now literals.now variables.now times links) i }
 {
-    let flag = flag_of(clauses, i);
-    if flag != 1 {
-        return false;
-    }
     let size = clauses[3 * i + 1];
-    if size == 1 {
-        return true;
-    }
-    let start = part_start(clauses, i);
-    let end = part_end(clauses, i);
-    any_valued(&literals[start..end], variables)
+    let part = &literals[part_start(clauses, i)..part_end(clauses, i)];
+    flag_of(clauses, i) == 1 && (size == 1 || any_valued(part, variables))
 }
 
 // The first such clause of n, counted from 0; n if there is none. The clauses lie in the tables by the shape rule.
@@ -271,12 +242,10 @@ pub fn first_unsettled(clauses: &[u32], literals: &[i32], variables: &[i32], n: 
     requires { ((i : ℕ) → i < n → Asked i clauses.now literals.now variables.now) × (n ≤ 4096) }
     ensures { (times : List ℕ) (links : List ℤ) → result ≡ first_unsettled (lent clauses.now literals.now variables.now times links) n }
 {
-    let mut i = 0;
-    while i < n {
+    for i in 0..n {
         if is_unsettled(clauses, literals, variables, i) {
             return i;
         }
-        i += 1;
     }
     n
 }
