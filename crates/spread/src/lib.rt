@@ -10,10 +10,9 @@ fn spread_at(variables: &mut [i32], w: usize)
     requires { Known variables.old (pos w) }
     ensures { variables.new ≡ spread_at w variables.old }
 {
-    if variables[2 * w - 2] == w as i32 {
-        return;
+    if variables[2 * w - 2] != w as i32 {
+        variables[2 * w - 1] = shape::class_value(variables, w);
     }
-    variables[2 * w - 1] = shape::class_value(variables, w);
 }
 
 // The same for the variables 1 to v, whose records keep the shape rule but for values that a pass has not spread yet.
@@ -21,10 +20,7 @@ pub fn spread(variables: &mut [i32], v: u32)
     requires { Variables v variables.old }
     ensures { variables.new ≡ spread v variables.old }
 {
-    let n = v as usize;
-    let mut w = 1;
-    while w <= n {
+    for w in 1..=v as usize {
         spread_at(variables, w);
-        w += 1;
     }
 }
