@@ -10,11 +10,8 @@ pub fn slots_of(part: &[i32], out: &mut [u32])
     requires { Lits part.now × (length out.old ≡ length part.now) }
     ensures { out.new ≡ map slot_of part.now }
 {
-    let mut i = 0;
-    while i < part.len() {
-        let l = part[i];
+    for (i, &l) in part.iter().enumerate() {
         out[i] = literal::slot_of(l) as u32;
-        i += 1;
     }
 }
 
@@ -23,9 +20,7 @@ pub fn twins_of(slots: &[u32], out: &mut [u32])
     requires { ((k : ℕ) → k < length slots.now → get_or slots.now k 0 < 65536) × (length out.old ≡ length slots.now) }
     ensures { out.new ≡ map twin slots.now }
 {
-    let mut i = 0;
-    while i < slots.len() {
-        out[i] = literal::twin_of(slots[i]);
-        i += 1;
+    for (i, &slot) in slots.iter().enumerate() {
+        out[i] = literal::twin_of(slot);
     }
 }
