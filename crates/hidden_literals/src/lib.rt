@@ -18,13 +18,11 @@ fn keep_inner(slots: &mut [u32], times: &[u32]) -> usize
     ensures { (result ≤ length slots.old) × ((links : List ℤ) → drop result slots.new ≡ inner (columns times.now links) slots.old) }
 {
     let mut last = Interval {
-        begin: 4294967295,
-        end: 4294967295,
+        begin: u32::MAX,
+        end: u32::MAX,
     };
     let mut n = slots.len();
-    let mut i = slots.len();
-    while 0 < i {
-        i -= 1;
+    for i in (0..slots.len()).rev() {
         let x = slots[i];
         let t = stamp_columns::interval(times, x);
         if !t.compare(last).wider() {
@@ -43,11 +41,9 @@ fn keep_outer(slots: &mut [u32], times: &[u32]) -> usize
 {
     let mut last = Interval { begin: 0, end: 0 };
     let mut n = 0;
-    let mut i = 0;
-    while i < slots.len() {
+    for i in 0..slots.len() {
         let x = slots[i];
         let t = stamp_columns::interval(times, x);
-        i += 1;
         if !last.compare(t).wider() {
             slots[n] = x;
             n += 1;
@@ -87,10 +83,8 @@ fn keep_part(part: &mut [i32], slots: &[u32], times: &[u32]) -> usize
         × (part.new ≡ kept_by slots.now part.old ++ replicate (length part.old - length (kept_by slots.now part.old)) (pos 0)) }
 {
     let mut n = 0;
-    let mut i = 0;
-    while i < part.len() {
+    for i in 0..part.len() {
         let l = part[i];
-        i += 1;
         let s = literal::slot_of(-l) as u32;
         if has_slot(slots, times, s) {
             part[n] = l;

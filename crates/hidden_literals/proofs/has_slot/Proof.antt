@@ -14,11 +14,6 @@ use borrow.Author.Tests.{ltb-true, ltb-false}
 use borrow.Author.Rules.{rules}
 use Rattle.hidden_literals.proofs.has_slot.Statement.{statement}
 use Rattle.hidden_literals.proofs.has_slot.Tie as tie
-use Rattle.hidden_literals.proofs.has_slot.Reads as reads
-use Rattle.hidden_literals.proofs.has_slot.Lts as lts
-use Rattle.intervals.proofs.Interval.compare.Reads as compare-reads
-use Rattle.intervals.proofs.Relation.begins_first.Reads as begins-first-reads
-use Rattle.stamp_columns.proofs.interval.Reads as interval-reads
 
 abbrev invariant-loop : tie.invariant-loop-low
 invariant-loop slots times s t low₀ high₀ low high = Halving slots s low high

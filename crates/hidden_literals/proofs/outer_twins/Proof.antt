@@ -8,11 +8,6 @@ use mathlib.Core.Path.{sym, subst}
 use borrow.Author.Rules.{rules}
 use Rattle.hidden_literals.proofs.outer_twins.Statement.{statement}
 use Rattle.hidden_literals.proofs.outer_twins.Tie as tie
-use Rattle.hidden_literals.proofs.outer_twins.Reads as reads
-use Rattle.hidden_literals.proofs.outer_twins.Lts as lts
-use Rattle.hidden_literals.proofs.keep_outer.Reads as keep-outer-reads
-use Rattle.clause_slots.proofs.twins_of.Reads as twins-of-reads
-use Rattle.discovery_order.proofs.sort_slots.Reads as sort-slots-reads
 
 -- the complements have times
 given : (c : tie.After-sort_slots-arg-1) → Slots c.args.times.now c.twins_of.new.out

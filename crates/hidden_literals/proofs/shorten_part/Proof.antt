@@ -15,11 +15,6 @@ use Prim.Native.Nat.{ℕ, ◌-◌, ◌≤◌}
 use borrow.Author.Rules.{rules}
 use Rattle.hidden_literals.proofs.shorten_part.Statement.{statement}
 use Rattle.hidden_literals.proofs.shorten_part.Tie as tie
-use Rattle.hidden_literals.proofs.shorten_part.Reads as reads
-use Rattle.hidden_literals.proofs.shorten_part.Lts as lts
-use Rattle.hidden_literals.proofs.keep_inner.Reads as keep-inner-reads
-use Rattle.hidden_literals.proofs.keep_part.Reads as keep-part-reads
-use Rattle.hidden_literals.proofs.outer_twins.Reads as outer-twins-reads
 
 -- how many slots stay: they have room among the complements
 many : (c : tie.After-keep_inner-first) → length c.keep_inner-first.new.slots - c.keep_inner-first.result ≤ length c.args.twins.now
