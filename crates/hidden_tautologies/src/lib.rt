@@ -12,10 +12,7 @@ pub fn transitive(times: &[u32], links: &[i32], p: u32, q: u32) -> bool
     requires { Two times.now links.now p q }
     ensures { result ≡ transitive (columns times.now links.now) p q }
 {
-    if !hidden::holds(times, p, q) {
-        return false;
-    }
-    stamp_columns::parent(links, q) != p
+    hidden::holds(times, p, q) && stamp_columns::parent(links, q) != p
 }
 
 // Two literals, of slots a and b: whether one of the clause's two edges is transitive.
@@ -23,10 +20,8 @@ fn hidden_pair(times: &[u32], links: &[i32], a: u32, b: u32) -> bool
     requires { Two times.now links.now a b }
     ensures { result ≡ hidden_pair (columns times.now links.now) a b }
 {
-    if transitive(times, links, literal::twin_of(a), b) {
-        return true;
-    }
-    transitive(times, links, literal::twin_of(b), a)
+    transitive(times, links, literal::twin_of(a), b)
+        || transitive(times, links, literal::twin_of(b), a)
 }
 
 // The scan, over the sorted literals and the sorted complements: it stops with its verdict. Where the complement does not hold the literal, the one of the two that begins first is passed:
@@ -38,10 +33,7 @@ fn scan(times: &[u32], pos: &[u32], neg: &[u32]) -> bool
     let mut i = 0;
     let mut j = 0;
     let verdict = loop {
-        if i >= pos.len() {
-            break false;
-        }
-        if j >= neg.len() {
+        if i >= pos.len() || j >= neg.len() {
             break false;
         }
         let p = pos[i];

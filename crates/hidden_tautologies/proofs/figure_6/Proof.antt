@@ -10,11 +10,6 @@ use Rattle.hidden_tautologies.proofs.Scanning.{scanned_one, scanned_other, slots
 use borrow.Author.Rules.{rules}
 use Rattle.hidden_tautologies.proofs.figure_6.Statement.{statement}
 use Rattle.hidden_tautologies.proofs.figure_6.Tie as tie
-use Rattle.hidden_tautologies.proofs.figure_6.Reads as reads
-use Rattle.hidden_tautologies.proofs.figure_6.Lts as lts
-use Rattle.clause_slots.proofs.twins_of.Reads as twins-of-reads
-use Rattle.discovery_order.proofs.sort_slots.Reads as sort-slots-reads
-use Rattle.hidden_tautologies.proofs.scan.Reads as scan-reads
 
 -- the complements as they are sorted
 twins-sorted : (c : tie.After-sort_slots-2) (links : List ℤ) → c.sort_slots-2.new.slots ≡ by_discovery (columns c.args.times.now links) (map twin c.args.slots.now)

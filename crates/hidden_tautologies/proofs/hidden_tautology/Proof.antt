@@ -5,12 +5,6 @@ use Rattle.hidden_tautologies.proofs.Judging.{judged_lits, judged_slots, judged_
 use borrow.Author.Rules.{rules}
 use Rattle.hidden_tautologies.proofs.hidden_tautology.Statement.{statement}
 use Rattle.hidden_tautologies.proofs.hidden_tautology.Tie as tie
-use Rattle.hidden_tautologies.proofs.hidden_tautology.Reads as reads
-use Rattle.hidden_tautologies.proofs.hidden_tautology.Lts as lts
-use Rattle.clause_slots.proofs.slots_of.Reads as slots-of-reads
-use Rattle.discovery_order.proofs.sort_pair.Reads as sort-pair-reads
-use Rattle.hidden_tautologies.proofs.figure_6.Reads as figure-6-reads
-use Rattle.hidden_tautologies.proofs.hidden_pair.Reads as hidden-pair-reads
 
 slots-of-requires : tie.Need-slots_of-requires
 slots-of-requires c κs = (judged_lits c.requires.0, c.requires.2)
