@@ -57,10 +57,8 @@ pub fn put_chains(out: &mut [u8], links: &[i32], ends: &[i32], n: usize) -> usiz
     ensures { Stored (clauses_text (gathered (chain_at links.now ends.now) n 0)) 0 out.old out.new result }
 {
     let mut next = 0;
-    let mut k = 0;
-    while k < n {
+    for k in 0..n {
         next = put_chain(out, next, links, ends[2 * k], ends[2 * k + 1]);
-        k += 1;
     }
     next
 }

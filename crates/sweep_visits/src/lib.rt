@@ -82,9 +82,7 @@ pub fn sweep_visits(
         × ((variables : List ℤ) → returned clauses.new literals.new variables times.now links.now
         ≡ visits (sweep_clause (columns times.now links.now)) m k (lent clauses.old literals.old variables times.now links.now)) }
 {
-    let mut i = 0;
-    while i < m {
+    for i in 0..m {
         visit_clause(clauses, literals, times, links, slots, twins, k + i);
-        i += 1;
     }
 }

@@ -1,5 +1,5 @@
 -- Where the complement holds the literal, the scan stops with yes; where it does not, the one of the two that begins first is passed; where one list is passed, there is none.
-use Rattle.std.proofs.Common.{get_or, sym, ◌∙◌}
+use Rattle.std.proofs.Common.{arith, get_or, sym, ◌∙◌}
 use Rattle.base.proofs.Lists.{get_d_mem}
 use Rattle.stamp_columns.specs.Columns.{columns}
 use Rattle.hidden.proofs.Relations.{read_holds, read_begins_first}
@@ -9,7 +9,10 @@ use Rattle.hidden_tautologies.proofs.scan.Goals as goal
 use Rattle.hidden_tautologies.proofs.scan.Goals.{then-i-pos-via-then-i-pos, then-i-pos-via-else-i-pos+then-j-neg}
 
 pub compare-lies-requires : goal.compare-lies-requires
-compare-lies-requires c = (slot_at (scanned_other c.requires) c.loop-i.j c.if-j-neg.false, slot_at (scanned_one c.requires) c.loop-i.i c.if-i-pos.false)
+compare-lies-requires c =
+    let one = slot_at (scanned_one c.requires) c.loop-i.i c.if-i-pos.false in
+    let other = slot_at (scanned_other c.requires) c.loop-i.j c.if-j-neg.false in
+    (omega arith, omega arith)
 
 pub loop-i-preserved-then-begins_first : goal.loop-i-preserved-then-begins_first
 loop-i-preserved-then-begins_first c = λ links.
