@@ -105,10 +105,6 @@ indexed_filled n times index I = record {
   within = λ t l. omega (arith, (I.found t l).1, (I.found t l).2);
 }
 
--- a store keeps the length
-pub indexing_length : {n : ℕ} {times index : List ℕ} {k : ℕ} → Indexing n times index k → (index₀ : List ℕ) → index₀ ≡ replicate n 0 → length index ≡ length index₀
-indexing_length {n} I index₀ e = I.size ∙ sym (ap length e ∙ length-replicate n 0)
-
 -- the part of the empty array that is lent
 pub part_length : (v : ℕ) → v ≤ 1024 → 4 * v ≡ length (take (4 * v) (replicate {A = ℕ} 4096 0))
 part_length v h = sym (front_zeros (4 * v) 4096 (omega arith))

@@ -1,24 +1,30 @@
--- The scan over the times. After time t, `Passed t` says that every slot entered or left by then was so rightly, and `Stack t open root` that `open` is the literal
--- entered last of those still open, `root` its start, and both 0 where none is open. At each time the tests of the code hold exactly if the slot's step is right, and then both
+-- The scan over the times. After time t, `Passed t` says that every slot entered or left by then was so rightly, and `Stack t current` that `current` is the literal
+-- entered last of those still open, with its start, or none where none is open. At each time the tests of the code hold exactly if the slot's step is right, and then both
 -- facts hold of the next time. Assumes nothing.
-use Prim.Native.Nat.{ℕ, zero, suc, ◌+◌, ◌*◌, ◌-◌, ◌/◌, ◌%◌, ◌≤◌, ◌<◌}
+use Prim.Native.Nat.{ℕ, ◌+◌, ◌*◌, ◌-◌, ◌/◌, ◌%◌, ◌≤◌, ◌<◌}
 use native.Mathlib.Omega.{arith}
 use mathlib.Core.Path.{◌≡◌, refl, sym, ap, subst, ◌∙◌}
 use mathlib.Core.Logic.{◌⊎◌, inl, inr, ⊎_elim}
 use mathlib.Core.List.{List}
 use lib.ListN.{get_or}
-use lib.IntN.{ℤ, pos, negsuc, nat_abs}
+use lib.IntN.{ℤ, pos}
+use Rattle.std.proofs.Common.{Option, Some, None, unwrap_or}
 use Rattle.base.specs.Decide.{same_or, le_or}
 use Rattle.literal.specs.Literals.{slot_of, lit_at}
-use Rattle.literal.proofs.Laws.{slot_lit, lit_var}
+use Rattle.literal.proofs.Laws.{slot_lit}
 use Rattle.stamps.specs.Fresh.{discovery_in, finish_in, parent_in, start_in, Times, FreshStamps}
-use Rattle.stamps.specs.Index.{Indexed, or_else}
+use Rattle.stamps.specs.Index.{Indexed}
 use Rattle.stamps.proofs.Local.{Around, Under, Root, Entered, Left, same_slot, same_finish, not_both, slot_entered, slot_left, fresh_from}
 
-pub else_some : (a b : ℤ) → 0 < nat_abs a → or_else a b ≡ a
-else_some (pos zero) b h = absurd (omega arith)
-else_some (pos (suc n)) b h = refl
-else_some (negsuc n) b h = refl
+-- around a slot that is entered: its parent and its start, by what is open; s where nothing is
+abbrev pub parent_by : Option (ℤ × ℤ) → ℤ → ℤ
+parent_by current l = (unwrap_or current (l, l)).0
+
+abbrev pub start_by : Option (ℤ × ℤ) → ℤ → ℤ
+start_by current l = (unwrap_or current (l, l)).1
+
+pub same_open : (a b c d : ℤ) → ◌≡◌ {A = Option (ℤ × ℤ)} (Some (a, b)) (Some (c, d)) → (a ≡ c) × (b ≡ d)
+same_open a b c d e = (ap (λ (o : Option (ℤ × ℤ)). (unwrap_or o (a, b)).0) e, ap (λ (o : Option (ℤ × ℤ)). (unwrap_or o (a, b)).1) e)
 
 -- an index tells that the times are 1 to n, once each
 pub indexed_times : (n : ℕ) (times index : List ℕ) → Indexed n times index → Times n times
@@ -37,22 +43,19 @@ pub record Passed (v : ℕ) (times : List ℕ) (links : List ℤ) (t : ℕ) : Ty
   pub left : (s : ℕ) → s < 2 * v → finish_in times s ≤ t → Left v times s
 
 -- no slot is open
-pub record Idle (v : ℕ) (times : List ℕ) (t : ℕ) (current root : ℤ) : Type 0 where
-  pub none : current ≡ pos 0
-  pub no_root : root ≡ pos 0
+pub record Idle (v : ℕ) (times : List ℕ) (t : ℕ) (current : Option (ℤ × ℤ)) : Type 0 where
+  pub none : current ≡ None
   pub closed : (u : ℕ) → u < 2 * v → Open times t u → ⊥
 
 -- p is open, and no open slot was entered later
-pub record Within (v : ℕ) (times : List ℕ) (links : List ℤ) (t : ℕ) (current root : ℤ) (p : ℕ) : Type 0 where
+pub record Within (v : ℕ) (times : List ℕ) (links : List ℤ) (t : ℕ) (current : Option (ℤ × ℤ)) (p : ℕ) : Type 0 where
   pub slot : p < 2 * v
-  pub is : current ≡ lit_at p
-  pub is_root : root ≡ start_in links p
-  pub some_root : 0 < nat_abs root
+  pub is : current ≡ Some (lit_at p, start_in links p)
   pub at : Open times t p
   pub last : (u : ℕ) → u < 2 * v → Open times t u → discovery_in times u ≤ discovery_in times p
 
-abbrev pub Stack : ℕ → List ℕ → List ℤ → ℕ → ℤ → ℤ → Type 0
-Stack v times links t current root = Idle v times t current root ⊎ ((p : ℕ) × Within v times links t current root p)
+abbrev pub Stack : ℕ → List ℕ → List ℤ → ℕ → Option (ℤ × ℤ) → Type 0
+Stack v times links t current = Idle v times t current ⊎ ((p : ℕ) × Within v times links t current p)
 
 module _ (v : ℕ) (times : List ℕ) (links : List ℤ) (T : Times (4 * v) times) where
   abbrev D : ℕ → ℕ
@@ -61,10 +64,10 @@ module _ (v : ℕ) (times : List ℕ) (links : List ℤ) (T : Times (4 * v) time
   abbrev E : ℕ → ℕ
   E s = finish_in times s
 
-  pub begin : Passed v times links 0 × Stack v times links 0 (pos 0) (pos 0)
+  pub begin : Passed v times links 0 × Stack v times links 0 None
   begin = (
     record { entered = λ s l h. absurd (omega (arith, (T.ranged (2 * s) (omega arith)).0)); left = λ s l h. absurd (omega (arith, (T.ranged (2 * s + 1) (omega arith)).0)) },
-    inl (record { none = refl; no_root = refl; closed = λ u l h. omega (arith, h.0, (T.ranged (2 * u) (omega arith)).0) }),
+    inl (record { none = refl; closed = λ u l h. omega (arith, h.0, (T.ranged (2 * u) (omega arith)).0) }),
   )
 
   -- after the last time all is said
@@ -73,7 +76,7 @@ module _ (v : ℕ) (times : List ℕ) (links : List ℤ) (T : Times (4 * v) time
 
   -- ---- slot s is entered at time t + 1
 
-  module _ (t s : ℕ) (current root : ℤ) (P : Passed v times links t) (S : Stack v times links t current root) (ls : s < 2 * v) (now : D s ≡ t + 1) where
+  module _ (t s : ℕ) (current : Option (ℤ × ℤ)) (P : Passed v times links t) (S : Stack v times links t current) (ls : s < 2 * v) (now : D s ≡ t + 1) where
     -- what is around s is what is open
     around_open : (u : ℕ) → u < 2 * v → Around times u s → Open times t u
     around_open u lu a = (omega (arith, a.0, now), omega (arith, a.1, now))
@@ -82,17 +85,17 @@ module _ (v : ℕ) (times : List ℕ) (links : List ℤ) (T : Times (4 * v) time
     open_around u lu o = (omega (arith, o.0, now), ⊎_elim (λ (h : E u ≤ D s). absurd (not_both v times T s u ls lu (omega (arith, o.1, now)))) (λ h. h) (le_or (E u) (D s)))
 
     -- the tests, from the step
-    pub enter_tests : Entered v times links s → (parent_in links s ≡ or_else current (lit_at s)) × (start_in links s ≡ or_else root (lit_at s))
+    pub enter_tests : Entered v times links s → (parent_in links s ≡ parent_by current (lit_at s)) × (start_in links s ≡ start_by current (lit_at s))
     enter_tests e = ⊎_elim idle within S
       where
-        idle : Idle v times t current root → (parent_in links s ≡ or_else current (lit_at s)) × (start_in links s ≡ or_else root (lit_at s))
+        idle : Idle v times t current → (parent_in links s ≡ parent_by current (lit_at s)) × (start_in links s ≡ start_by current (lit_at s))
         idle I =
             ⊎_elim
-            (λ (R : Root v times links s). rw (I.none, I.no_root) (R.parent, R.start))
+            (λ (R : Root v times links s). rw I.none (R.parent, R.start))
             (λ (w : (p : ℕ) × Under v times links s p). absurd (I.closed w.0 w.1.slot (around_open w.0 w.1.slot w.1.around)))
             e
 
-        within : ((p : ℕ) × Within v times links t current root p) → (parent_in links s ≡ or_else current (lit_at s)) × (start_in links s ≡ or_else root (lit_at s))
+        within : ((p : ℕ) × Within v times links t current p) → (parent_in links s ≡ parent_by current (lit_at s)) × (start_in links s ≡ start_by current (lit_at s))
         within w =
             let p = w.0 in
             let W = w.1 in
@@ -102,29 +105,27 @@ module _ (v : ℕ) (times : List ℕ) (links : List ℤ) (T : Times (4 * v) time
             let q = x.0 in
             let U = x.1 in
             let same : q ≡ p = same_slot v times T q p U.slot W.slot (omega (arith, W.last q U.slot (around_open q U.slot U.around), U.last p W.slot (open_around p W.slot W.at))) in
-            let e₁ : parent_in links s ≡ current = U.parent ∙ ap lit_at same ∙ sym W.is in
-            let e₂ : start_in links s ≡ root = U.start ∙ ap (start_in links) same ∙ sym W.is_root in
-            (e₁ ∙ sym (else_some current (lit_at s) (omega (arith, lit_var p, ap nat_abs W.is))), e₂ ∙ sym (else_some root (lit_at s) W.some_root)))
+            rw W.is (U.parent ∙ ap lit_at same, U.start ∙ ap (start_in links) same))
             e
 
     -- the step, from the tests
-    pub enter_right : parent_in links s ≡ or_else current (lit_at s) → start_in links s ≡ or_else root (lit_at s) → Entered v times links s
+    pub enter_right : parent_in links s ≡ parent_by current (lit_at s) → start_in links s ≡ start_by current (lit_at s) → Entered v times links s
     enter_right e₁ e₂ = ⊎_elim idle within S
       where
-        idle : Idle v times t current root → Entered v times links s
+        idle : Idle v times t current → Entered v times links s
         idle I = inl (record {
           parent = rw I.none at e₁;
-          start = rw I.no_root at e₂;
+          start = rw I.none at e₂;
           alone = λ u lu a. I.closed u lu (around_open u lu a);
         })
 
-        within : ((p : ℕ) × Within v times links t current root p) → Entered v times links s
+        within : ((p : ℕ) × Within v times links t current p) → Entered v times links s
         within w = let p = w.0 in let W = w.1 in inr (
           p,
           record {
             slot = W.slot;
-            parent = e₁ ∙ else_some current (lit_at s) (omega (arith, lit_var p, ap nat_abs W.is)) ∙ W.is;
-            start = e₂ ∙ else_some root (lit_at s) W.some_root ∙ W.is_root;
+            parent = rw W.is at e₁;
+            start = rw W.is at e₂;
             around = open_around p W.slot W.at;
             last = λ u lu a. W.last u lu (around_open u lu a);
           },
@@ -139,17 +140,12 @@ module _ (v : ℕ) (times : List ℕ) (links : List ℤ) (T : Times (4 * v) time
       left = λ u lu h. P.left u lu (⊎_elim (λ (k : E u ≤ t). k) (λ (k : t < E u). absurd (not_both v times T s u ls lu (omega arith))) (le_or (E u) t));
     }
 
-    pub enter_stack : start_in links s ≡ or_else root (lit_at s) → Stack v times links (t + 1) (lit_at s) (or_else root (lit_at s))
+    pub enter_stack : start_in links s ≡ start_by current (lit_at s) → Stack v times links (t + 1) (Some (lit_at s, start_by current (lit_at s)))
     enter_stack e = inr (
       s,
       record {
         slot = ls;
-        is = refl;
-        is_root = sym e;
-        some_root = ⊎_elim
-            (λ (I : Idle v times t current root). rw I.no_root (omega (arith, lit_var s)))
-            (λ (w : (p : ℕ) × Within v times links t current root p). rw (else_some root (lit_at s) w.1.some_root) w.1.some_root)
-            S;
+        is = ap (λ (z : ℤ). Some (lit_at s, z)) (sym e);
         at = (
           omega arith,
           ⊎_elim
@@ -166,17 +162,19 @@ module _ (v : ℕ) (times : List ℕ) (links : List ℤ) (T : Times (4 * v) time
 
   -- ---- slot s is left at time t + 1
 
-  module _ (t s : ℕ) (current root : ℤ) (P : Passed v times links t) (S : Stack v times links t current root) (ls : s < 2 * v) (now : E s ≡ t + 1) where
+  module _ (t s : ℕ) (current : Option (ℤ × ℤ)) (P : Passed v times links t) (S : Stack v times links t current) (ls : s < 2 * v) (now : E s ≡ t + 1) where
     -- s is the slot that was open
-    here : current ≡ lit_at s → Within v times links t current root s
-    here e = ⊎_elim
-        (λ (I : Idle v times t current root). absurd (omega (arith, lit_var s, ap nat_abs (sym e ∙ I.none))))
-        (λ (w : (p : ℕ) × Within v times links t current root p). subst (Within v times links t current root) (sym (slot_lit w.0) ∙ ap slot_of (sym w.1.is ∙ e) ∙ slot_lit s) w.1)
+    here : (root : ℤ) → current ≡ Some (lit_at s, root) → Within v times links t current s
+    here root e = ⊎_elim
+        (λ (I : Idle v times t current). absurd (let z = sym I.none ∙ e in let o : ◌≡◌ {A = ℕ} 0 1 = cc in omega arith))
+        (λ (w : (p : ℕ) × Within v times links t current p).
+        let o = same_open (lit_at w.0) (start_in links w.0) (lit_at s) root (sym w.1.is ∙ e) in
+        subst (Within v times links t current) (sym (slot_lit w.0) ∙ ap slot_of o.0 ∙ slot_lit s) w.1)
         S
 
-    pub leave_right : current ≡ lit_at s → Left v times s
-    leave_right e =
-        let W = here e in
+    pub leave_right : (root : ℤ) → current ≡ Some (lit_at s, root) → Left v times s
+    leave_right root e =
+        let W = here root e in
         record {
           forward = omega (arith, W.at.0, now);
           inside = λ u lu a b. ⊎_elim
@@ -188,13 +186,13 @@ module _ (v : ℕ) (times : List ℕ) (links : List ℤ) (T : Times (4 * v) time
               (le_or (E s) (E u));
         }
 
-    pub leave_test : Left v times s → current ≡ lit_at s
+    pub leave_test : Left v times s → current ≡ Some (lit_at s, start_in links s)
     leave_test L = ⊎_elim
-        (λ (I : Idle v times t current root). absurd (I.closed s ls (omega (arith, L.forward, now), omega arith)))
-        (λ (w : (p : ℕ) × Within v times links t current root p).
+        (λ (I : Idle v times t current). absurd (I.closed s ls (omega (arith, L.forward, now), omega arith)))
+        (λ (w : (p : ℕ) × Within v times links t current p).
         let W = w.1 in
         let le = W.last s ls (omega (arith, L.forward, now), omega arith) in
-        W.is ∙ ap lit_at (⊎_elim
+        W.is ∙ ap (λ (q : ℕ). Some (lit_at q, start_in links q)) (⊎_elim
         (λ (e : w.0 ≡ s). e)
         (λ (n : w.0 ≡ s → ⊥). absurd (⊎_elim
         (λ (k : D w.0 ≤ D s). n (same_slot v times T w.0 s W.slot ls (omega arith)))
@@ -212,11 +210,11 @@ module _ (v : ℕ) (times : List ℕ) (links : List ℤ) (T : Times (4 * v) time
           (le_or (E u) t);
     }
 
-    module _ (e : current ≡ lit_at s) where
+    module _ (root : ℤ) (e : current ≡ Some (lit_at s, root)) where
       -- what is open after s was open when s was entered
       still_around : (u : ℕ) → u < 2 * v → Open times (t + 1) u → Around times u s
       still_around u lu o =
-          let W = here e in
+          let W = here root e in
           let le : D u ≤ t = ⊎_elim (λ (k : D u ≤ t). k) (λ (k : t < D u). absurd (not_both v times T u s lu ls (omega (arith, o.0, now)))) (le_or (D u) t) in
           let l = W.last u lu (le, omega (arith, o.1)) in (
             ⊎_elim
@@ -227,28 +225,26 @@ module _ (v : ℕ) (times : List ℕ) (links : List ℤ) (T : Times (4 * v) time
           )
 
       was_entered : Entered v times links s
-      was_entered = P.entered s ls (here e).at.0
+      was_entered = P.entered s ls (here root e).at.0
 
-      pub leave_idle : parent_in links s ≡ lit_at s → Stack v times links (t + 1) (pos 0) (pos 0)
+      pub leave_idle : parent_in links s ≡ lit_at s → Stack v times links (t + 1) None
       leave_idle q = ⊎_elim
-          (λ (R : Root v times links s). inl (record { none = refl; no_root = refl; closed = λ u lu o. R.alone u lu (still_around u lu o) }))
+          (λ (R : Root v times links s). inl (record { none = refl; closed = λ u lu o. R.alone u lu (still_around u lu o) }))
           (λ (w : (p : ℕ) × Under v times links s p). absurd (omega (arith, w.1.around.0, ap D (sym (slot_lit w.0) ∙ ap slot_of (sym w.1.parent ∙ q) ∙ slot_lit s))))
           was_entered
 
-      pub leave_up : (parent_in links s ≡ lit_at s → ⊥) → Stack v times links (t + 1) (parent_in links s) root
+      pub leave_up : (parent_in links s ≡ lit_at s → ⊥) → Stack v times links (t + 1) (Some (parent_in links s, root))
       leave_up n = ⊎_elim
           (λ (R : Root v times links s). absurd (n R.parent))
           (λ (w : (p : ℕ) × Under v times links s p).
           let p = w.0 in
           let U = w.1 in
-          let W = here e in
+          let W = here root e in
           inr (
             p,
             record {
               slot = U.slot;
-              is = U.parent;
-              is_root = W.is_root ∙ U.start;
-              some_root = W.some_root;
+              is = λ i. Some (U.parent i, ((same_open (lit_at s) root (lit_at s) (start_in links s) (sym e ∙ W.is)).1 ∙ U.start) i);
               at = (
                 omega (arith, U.around.0, W.at.0),
                 ⊎_elim
@@ -266,18 +262,18 @@ module _ (v : ℕ) (times : List ℕ) (links : List ℤ) (T : Times (4 * v) time
 
 -- ---- the same in the terms of the loop: after time t, for any times that the index is of
 
-pub record Scanning (v : ℕ) (index : List ℕ) (links : List ℤ) (t : ℕ) (current root : ℤ) : Type 0 where
+pub record Scanning (v : ℕ) (index : List ℕ) (links : List ℤ) (t : ℕ) (current : Option (ℤ × ℤ)) : Type 0 where
   pub within : t ≤ 4 * v
-  pub so_far : (times : List ℕ) → Indexed (4 * v) times index → Passed v times links t × Stack v times links t current root
+  pub so_far : (times : List ℕ) → Indexed (4 * v) times index → Passed v times links t × Stack v times links t current
 
-pub scanning_begin : (v : ℕ) (index : List ℕ) (links : List ℤ) → Scanning v index links 0 (pos 0) (pos 0)
+pub scanning_begin : (v : ℕ) (index : List ℕ) (links : List ℤ) → Scanning v index links 0 None
 scanning_begin v index links = record { within = omega arith; so_far = λ times I. begin v times links (indexed_times (4 * v) times index I) }
 
-pub scanning_done : (v : ℕ) (index : List ℕ) (links : List ℤ) (t : ℕ) (current root : ℤ) → Scanning v index links t current root → 4 * v ≤ t
+pub scanning_done : (v : ℕ) (index : List ℕ) (links : List ℤ) (t : ℕ) (current : Option (ℤ × ℤ)) → Scanning v index links t current → 4 * v ≤ t
     → (times : List ℕ) → Indexed (4 * v) times index → FreshStamps v times links
-scanning_done v index links t current root S h times I = finished v times links (indexed_times (4 * v) times index I) t h (S.so_far times I).0
+scanning_done v index links t current S h times I = finished v times links (indexed_times (4 * v) times index I) t h (S.so_far times I).0
 
-module _ (v : ℕ) (index : List ℕ) (links : List ℤ) (t : ℕ) (current root : ℤ) (S : Scanning v index links t current root) (lt : t < 4 * v)
+module _ (v : ℕ) (index : List ℕ) (links : List ℤ) (t : ℕ) (current : Option (ℤ × ℤ)) (S : Scanning v index links t current) (lt : t < 4 * v)
     (k : ℕ) (is-k : k ≡ get_or index t 0 - 1) where
   -- the place that the index names has time t + 1
   at_place : (times : List ℕ) → Indexed (4 * v) times index → (k < 4 * v) × (get_or times k 0 ≡ t + 1)
@@ -301,8 +297,8 @@ module _ (v : ℕ) (index : List ℕ) (links : List ℤ) (t : ℕ) (current root
     discovery_at_lem : (times : List ℕ) → Indexed (4 * v) times index → discovery_in times (k / 2) ≡ t + 1
     discovery_at_lem times I = ap (λ (j : ℕ). get_or times j 0) double ∙ (at_place times I).1
 
-    pub scan_enter : get_or links k (pos 0) ≡ or_else current (lit_at (k / 2)) → get_or links (k + 1) (pos 0) ≡ or_else root (lit_at (k / 2))
-        → Scanning v index links (t + 1) (lit_at (k / 2)) (or_else root (lit_at (k / 2)))
+    pub scan_enter : get_or links k (pos 0) ≡ parent_by current (lit_at (k / 2)) → get_or links (k + 1) (pos 0) ≡ start_by current (lit_at (k / 2))
+        → Scanning v index links (t + 1) (Some (lit_at (k / 2), start_by current (lit_at (k / 2))))
     scan_enter e₁ e₂ = record {
       within = omega arith;
       so_far = λ times I.
@@ -310,17 +306,17 @@ module _ (v : ℕ) (index : List ℕ) (links : List ℤ) (t : ℕ) (current root
           let s = S.so_far times I in
           let ls : k / 2 < 2 * v = omega (arith, (at_place times I).0) in
           let now = discovery_at_lem times I in (
-            enter_passed v times links T t (k / 2) current root s.0 s.1 ls now (enter_right v times links T t (k / 2) current root s.0 s.1 ls now (parent_at ∙ e₁) (start_at ∙ e₂)),
-            enter_stack v times links T t (k / 2) current root s.0 s.1 ls now (start_at ∙ e₂),
+            enter_passed v times links T t (k / 2) current s.0 s.1 ls now (enter_right v times links T t (k / 2) current s.0 s.1 ls now (parent_at ∙ e₁) (start_at ∙ e₂)),
+            enter_stack v times links T t (k / 2) current s.0 s.1 ls now (start_at ∙ e₂),
           );
     }
 
     pub enter_must : (times : List ℕ) → Indexed (4 * v) times index → FreshStamps v times links
-        → (get_or links k (pos 0) ≡ or_else current (lit_at (k / 2))) × (get_or links (k + 1) (pos 0) ≡ or_else root (lit_at (k / 2)))
+        → (get_or links k (pos 0) ≡ parent_by current (lit_at (k / 2))) × (get_or links (k + 1) (pos 0) ≡ start_by current (lit_at (k / 2)))
     enter_must times I F =
         let s = S.so_far times I in
         let ls : k / 2 < 2 * v = omega (arith, (at_place times I).0) in
-        let e = enter_tests v times links (indexed_times (4 * v) times index I) t (k / 2) current root s.0 s.1 ls (discovery_at_lem times I) (slot_entered v times links F (k / 2) ls) in
+        let e = enter_tests v times links (indexed_times (4 * v) times index I) t (k / 2) current s.0 s.1 ls (discovery_at_lem times I) (slot_entered v times links F (k / 2) ls) in
         (sym parent_at ∙ e.0, sym start_at ∙ e.1)
 
   -- ---- an odd place is a finish
@@ -332,36 +328,36 @@ module _ (v : ℕ) (index : List ℕ) (links : List ℤ) (t : ℕ) (current root
     finish_at : (times : List ℕ) → Indexed (4 * v) times index → finish_in times (k / 2) ≡ t + 1
     finish_at times I = let e : 2 * (k / 2) + 1 ≡ k = omega arith in ap (λ (j : ℕ). get_or times j 0) e ∙ (at_place times I).1
 
-    module _ (e : current ≡ lit_at (k / 2)) where
+    module _ (root : ℤ) (e : current ≡ Some (lit_at (k / 2), root)) where
       passed : (times : List ℕ) → Indexed (4 * v) times index → Passed v times links (t + 1)
       passed times I =
           let T = indexed_times (4 * v) times index I in
           let s = S.so_far times I in
           let ls : k / 2 < 2 * v = omega (arith, (at_place times I).0) in
           let now = finish_at times I in
-          leave_passed v times links T t (k / 2) current root s.0 s.1 ls now (leave_right v times links T t (k / 2) current root s.0 s.1 ls now e)
+          leave_passed v times links T t (k / 2) current s.0 s.1 ls now (leave_right v times links T t (k / 2) current s.0 s.1 ls now root e)
 
-      pub scan_leave_root : get_or links (k - 1) (pos 0) ≡ lit_at (k / 2) → Scanning v index links (t + 1) (pos 0) (pos 0)
+      pub scan_leave_root : get_or links (k - 1) (pos 0) ≡ lit_at (k / 2) → Scanning v index links (t + 1) None
       scan_leave_root q = record {
         within = omega arith;
         so_far = λ times I.
             let s = S.so_far times I in
-            (passed times I, leave_idle v times links (indexed_times (4 * v) times index I) t (k / 2) current root s.0 s.1 (omega (arith, (at_place times I).0)) (finish_at times I) e (before_at ∙ q));
+            (passed times I, leave_idle v times links (indexed_times (4 * v) times index I) t (k / 2) current s.0 s.1 (omega (arith, (at_place times I).0)) (finish_at times I) root e (before_at ∙ q));
       }
 
-      pub scan_leave : (get_or links (k - 1) (pos 0) ≡ lit_at (k / 2) → ⊥) → Scanning v index links (t + 1) (get_or links (k - 1) (pos 0)) root
+      pub scan_leave : (get_or links (k - 1) (pos 0) ≡ lit_at (k / 2) → ⊥) → Scanning v index links (t + 1) (Some (get_or links (k - 1) (pos 0), root))
       scan_leave n = record {
         within = omega arith;
         so_far = λ times I.
             let s = S.so_far times I in (
               passed times I,
-              subst (λ (l : ℤ). Stack v times links (t + 1) l root) before_at
-                  (leave_up v times links (indexed_times (4 * v) times index I) t (k / 2) current root s.0 s.1 (omega (arith, (at_place times I).0)) (finish_at times I) e (λ q. n (sym before_at ∙ q))),
+              subst (λ (l : ℤ). Stack v times links (t + 1) (Some (l, root))) before_at
+                  (leave_up v times links (indexed_times (4 * v) times index I) t (k / 2) current s.0 s.1 (omega (arith, (at_place times I).0)) (finish_at times I) root e (λ q. n (sym before_at ∙ q))),
             );
       }
 
-    pub leave_must : (times : List ℕ) → Indexed (4 * v) times index → FreshStamps v times links → current ≡ lit_at (k / 2)
+    pub leave_must : (times : List ℕ) → Indexed (4 * v) times index → FreshStamps v times links → current ≡ Some (lit_at (k / 2), start_in links (k / 2))
     leave_must times I F =
         let s = S.so_far times I in
         let ls : k / 2 < 2 * v = omega (arith, (at_place times I).0) in
-        leave_test v times links (indexed_times (4 * v) times index I) t (k / 2) current root s.0 s.1 ls (finish_at times I) (slot_left v times links F (k / 2) ls)
+        leave_test v times links (indexed_times (4 * v) times index I) t (k / 2) current s.0 s.1 ls (finish_at times I) (slot_left v times links F (k / 2) ls)

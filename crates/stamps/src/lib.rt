@@ -4,73 +4,51 @@
 ghost use Rattle.std.specs.Prelude.{◌≡◌, true, false, List, ℕ, ◌+◌, ◌*◌, ◌≤◌, ◌<◌, length, replicate};
 ghost use Rattle.base.specs.Decide.{Decides};
 ghost use Rattle.stamps.specs.Fresh.{Times, FreshStamps};
-ghost use Rattle.stamps.specs.Index.{Indexed, Filled, or_else};
-
-// The literal a, or b where a is none, which is 0.
-fn or_else(a: i32, b: i32) -> i32
-    ensures { result ≡ or_else a b }
-{
-    if a == 0 { b } else { a }
-}
+ghost use Rattle.stamps.specs.Index.{Indexed, Filled};
 
 // Enters the number of each of the first n places, from 1, under the time that stands there. No, where a time is not 1 to n or stands twice.
 fn index_times(times: &[u32], n: usize, index: &mut [u32]) -> bool
     requires { (n ≤ length times.now) × (n ≤ 4096) × (index.old ≡ replicate n 0) }
     ensures { (result ≡ true → Indexed n times.now index.new) × (result ≡ false → Times n times.now → ⊥) }
 {
-    let mut k = 0;
-    while k < n {
-        let t = times[k] as usize;
-        if t == 0 {
+    for (k, &time) in times[..n].iter().enumerate() {
+        let t = time as usize;
+        if t == 0 || n < t || index[t - 1] != 0 {
             return false;
         }
-        if n < t {
-            return false;
-        }
-        if index[t - 1] != 0 {
-            return false;
-        }
-        k += 1;
-        index[t - 1] = k as u32;
+        index[t - 1] = k as u32 + 1;
     }
     true
 }
 
-// Goes through the times with the literal that is open and its start, both 0 while none is. A slot is entered under the open literal, and left while it is the open one.
+// Goes through the times with the literal that is open and its start, if one is. A slot is entered under the open literal, and left while it is the open one.
 fn scan_times(links: &[i32], index: &[u32], v: u32) -> bool
     requires { (v ≤ 1024) × (4 * v ≤ length links.now) × (length index.now ≡ 4 * v) × Filled (4 * v) index.now }
     ensures { (times : List ℕ) → Indexed (4 * v) times index.now → Decides result (FreshStamps v times links.now) }
 {
-    let n = 4 * v as usize;
-    let mut current: i32 = 0;
-    let mut root: i32 = 0;
-    let mut t = 0;
-    while t < n {
-        let k = index[t] as usize - 1;
+    let mut current: Option<(i32, i32)> = None;
+    for &place in index {
+        let k = place as usize - 1;
         let l = literal::lit_at(k / 2);
-        t += 1;
         if k % 2 == 0 {
-            let parent = or_else(current, l);
-            let start = or_else(root, l);
-            if links[k] != parent {
+            let (parent, start) = current.unwrap_or((l, l));
+            if links[k] != parent || links[k + 1] != start {
                 return false;
             }
-            if links[k + 1] != start {
-                return false;
-            }
-            current = l;
-            root = start;
+            current = Some((l, start));
         } else {
-            if current != l {
+            let Some((open, start)) = current else {
+                return false;
+            };
+            if open != l {
                 return false;
             }
             let parent = links[k - 1];
-            if parent == l {
-                current = 0;
-                root = 0;
+            current = if parent == l {
+                None
             } else {
-                current = parent;
-            }
+                Some((parent, start))
+            };
         }
     }
     true
@@ -81,10 +59,7 @@ fn stamps_by(times: &[u32], links: &[i32], v: u32, index: &mut [u32]) -> bool
     requires { (v ≤ 1024) × (4 * v ≤ length times.now) × (4 * v ≤ length links.now) × (index.old ≡ replicate (4 * v) 0) }
     ensures { Decides result (FreshStamps v times.now links.now) }
 {
-    if !index_times(times, 4 * v as usize, index) {
-        return false;
-    }
-    scan_times(links, index, v)
+    index_times(times, 4 * v as usize, index) && scan_times(links, index, v)
 }
 
 // Whether the stamps of v variables are as the rule has them. The tables have the stated length and V is within its limit: `shape::fresh_ok` asks only then.
