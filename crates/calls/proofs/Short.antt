@@ -1,6 +1,6 @@
 -- A slice of fewer than 2,048 records gives short columns, which the shape rule and the test of lengths refuse. Said once for all calls. Assumes nothing.
-use Prim.Native.Nat.{ℕ, ◌*◌, ◌≤◌, ◌<◌}
-use native.Mathlib.Nat.{min-le_left, min-le_right}
+use Prim.Native.Nat.{◌<◌}
+use native.Mathlib.Nat.{min-le_right}
 use native.Mathlib.Omega.{arith}
 use mathlib.Core.Path.{◌≡◌, refl}
 use mathlib.Core.Bool.{Bool, true, false}
@@ -9,9 +9,8 @@ use lib.ListN.{length, take, length-take}
 use Rattle.base.specs.Decide.{does_exact}
 use Rattle.state.specs.declared.State.{State}
 use Rattle.state.specs.declared.Refusal.TheVariants.{Shape}
-use Rattle.stamp_records.specs.declared.Columns.{Columns}
 use Rattle.stamp_records.specs.declared.StampRecord.{StampRecord}
-use Rattle.stamp_records.specs.Records.{times_of, held_times}
+use Rattle.stamp_records.specs.Records.{times_of}
 use Rattle.stamp_records.proofs.Over.{length_pairs}
 use Rattle.tables.specs.Tables.{Tables}
 use Rattle.tables.specs.Long.{long?, long_ok}
@@ -47,11 +46,7 @@ module _ (t : Tables) (short : length t.times < 4096) where
       go true e = absurd (omega (arith, short, ((does_exact (long? t)).holds e).times))
       go false e = e
 
--- columns by value that hold fewer than 2,048 records are short
-pub few_held : (c : Columns) → c.count < 2048 → length (held_times c) < 4096
-few_held c few = omega (arith, few, length-take (2 * c.count) c.times, min-le_left (2 * c.count) (length c.times))
-
--- and so are those of a slice of fewer records: every call's definition refuses it with 1
+-- the columns of a slice of fewer than 2,048 records are short: every call's definition refuses it with 1
 pub few_lent : (stamps : List StampRecord) → length stamps < 2048 → length (times_of stamps) < 4096
 few_lent stamps few =
     omega (arith, few, length_pairs (λ (r : StampRecord). r.discovery) (λ (r : StampRecord). r.finish) (take 2048 stamps), length-take 2048 stamps, min-le_right 2048 (length stamps))

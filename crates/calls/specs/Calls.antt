@@ -4,18 +4,13 @@ use Rattle.state.specs.Answers.{Reply, reply_of}
 use Rattle.state.specs.declared.State.{State}
 use Rattle.state.specs.declared.Outcome.{Outcome}
 use Rattle.stamp_records.specs.declared.StampRecord.{StampRecord}
-use Rattle.stamp_records.specs.declared.Columns.{Columns}
-use Rattle.stamp_records.specs.Records.{times_of, links_of, packed, held_times, held_links}
+use Rattle.stamp_records.specs.Records.{times_of, links_of, packed}
 use Rattle.tables.specs.Tables.{Tables, tables}
 use Rattle.tables.specs.Calls.{After}
 
 -- the tables that the definitions of the calls speak of: a slice of fewer than 2,048 records gives columns that are too short, which every call refuses
 abbrev pub recorded : List ℕ → List ℤ → List ℤ → List StampRecord → Tables
 recorded clauses literals variables stamps = tables clauses literals variables (times_of stamps) (links_of stamps)
-
--- the same with the columns by value
-abbrev pub held : List ℕ → List ℤ → List ℤ → Columns → Tables
-held clauses literals variables c = tables clauses literals variables (held_times c) (held_links c)
 
 -- what Stamp leaves: its reply, the state and the lent records. The other tables are lent to it for reading only
 pub record AfterStamp : Type 0 where

@@ -47,6 +47,24 @@ records_take (suc n) (d ∷ []) ls = ap (λ (k : ℕ). records_in (take k (d ∷
 records_take (suc n) (d ∷ f ∷ ts) [] = ap (λ (k : ℕ). records_in (take k (d ∷ f ∷ ts)) (take k [])) (two_more n)
 records_take (suc n) (d ∷ f ∷ ts) (p ∷ []) = ap (λ (k : ℕ). records_in (take k (d ∷ f ∷ ts)) (take k (p ∷ []))) (two_more n)
 
+-- all records are those of half as many places, rounded down
+pub records_all : (n : ℕ) (ts : List ℕ) (ls : List ℤ) → length ts ≤ 2 * n + 1 → take n (records_in ts ls) ≡ records_in ts ls
+unfolding records_in
+records_all zero [] ls h = refl
+records_all zero (d ∷ []) ls h = refl
+records_all zero (d ∷ f ∷ ts) ls h = absurd (above (length ts) h)
+  where
+    above : (m : ℕ) → suc (suc m) ≤ 2 * 0 + 1 → ⊥
+    above m h = omega arith
+records_all (suc n) (d ∷ f ∷ ts) (p ∷ s ∷ ls) h = ap (λ (l : List StampRecord). stamp_record d f p s ∷ l) (records_all n ts ls (without (length ts) h))
+  where
+    without : (m : ℕ) → suc (suc m) ≤ 2 * suc n + 1 → m ≤ 2 * n + 1
+    without m h = omega arith
+records_all (suc n) [] ls h = refl
+records_all (suc n) (d ∷ []) ls h = refl
+records_all (suc n) (d ∷ f ∷ ts) [] h = refl
+records_all (suc n) (d ∷ f ∷ ts) (p ∷ []) h = refl
+
 -- the columns of records hold these records
 pub records_own : (rs : List StampRecord) → records_in (times_in rs) (links_in rs) ≡ rs
 unfolding records_in pairs_in

@@ -1,7 +1,7 @@
 // A stamp record for each literal in a slice that the caller lends, and the two columns of numbers that the passes work on: the copies between them.
 #![tactic(auto)]
 
-ghost use Rattle.std.specs.Prelude.{◌≡◌, ◌+◌, ◌*◌, ◌<◌, ◌≤◌, min, length, take};
+ghost use Rattle.std.specs.Prelude.{◌≡◌, ◌+◌, ◌*◌, ◌/◌, ◌<◌, ◌≤◌, min, length, take};
 ghost use Rattle.stamp_records.specs.Records.{record_at, times_put, links_put, times_in, links_in, records_in, over, times_of, links_of, packed, held_times, held_links};
 
 // The stamps of one literal.
@@ -20,6 +20,24 @@ pub struct Columns {
     pub times: [u32; 4096],
     pub links: [i32; 4096],
     pub count: usize,
+}
+
+impl Columns {
+    // The times of the records that the columns hold.
+    pub fn times(&self) -> &[u32]
+        requires { self.now.count ≤ 2048 }
+        ensures { result.now ≡ held_times self.now }
+    {
+        &self.times[..2 * self.count]
+    }
+
+    // The links of the same records.
+    pub fn links(&self) -> &[i32]
+        requires { self.now.count ≤ 2048 }
+        ensures { result.now ≡ held_links self.now }
+    {
+        &self.links[..2 * self.count]
+    }
 }
 
 // The record that the columns have at i.
@@ -50,7 +68,7 @@ fn put_record(times: &mut [u32], links: &mut [i32], i: usize, r: StampRecord)
 
 // The first n records, from the columns.
 fn pack(s: &mut [StampRecord], times: &[u32], links: &[i32], n: usize)
-    requires { (n ≤ 2048) × (n ≤ length s.old) × (4096 ≤ length times.now) × (4096 ≤ length links.now) }
+    requires { (n ≤ 2048) × (n ≤ length s.old) × (2 * n ≤ length times.now) × (2 * n ≤ length links.now) }
     ensures { s.new ≡ over (take n (records_in times.now links.now)) s.old }
 {
     let mut i: usize = 0;
@@ -97,12 +115,10 @@ pub fn columns_of(s: &[StampRecord]) -> Columns
     }
 }
 
-// The records that the columns hold, over the first of the lent ones; later ones stay. The columns are those that `columns_of` made of this slice.
-pub fn put_columns(s: &mut [StampRecord], c: Columns)
-    requires { (c.count ≤ 2048) × (c.count ≤ length s.old) }
-    ensures { s.new ≡ packed (held_times c) (held_links c) s.old }
+// The records that two columns hold, over the first of the lent ones; later ones stay. The columns are those that `columns_of` made of this slice.
+pub fn put_columns(s: &mut [StampRecord], times: &[u32], links: &[i32])
+    requires { (length links.now ≡ length times.now) × (length times.now ≤ 2 * length s.old) × (length times.now ≤ 4096) }
+    ensures { s.new ≡ packed times.now links.now s.old }
 {
-    let times = c.times;
-    let links = c.links;
-    pack(s, &times, &links, c.count);
+    pack(s, times, links, times.len() / 2);
 }
