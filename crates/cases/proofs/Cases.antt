@@ -16,7 +16,7 @@ use Rattle.scc.specs.Groups.{reaches, connected, cyclic, least_mutual}
 use Rattle.stamps.specs.Decision.{literal?, holds?, times?, parent?, start?, nested?, fresh?}
 use Rattle.state.specs.Programmes.{programme_of, constant_programme}
 use Rattle.state.specs.Answers.{Reply, reply}
-use Rattle.programmes.specs.Judging.{settled?, stamped?, fits?, rules?, passing?, first_offending, judge as judgeCodes}
+use Rattle.programmes.specs.Judging.{settled?, stamped?, fits?, rules?, passing?, offending_place, first_offending, judge as judgeCodes}
 use Rattle.tables.specs.Long.{long?, long_ok}
 use Rattle.tables.specs.Clauses.{slots_at, slots_from, standing_count, literal_count}
 use Rattle.tables.specs.Fates.{shortened, dropped_at, fate_at, visits}
@@ -191,5 +191,5 @@ cases =
     ∷ []
 
 pub hold : All cases
-unfolding and? or? if? not? so? every? eqᵇ? eqℤ? any filter absent first any_below all_below same_list numbers turned evens odds interleave twin arrive leave edge edges enters start_walk stamp_all outs froms tos reaches connected cyclic least_mutual literal? holds? times? parent? start? nested? fresh? long? long_ok slots_at slots_from standing_count literal_count shortened dropped_at fate_at visits advance first_unsettled parts? literals? variable? spread? cursor? clauses? shape? shape_ok entry_of opening_of words_at header header_rest judge judge_text clauses_of clause_records literal_places variable_records laid load_call digits clause_text clauses_text text_of written_clauses write_text write_call propagate_clause propagate_visit propagate_visits spread_from spread propagate_from propagate_call clashes representative regrouped merged_classes merge_clause merge_open merge_settled merge_call holds insert by_discovery scan_at scan figure6 transitive hidden_pair hidden_tautology unhidden shorten same_start holds_both lowest failed_slot first_bad stamps_of stamped_tables stamp_acyclic stamp_settled stamp_ordered stamp_call failed_at failed_from failed_fresh failed_call sweep_clause sweep_call settle_for settle order_of follow round unchanged run_from run_call simplify_text unhide_text step_on steps_on ℕ_discrete dec_le dec_lt constant_programme programme_of passing? rules? fits? stamped? settled? judgeCodes first_offending set_call
+unfolding and? or? if? not? so? every? eqᵇ? eqℤ? any filter absent first any_below all_below same_list numbers turned evens odds interleave twin arrive leave edge edges enters start_walk stamp_all outs froms tos reaches connected cyclic least_mutual literal? holds? times? parent? start? nested? fresh? long? long_ok slots_at slots_from standing_count literal_count shortened dropped_at fate_at visits advance first_unsettled parts? literals? variable? spread? cursor? clauses? shape? shape_ok entry_of opening_of words_at header header_rest judge judge_text clauses_of clause_records literal_places variable_records laid load_call digits clause_text clauses_text text_of written_clauses write_text write_call propagate_clause propagate_visit propagate_visits spread_from spread propagate_from propagate_call clashes representative regrouped merged_classes merge_clause merge_open merge_settled merge_call holds insert by_discovery scan_at scan figure6 transitive hidden_pair hidden_tautology unhidden shorten same_start holds_both lowest failed_slot first_bad stamps_of stamped_tables stamp_acyclic stamp_settled stamp_ordered stamp_call failed_at failed_from failed_fresh failed_call sweep_clause sweep_call settle_for settle order_of follow round unchanged run_from run_call simplify_text unhide_text step_on steps_on ℕ_discrete dec_le dec_lt constant_programme programme_of passing? rules? fits? stamped? settled? judgeCodes first_offending offending_place set_call
 hold = (refl, (refl, (refl, (refl, (refl, (refl, (refl, (refl, (refl, (refl, (refl, (refl, (refl, (refl, (refl, (refl, (refl, (refl, (refl, (refl, (refl, (refl, (refl, tt)))))))))))))))))))))))

@@ -18,7 +18,7 @@ use Rattle.stamps.specs.Decision.{literal?, holds?, times?, parent?, start?, nes
 use Rattle.state.specs.Answers.{Reply, reply}
 use Rattle.state.specs.States.{empty_state}
 use Rattle.state.specs.Programmes.{programme_of, constant_programme}
-use Rattle.programmes.specs.Judging.{settled?, stamped?, fits?, rules?, passing?, first_offending, judge as judgeCodes}
+use Rattle.programmes.specs.Judging.{settled?, stamped?, fits?, rules?, passing?, offending_place, first_offending, judge as judgeCodes}
 use Rattle.tables.specs.Long.{long?, long_ok}
 use Rattle.tables.specs.Clauses.{slots_at, slots_from}
 use Rattle.tables.specs.Passes.{first_unsettled}
@@ -62,9 +62,9 @@ newcomers = (negsuc 0 ∷ pos 2 ∷ []) ∷ (pos 1 ∷ pos 3 ∷ []) ∷ (negsuc
 
 -- kept whole with 2, shortened to 1, dropped, dropped, kept whole with 0, refused with 11, shortened to 2
 pub replies : replies_from newcomers loaded.window ≡ reply 9 0 (0 ∷ 2 ∷ []) ∷ reply 10 0 (2 ∷ 1 ∷ []) ∷ reply 11 0 (1 ∷ 0 ∷ []) ∷ reply 11 0 (1 ∷ 0 ∷ []) ∷ reply 9 0 (0 ∷ 0 ∷ []) ∷ reply 0 11 (0 ∷ []) ∷ reply 10 0 (2 ∷ 2 ∷ []) ∷ []
-unfolding and? or? if? not? so? every? eqᵇ? eqℤ? any filter absent first any_below all_below same_list numbers turned evens odds interleave twin arrive leave edge edges enters start_walk stamp_all outs froms tos reaches connected cyclic literal? holds? times? parent? start? nested? fresh? long? long_ok slots_at slots_from first_unsettled parts? literals? variable? spread? cursor? clauses? shape? shape_ok opening_of words_at header header_rest judge judge_text textClausesOf clause_records literal_places variable_records laid load_call load_with holds insert by_discovery scan_at scan figure6 transitive hidden_pair hidden_tautology unhidden shorten first_bad stamps_of stamped_tables stamp_acyclic stamp_settled stamp_ordered stamp_call sweep_clause ℕ_discrete dec_le dec_lt constant_programme programme_of passing? rules? fits? stamped? settled? judgeCodes first_offending learnable? long_window? window? learnable_ok long_window_ok window_ok total_of emptied eldest_left put keep learn_call clauses_from replies_from
+unfolding and? or? if? not? so? every? eqᵇ? eqℤ? any filter absent first any_below all_below same_list numbers turned evens odds interleave twin arrive leave edge edges enters start_walk stamp_all outs froms tos reaches connected cyclic literal? holds? times? parent? start? nested? fresh? long? long_ok slots_at slots_from first_unsettled parts? literals? variable? spread? cursor? clauses? shape? shape_ok opening_of words_at header header_rest judge judge_text textClausesOf clause_records literal_places variable_records laid load_call load_with holds insert by_discovery scan_at scan figure6 transitive hidden_pair hidden_tautology unhidden shorten first_bad stamps_of stamped_tables stamp_acyclic stamp_settled stamp_ordered stamp_call sweep_clause ℕ_discrete dec_le dec_lt constant_programme programme_of passing? rules? fits? stamped? settled? judgeCodes first_offending offending_place learnable? long_window? window? learnable_ok long_window_ok window_ok total_of emptied eldest_left put keep learn_call clauses_from replies_from
 replies = refl
 
 pub window_then : (clauses_of (window_after newcomers loaded.window) ≡ (negsuc 0 ∷ pos 2 ∷ []) ∷ (pos 3 ∷ []) ∷ [] ∷ (pos 4 ∷ pos 2 ∷ []) ∷ []) × ((window_after newcomers loaded.window).window ≡ window_of 4 5)
-unfolding and? or? if? not? so? every? eqᵇ? eqℤ? any filter absent first any_below all_below same_list numbers turned evens odds interleave twin arrive leave edge edges enters start_walk stamp_all outs froms tos reaches connected cyclic literal? holds? times? parent? start? nested? fresh? long? long_ok slots_at slots_from first_unsettled parts? literals? variable? spread? cursor? clauses? shape? shape_ok opening_of words_at header header_rest judge judge_text textClausesOf clause_records literal_places variable_records laid load_call load_with holds insert by_discovery scan_at scan figure6 transitive hidden_pair hidden_tautology unhidden shorten first_bad stamps_of stamped_tables stamp_acyclic stamp_settled stamp_ordered stamp_call sweep_clause ℕ_discrete dec_le dec_lt constant_programme programme_of passing? rules? fits? stamped? settled? judgeCodes first_offending learnable? long_window? window? learnable_ok long_window_ok window_ok total_of emptied eldest_left put keep learn_call clauses_from window_after
+unfolding and? or? if? not? so? every? eqᵇ? eqℤ? any filter absent first any_below all_below same_list numbers turned evens odds interleave twin arrive leave edge edges enters start_walk stamp_all outs froms tos reaches connected cyclic literal? holds? times? parent? start? nested? fresh? long? long_ok slots_at slots_from first_unsettled parts? literals? variable? spread? cursor? clauses? shape? shape_ok opening_of words_at header header_rest judge judge_text textClausesOf clause_records literal_places variable_records laid load_call load_with holds insert by_discovery scan_at scan figure6 transitive hidden_pair hidden_tautology unhidden shorten first_bad stamps_of stamped_tables stamp_acyclic stamp_settled stamp_ordered stamp_call sweep_clause ℕ_discrete dec_le dec_lt constant_programme programme_of passing? rules? fits? stamped? settled? judgeCodes first_offending offending_place learnable? long_window? window? learnable_ok long_window_ok window_ok total_of emptied eldest_left put keep learn_call clauses_from window_after
 window_then = (refl, refl)

@@ -7,15 +7,14 @@ use mathlib.Core.Bool.{Bool, true, false, not, ◌&&◌, false≢true}
 use mathlib.Core.List.{List}
 use mathlib.Core.Logic.{◌↔◌, ◌⊎◌, inl, inr}
 use lib.ListN.{length}
-use lib.Dec.{eqb, leb, ltb}
+use lib.Dec.{eqb, leb}
 use borrow.Author.Tests.{eqb-true, eq-eqb, le-leb, lt-leb, lt-ltb, le-ltb}
+use Rattle.std.specs.Prelude.{Option, Some, None, Result, Ok, Err, is_ok}
 use Rattle.base.specs.Decide.{Decides, does, does_exact, says_yes, says_no, decides_map, le_or}
 use Rattle.base.specs.Lists.{first}
 use Rattle.base.proofs.Searches.{first_hit, first_next, first_passed, first_passes}
 use Rattle.programmes.specs.Rules.{code_at, Settled, Stamped, Fits, Rules}
-use Rattle.programmes.specs.Judging.{fits_by, stamped_by, stamped_here, stamped_on, stamped_back, fits?, offends, first_offending, judge}
-use Rattle.programmes.specs.declared.Judgement.{Judgement}
-use Rattle.programmes.specs.declared.Judgement.TheVariants.{Passes, Offends}
+use Rattle.programmes.specs.Judging.{fits_by, stamped_by, stamped_here, stamped_on, stamped_back, fits?, offends, offending_place, first_offending, judge}
 
 -- ---- one code
 
@@ -56,12 +55,12 @@ module _ (codes : List ℕ) (i : ℕ) where
 -- the walk has come to index i: what is left from here finds what the whole finds
 pub record Walking (codes : List ℕ) (settled stamped : Bool) (i : ℕ) : Type 0 where
   pub within : i ≤ length codes
-  pub left : first (offends codes) (length codes - i) i ≡ first_offending codes
+  pub left : first (offends codes) (length codes - i) i ≡ offending_place codes
   pub settle : Decides settled (Settled codes i)
   pub stamp : Decides stamped (Stamped codes i)
 
 pub walking_none : (codes : List ℕ) → Walking codes false false 0
-unfolding first_offending
+unfolding offending_place
 walking_none codes = record {
   within = omega arith;
   left = ap (λ (m : ℕ). first (offends codes) m 0) (let q : length codes - 0 ≡ length codes = omega arith in q);
@@ -69,10 +68,25 @@ walking_none codes = record {
   stamp = says_no (λ S. omega (arith, S.before));
 }
 
+-- where there is a place it is the first code that offends
+module _ (codes : List ℕ) where
+  abbrev by_found : Bool → Option ℕ
+  by_found found = elim found [ true ↦ Some (offending_place codes) | false ↦ None ]
+
+  some_offending : offending_place codes < length codes → Some (offending_place codes) ≡ first_offending codes
+  unfolding first_offending
+  some_offending lt = ap by_found (sym (lt-ltb (offending_place codes) (length codes) lt))
+
+  none_offending : length codes ≤ offending_place codes → None ≡ first_offending codes
+  unfolding first_offending
+  none_offending le = ap by_found (sym (le-ltb (offending_place codes) (length codes) le))
+
 module _ {codes : List ℕ} {settled stamped : Bool} {i : ℕ} (W : Walking codes settled stamped i) where
-  pub walking_done : length codes ≤ i → i ≡ first_offending codes
+  pub walking_done : length codes ≤ i → None ≡ first_offending codes
   unfolding first
-  walking_done le = ap (λ (m : ℕ). first (offends codes) m i) (let q : 0 ≡ length codes - i = omega arith in q) ∙ W.left
+  walking_done le =
+      let e : i ≡ offending_place codes = ap (λ (m : ℕ). first (offends codes) m i) (let q : 0 ≡ length codes - i = omega arith in q) ∙ W.left in
+      none_offending codes (omega (arith, e, le))
 
   module _ (lt : i < length codes) where
     tested : (b : Bool) → fits_by (code_at codes i) settled stamped ≡ b → does (fits? codes i) ≡ b
@@ -87,11 +101,13 @@ module _ {codes : List ℕ} {settled stamped : Bool} {i : ℕ} (W : Walking code
         by true q = absurd ((fits_by_lem codes i settled stamped W.settle W.stamp).fails e ((does_exact (fits? codes i)).holds q))
         by false q = q
 
-    one_left : first (offends codes) (suc (length codes - suc i)) i ≡ first_offending codes
+    one_left : first (offends codes) (suc (length codes - suc i)) i ≡ offending_place codes
     one_left = ap (λ (m : ℕ). first (offends codes) m i) (let q : suc (length codes - suc i) ≡ length codes - i = omega arith in q) ∙ W.left
 
-    pub walking_found : fits_by (code_at codes i) settled stamped ≡ false → i ≡ first_offending codes
-    walking_found e = sym (first_hit (offends codes) (suc (length codes - suc i)) i (omega arith) (ap not (tested false e))) ∙ one_left
+    pub walking_found : fits_by (code_at codes i) settled stamped ≡ false → Some i ≡ first_offending codes
+    walking_found e =
+        let at : i ≡ offending_place codes = sym (first_hit (offends codes) (suc (length codes - suc i)) i (omega arith) (ap not (tested false e))) ∙ one_left in
+        ap Some at ∙ some_offending codes (omega (arith, at, lt))
 
     pub walking_more : fits_by (code_at codes i) settled stamped ≡ true → (after : Bool) → after ≡ stamped_by (code_at codes i) stamped → Walking codes (eqb (code_at codes i) 1) after (i + 1)
     walking_more e after is = subst (Walking codes (eqb (code_at codes i) 1) after) (sym (add-one i)) (record {
@@ -103,37 +119,37 @@ module _ {codes : List ℕ} {settled stamped : Bool} {i : ℕ} (W : Walking code
 
 -- ---- the judgement
 
-pub passes_differ : {i : ℕ} → Offends i ≡ Passes → ⊥
-passes_differ e = let z : ◌≡◌ {A = ℕ} 0 1 = cc in omega arith
+pub err_is_no_ok : {i : ℕ} → ◌≡◌ {A = Result (Unit {0}) ℕ} (Err i) (Ok tt) → ⊥
+err_is_no_ok e = cc
 
-offends_same : {i j : ℕ} → Offends i ≡ Offends j → i ≡ j
-offends_same e = cc
+err_same : {i j : ℕ} → ◌≡◌ {A = Result (Unit {0}) ℕ} (Err i) (Err j) → i ≡ j
+err_same e = cc
 
 module _ (codes : List ℕ) where
-  abbrev by_count : Bool → Judgement
-  by_count fit = elim fit [ true ↦ elim (ltb (first_offending codes) (length codes)) [ true ↦ Offends (first_offending codes) | false ↦ Passes ] | false ↦ Offends 0 ]
+  abbrev by_offending : Option ℕ → Result (Unit {0}) ℕ
+  by_offending found = elim found [ Some i ↦ Err i | None ↦ Ok tt ]
 
-  abbrev by_place : Bool → Judgement
-  by_place found = elim found [ true ↦ Offends (first_offending codes) | false ↦ Passes ]
+  abbrev by_count : Bool → Result (Unit {0}) ℕ
+  by_count fit = elim fit [ true ↦ by_offending (first_offending codes) | false ↦ Err 0 ]
 
-  pub judge_none : length codes < 1 → Offends 0 ≡ judge codes
+  pub judge_none : length codes < 1 → Err 0 ≡ judge codes
   unfolding judge
   judge_none lt = ap (λ (b : Bool). by_count (b && leb (length codes) 32)) (sym (lt-leb 1 (length codes) lt))
 
-  pub judge_many : 32 < length codes → Offends 0 ≡ judge codes
+  pub judge_many : 32 < length codes → Err 0 ≡ judge codes
   unfolding judge
   judge_many lt = ap₂ (λ (a b : Bool). by_count (a && b)) (sym (le-leb 1 (length codes) (omega arith))) (sym (lt-leb (length codes) 32 lt))
 
   module _ (some : 1 ≤ length codes) (few : length codes ≤ 32) where
-    judge_by : judge codes ≡ by_place (ltb (first_offending codes) (length codes))
+    judge_by : judge codes ≡ by_offending (first_offending codes)
     unfolding judge
     judge_by = ap₂ (λ (a b : Bool). by_count (a && b)) (le-leb 1 (length codes) some) (le-leb (length codes) 32 few)
 
-    pub judge_found : (at : ℕ) → at ≡ first_offending codes → at < length codes → Offends at ≡ judge codes
-    judge_found at e lt = ap Offends e ∙ ap by_place (sym (lt-ltb (first_offending codes) (length codes) (subst (λ (x : ℕ). x < length codes) e lt))) ∙ sym judge_by
+    pub judge_found : (at : ℕ) → Some at ≡ first_offending codes → Err at ≡ judge codes
+    judge_found at e = ap by_offending e ∙ sym judge_by
 
-    pub judge_passes : (at : ℕ) → at ≡ first_offending codes → length codes ≤ at → Passes ≡ judge codes
-    judge_passes at e le = ap by_place (sym (le-ltb (first_offending codes) (length codes) (omega (arith, e, le)))) ∙ sym judge_by
+    pub judge_passes : None ≡ first_offending codes → Ok tt ≡ judge codes
+    judge_passes e = ap by_offending e ∙ sym judge_by
 
   -- ---- what it says
 
@@ -142,57 +158,64 @@ module _ (codes : List ℕ) where
   unnot false e = absurd (false≢true (sym e))
 
   -- THE LAW of the index: every code before it may stand where it does, and the one at it may not
-  pub first_offence : first_offending codes < length codes → ((j : ℕ) → j < first_offending codes → Fits codes j) × (Fits codes (first_offending codes) → ⊥)
-  unfolding first_offending
+  pub first_offence : offending_place codes < length codes → ((j : ℕ) → j < offending_place codes → Fits codes j) × (Fits codes (offending_place codes) → ⊥)
+  unfolding offending_place
   first_offence lt = (
     λ j l. (does_exact (fits? codes j)).holds (unnot (does (fits? codes j)) (first_passed (offends codes) (length codes) 0 j (omega arith) l)),
-    λ F. breaks (does (fits? codes (first_offending codes))) refl (first_passes (offends codes) (length codes) 0 (omega (arith, lt))) F,
+    λ F. breaks (does (fits? codes (offending_place codes))) refl (first_passes (offends codes) (length codes) 0 (omega (arith, lt))) F,
   )
     where
-      breaks : (b : Bool) → does (fits? codes (first_offending codes)) ≡ b → not b ≡ true → Fits codes (first_offending codes) → ⊥
+      breaks : (b : Bool) → does (fits? codes (offending_place codes)) ≡ b → not b ≡ true → Fits codes (offending_place codes) → ⊥
       breaks true e h F = false≢true h
-      breaks false e h F = (does_exact (fits? codes (first_offending codes))).fails e F
+      breaks false e h F = (does_exact (fits? codes (offending_place codes))).fails e F
 
   -- THE LAW: a list passes exactly if it keeps the rules
-  passes_rules : judge codes ≡ Passes → Rules codes
-  unfolding first_offending
+  passes_rules : judge codes ≡ Ok tt → Rules codes
+  unfolding offending_place
   passes_rules e = by_some (le_or 1 (length codes))
     where
-      clash : {i : ℕ} → Offends i ≡ judge codes → ⊥
-      clash o = passes_differ (o ∙ e)
+      clash : {i : ℕ} → Err i ≡ judge codes → ⊥
+      clash o = err_is_no_ok (o ∙ e)
 
-      by_first : (some : 1 ≤ length codes) (few : length codes ≤ 32) → (length codes ≤ first_offending codes) ⊎ (first_offending codes < length codes) → Rules codes
+      by_first : (some : 1 ≤ length codes) (few : length codes ≤ 32) → (length codes ≤ offending_place codes) ⊎ (offending_place codes < length codes) → Rules codes
       by_first some few (inl le) = record { some = some; few = few; each = λ i lt. (does_exact (fits? codes i)).holds (unnot (does (fits? codes i)) (passed i (omega (arith, lt, le)))) }
         where
-          passed : (i : ℕ) → i < first_offending codes → offends codes i ≡ false
+          passed : (i : ℕ) → i < offending_place codes → offends codes i ≡ false
           passed i lt = first_passed (offends codes) (length codes) 0 i (omega arith) lt
-      by_first some few (inr lt) = absurd (clash (judge_found some few (first_offending codes) refl lt))
+      by_first some few (inr lt) = absurd (clash (judge_found some few (offending_place codes) (some_offending codes lt)))
 
       by_few : 1 ≤ length codes → (length codes ≤ 32) ⊎ (32 < length codes) → Rules codes
-      by_few some (inl few) = by_first some few (le_or (length codes) (first_offending codes))
+      by_few some (inl few) = by_first some few (le_or (length codes) (offending_place codes))
       by_few some (inr lt) = absurd (clash (judge_many lt))
 
       by_some : (1 ≤ length codes) ⊎ (length codes < 1) → Rules codes
       by_some (inl some) = by_few some (le_or (length codes) 32)
       by_some (inr lt) = absurd (clash (judge_none lt))
 
-  rules_pass : Rules codes → judge codes ≡ Passes
-  rules_pass R = by (le_or (length codes) (first_offending codes))
+  rules_pass : Rules codes → judge codes ≡ Ok tt
+  rules_pass R = by (le_or (length codes) (offending_place codes))
     where
-      by : (length codes ≤ first_offending codes) ⊎ (first_offending codes < length codes) → judge codes ≡ Passes
-      by (inl le) = sym (judge_passes R.some R.few (first_offending codes) refl le)
-      by (inr lt) = absurd ((first_offence lt).1 (R.each (first_offending codes) lt))
+      by : (length codes ≤ offending_place codes) ⊎ (offending_place codes < length codes) → judge codes ≡ Ok tt
+      by (inl le) = sym (judge_passes R.some R.few (none_offending codes le))
+      by (inr lt) = absurd ((first_offence lt).1 (R.each (offending_place codes) lt))
 
-  pub judge_exact : (judge codes ≡ Passes) ↔ Rules codes
+  pub judge_exact : (judge codes ≡ Ok tt) ↔ Rules codes
   judge_exact = (passes_rules, rules_pass)
 
-  -- the place of refusal 12 where the length is right
-  pub judge_index : (i : ℕ) → judge codes ≡ Offends i → 1 ≤ length codes → length codes ≤ 32 → (i < length codes) × ((j : ℕ) → j < i → Fits codes j) × (Fits codes i → ⊥)
-  judge_index i e some few = by (le_or (length codes) (first_offending codes))
+  pub judge_decides : Decides (is_ok (judge codes)) (Rules codes)
+  judge_decides = by (judge codes) refl
     where
-      by : (length codes ≤ first_offending codes) ⊎ (first_offending codes < length codes) → (i < length codes) × ((j : ℕ) → j < i → Fits codes j) × (Fits codes i → ⊥)
-      by (inl le) = absurd (passes_differ (sym e ∙ sym (judge_passes some few (first_offending codes) refl le)))
+      by : (r : Result (Unit {0}) ℕ) → judge codes ≡ r → Decides (is_ok r) (Rules codes)
+      by (Ok u) e = says_yes (passes_rules e)
+      by (Err i) e = says_no (λ R. err_is_no_ok (sym e ∙ rules_pass R))
+
+  -- the place of refusal 12 where the length is right
+  pub judge_index : (i : ℕ) → judge codes ≡ Err i → 1 ≤ length codes → length codes ≤ 32 → (i < length codes) × ((j : ℕ) → j < i → Fits codes j) × (Fits codes i → ⊥)
+  judge_index i e some few = by (le_or (length codes) (offending_place codes))
+    where
+      by : (length codes ≤ offending_place codes) ⊎ (offending_place codes < length codes) → (i < length codes) × ((j : ℕ) → j < i → Fits codes j) × (Fits codes i → ⊥)
+      by (inl le) = absurd (err_is_no_ok (sym e ∙ sym (judge_passes some few (none_offending codes le))))
       by (inr lt) =
-          let same : first_offending codes ≡ i = offends_same (judge_found some few (first_offending codes) refl lt ∙ e) in
+          let same : offending_place codes ≡ i = err_same (judge_found some few (offending_place codes) (some_offending codes lt) ∙ e) in
           let F = first_offence lt in
           (subst (λ (x : ℕ). x < length codes) same lt, subst (λ (x : ℕ). (j : ℕ) → j < x → Fits codes j) same F.0, subst (λ (x : ℕ). Fits codes x → ⊥) same F.1)

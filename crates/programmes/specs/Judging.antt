@@ -1,7 +1,7 @@
 -- The rules decided, and the first code that breaks them. Document 02, CR 5: "Any other is refused with 12 and the index of the first offending code (0 for a wrong length)."
 -- `fits_by` and `stamped_by` are what the walk over the codes asks of one code; laws `fits_by_lem` and `stamped_by_lem` say that this is the rule.
 -- Assumes nothing: these are definitions, with the decisions that they need.
-use Rattle.std.specs.Prelude.{ℕ, zero, suc, ◌<◌, ◌≡◌, refl, Bool, true, false, not, ◌&&◌, List, ◌⊎◌, length, leb, ltb}
+use Rattle.std.specs.Prelude.{ℕ, zero, suc, ◌<◌, ◌≡◌, refl, Bool, true, false, not, ◌&&◌, List, ◌⊎◌, length, leb, ltb, Option, Some, None, Result, Ok, Err}
 use Rattle.std.proofs.Common.{arith, sym, ap, ◌∙◌, inl, inr, ⊎_elim}
 use Rattle.std.proofs.Math.Decide.{ℕ_discrete, dec_le}
 use Rattle.base.specs.Decide.{does, and?, or?, if?, not?, so?, every?, same_or}
@@ -9,8 +9,6 @@ use Rattle.base.specs.Lists.{first}
 use Rattle.state.specs.Programmes.{codes_of}
 use Rattle.state.specs.declared.Programme.{Programme}
 use Rattle.programmes.specs.Rules.{code_at, Settled, Stamped, Fits, Rules, Passing}
-use Rattle.programmes.specs.declared.Judgement.{Judgement}
-use Rattle.programmes.specs.declared.Judgement.TheVariants.{Passes, Offends}
 
 -- ---- one code
 
@@ -96,12 +94,16 @@ passing? p = so? (λ h. record { within = h.0; rules = h.1 }) (λ (P : Passing p
 abbrev pub offends : List ℕ → ℕ → Bool
 offends codes i = not (does (fits? codes i))
 
--- their number where none does
-unfoldable pub first_offending : List ℕ → ℕ
-first_offending codes = first (offends codes) (length codes) 0
+-- its place, or their number where none does
+unfoldable pub offending_place : List ℕ → ℕ
+offending_place codes = first (offends codes) (length codes) 0
 
-unfoldable pub judge : List ℕ → Judgement
+unfoldable pub first_offending : List ℕ → Option ℕ
+first_offending codes = elim (ltb (offending_place codes) (length codes)) [ true ↦ Some (offending_place codes) | false ↦ None ]
+
+-- that the codes keep the rules, or the place of the first that breaks them
+unfoldable pub judge : List ℕ → Result (Unit {0}) ℕ
 judge codes = elim (leb 1 (length codes) && leb (length codes) 32) [
-  | true ↦ elim (ltb (first_offending codes) (length codes)) [ true ↦ Offends (first_offending codes) | false ↦ Passes ]
-  | false ↦ Offends 0
+  | true ↦ elim (first_offending codes) [ Some i ↦ Err i | None ↦ Ok tt ]
+  | false ↦ Err 0
 ]

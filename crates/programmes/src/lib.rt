@@ -9,13 +9,6 @@ ghost use Rattle.programmes.specs.Judging.{fits_by, stamped_by, first_offending,
 
 use state::{FAILED, Programme, SETTLE, STAMP, SWEEP};
 
-// What is said of a list of codes: it keeps the rules, or the index of the first code that breaks them, 0 for a wrong length.
-#[derive(Clone, Copy)]
-pub enum Judgement {
-    Passes,
-    Offends(usize),
-}
-
 // ---- one code
 
 // Whether a code may stand behind others, of which the last is a settle or is not, and of which a stamp has no settle or sweep behind it or none has.
@@ -45,42 +38,33 @@ fn stamped_after(code: u32, stamped: bool) -> bool
 
 // ---- a list of codes
 
-// The index of the first code that may not stand where it does; their number where all may.
-fn first_offending(codes: &[u32]) -> usize
+// The index of the first code that may not stand where it does.
+fn first_offending(codes: &[u32]) -> Option<usize>
     ensures { result ≡ first_offending codes.now }
 {
     let mut settled = false;
     let mut stamped = false;
-    let mut i = 0;
-    while i < codes.len() {
-        let at = i;
-        let code = codes[at];
-        i += 1;
+    for (i, &code) in codes.iter().enumerate() {
         if !code_fits(code, settled, stamped) {
-            return at;
+            return Some(i);
         }
         settled = code == SETTLE;
         stamped = stamped_after(code, stamped);
     }
-    i
+    None
 }
 
-// Of any codes.
-pub fn judge(codes: &[u32]) -> Judgement
+// Of any codes: that they keep the rules, or the index of the first that breaks them, 0 for a wrong length.
+pub fn judge(codes: &[u32]) -> Result<(), usize>
     ensures { result ≡ judge codes.now }
 {
-    let count = codes.len();
-    if count < 1 {
-        return Judgement::Offends(0);
+    if codes.is_empty() || 32 < codes.len() {
+        return Err(0);
     }
-    if 32 < count {
-        return Judgement::Offends(0);
+    match first_offending(codes) {
+        Some(at) => Err(at),
+        None => Ok(()),
     }
-    let at = first_offending(codes);
-    if at < count {
-        return Judgement::Offends(at);
-    }
-    Judgement::Passes
 }
 
 // ---- programmes
@@ -90,15 +74,7 @@ pub fn programme_ok(programme: Programme) -> bool
     ensures { Decides result (Passing programme) }
 {
     let count = programme.length as usize;
-    if 32 < count {
-        return false;
-    }
-    let codes = programme.codes;
-    let judgement = judge(&codes[..count]);
-    match judgement {
-        Judgement::Passes => true,
-        Judgement::Offends(_) => false,
-    }
+    count <= 32 && judge(&programme.codes[..count]).is_ok()
 }
 
 // The programme of these codes, 0 behind them. The call that sets a programme has judged them before.

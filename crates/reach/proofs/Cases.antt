@@ -24,7 +24,7 @@ use Rattle.scc.specs.Groups.{reaches, connected, cyclic}
 use Rattle.stamps.specs.Decision.{literal?, holds?, times?, parent?, start?, nested?, fresh?}
 use Rattle.state.specs.States.{empty_state}
 use Rattle.state.specs.Programmes.{programme_of, constant_programme}
-use Rattle.programmes.specs.Judging.{settled?, stamped?, fits?, rules?, passing?, first_offending, judge as judgeCodes}
+use Rattle.programmes.specs.Judging.{settled?, stamped?, fits?, rules?, passing?, offending_place, first_offending, judge as judgeCodes}
 use Rattle.tables.specs.Long.{long?, long_ok}
 use Rattle.tables.specs.Clauses.{slots_at, slots_from, standing_count, literal_count}
 use Rattle.tables.specs.Fates.{shortened, dropped_at, fate_at, visits}
@@ -151,7 +151,7 @@ seen : ((see p3 (then p3) ≡ sees (0 ∷ []) 3 3 (1 ∷ 1 ∷ 1 ∷ []) ((negsu
     × (see p2 (now p2) ≡ sees (0 ∷ 0 ∷ []) 4 3 (1 ∷ 1 ∷ 1 ∷ []) ((negsuc 0 ∷ pos 2 ∷ []) ∷ (negsuc 1 ∷ pos 3 ∷ []) ∷ (pos 3 ∷ pos 4 ∷ []) ∷ []) true))
     × ((see p6 (then p6) ≡ sees (0 ∷ []) 2 2 (1 ∷ 1 ∷ 0 ∷ []) ((negsuc 0 ∷ pos 2 ∷ []) ∷ (negsuc 0 ∷ negsuc 1 ∷ []) ∷ [] ∷ []) true)
     × (see p6 (now p6) ≡ sees (0 ∷ 0 ∷ []) 2 2 (1 ∷ 1 ∷ 0 ∷ []) ((negsuc 0 ∷ []) ∷ (negsuc 0 ∷ negsuc 1 ∷ []) ∷ [] ∷ []) false))
-unfolding and? or? if? not? so? every? eqᵇ? eqℤ? any filter absent first any_below all_below same_list numbers turned evens odds interleave twin arrive leave edge edges enters start_walk stamp_all outs froms tos reaches connected cyclic literal? holds? times? parent? start? nested? fresh? long? long_ok slots_at slots_from standing_count literal_count shortened dropped_at fate_at visits advance first_unsettled parts? literals? variable? spread? cursor? clauses? shape? shape_ok entry_of opening_of words_at header header_rest judge judge_text clauses_of clause_records literal_places variable_records laid load_call holds insert by_discovery scan_at scan figure6 transitive hidden_pair hidden_tautology unhidden shorten first_bad stamps_of stamped_tables stamp_acyclic stamp_settled stamp_ordered stamp_call sweep_clause sweep_call step_on steps_on ℕ_discrete dec_le dec_lt constant_programme programme_of passing? rules? fits? stamped? settled? judgeCodes first_offending reached?
+unfolding and? or? if? not? so? every? eqᵇ? eqℤ? any filter absent first any_below all_below same_list numbers turned evens odds interleave twin arrive leave edge edges enters start_walk stamp_all outs froms tos reaches connected cyclic literal? holds? times? parent? start? nested? fresh? long? long_ok slots_at slots_from standing_count literal_count shortened dropped_at fate_at visits advance first_unsettled parts? literals? variable? spread? cursor? clauses? shape? shape_ok entry_of opening_of words_at header header_rest judge judge_text clauses_of clause_records literal_places variable_records laid load_call holds insert by_discovery scan_at scan figure6 transitive hidden_pair hidden_tautology unhidden shorten first_bad stamps_of stamped_tables stamp_acyclic stamp_settled stamp_ordered stamp_call sweep_clause sweep_call step_on steps_on ℕ_discrete dec_le dec_lt constant_programme programme_of passing? rules? fits? stamped? settled? judgeCodes first_offending offending_place reached?
 seen = ((refl, refl), (refl, refl), (refl, refl))
 
 -- ---- P3: (−1 2)(−2 3)(−1 3), and the arrow 1 → 3

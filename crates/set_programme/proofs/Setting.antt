@@ -3,6 +3,7 @@ use Prim.Native.Nat.{ℕ}
 use mathlib.Core.Path.{◌≡◌, refl, sym, ap, subst, ◌∙◌}
 use mathlib.Core.Bool.{Bool, true, false}
 use mathlib.Core.List.{List}
+use Rattle.std.specs.Prelude.{Result, Ok, Err}
 use Rattle.state.specs.Answers.{reply_of}
 use Rattle.state.specs.Programmes.{codes_of, programme_of}
 use Rattle.state.specs.States.{programmed}
@@ -11,8 +12,6 @@ use Rattle.state.specs.declared.Answer.TheVariants.{Set}
 use Rattle.state.specs.declared.Refusal.TheVariants as refusal
 use Rattle.programmes.specs.Rules.{Rules}
 use Rattle.programmes.specs.Judging.{judge}
-use Rattle.programmes.specs.declared.Judgement.{Judgement}
-use Rattle.programmes.specs.declared.Judgement.TheVariants.{Passes, Offends}
 use Rattle.programmes.proofs.Judging.{judge_exact}
 use Rattle.programmes.proofs.Programmes.{made_codes, made_passes}
 use Rattle.tables.specs.Tables.{Tables}
@@ -34,23 +33,23 @@ module _ (codes : List ℕ) (t : Tables) (st : State) where
     unfolding set_call
     judged = ap by_shape (sym shaped)
 
-    pub set_refused : (index : ℕ) → judge codes ≡ Offends index → refuse (refusal.Codes index) st t ≡ set_call codes t st
-    set_refused index e = ap (λ (j : Judgement). set_by j codes t st) (sym e) ∙ judged
+    pub set_refused : (index : ℕ) → judge codes ≡ Err index → refuse (refusal.Codes index) st t ≡ set_call codes t st
+    set_refused index e = ap (λ (j : Result (Unit {0}) ℕ). set_by j codes t st) (sym e) ∙ judged
 
-    pub set_made : judge codes ≡ Passes → answered Set (programmed (programme_of codes) st) t ≡ set_call codes t st
-    set_made e = ap (λ (j : Judgement). set_by j codes t st) (sym e) ∙ judged
+    pub set_made : judge codes ≡ Ok tt → answered Set (programmed (programme_of codes) st) t ≡ set_call codes t st
+    set_made e = ap (λ (j : Result (Unit {0}) ℕ). set_by j codes t st) (sym e) ∙ judged
 
   -- ---- what it leaves
 
   -- what holds of the refusals and of an accepted call holds of the call
-  pub set_cases : (P : After → Type 0) → (shape_ok t st ≡ false → P (refuse refusal.Shape st t)) → ((index : ℕ) → judge codes ≡ Offends index → P (refuse (refusal.Codes index) st t))
-      → (shape_ok t st ≡ true → judge codes ≡ Passes → P (answered Set (programmed (programme_of codes) st) t)) → P (set_call codes t st)
+  pub set_cases : (P : After → Type 0) → (shape_ok t st ≡ false → P (refuse refusal.Shape st t)) → ((index : ℕ) → judge codes ≡ Err index → P (refuse (refusal.Codes index) st t))
+      → (shape_ok t st ≡ true → judge codes ≡ Ok tt → P (answered Set (programmed (programme_of codes) st) t)) → P (set_call codes t st)
   set_cases P misshapen offends passes = by (shape_ok t st) refl (judge codes) refl
     where
-      by : (b : Bool) → shape_ok t st ≡ b → (j : Judgement) → judge codes ≡ j → P (set_call codes t st)
+      by : (b : Bool) → shape_ok t st ≡ b → (j : Result (Unit {0}) ℕ) → judge codes ≡ j → P (set_call codes t st)
       by false e j q = subst P (set_misshapen e) (misshapen e)
-      by true e (Offends index) q = subst P (set_refused e index q) (offends index q)
-      by true e Passes q = subst P (set_made e q) (passes e q)
+      by true e (Err index) q = subst P (set_refused e index q) (offends index q)
+      by true e (Ok u) q = subst P (set_made e q) (passes e q)
 
   -- THE LAW: no table changes
   pub set_tables : (set_call codes t st).tables ≡ t

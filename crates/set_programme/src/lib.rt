@@ -6,7 +6,6 @@ ghost use Rattle.tables.specs.Lent.{lent, returned};
 ghost use Rattle.tables.specs.Calls.{after};
 ghost use Rattle.set_programme.specs.SetProgramme.{set_call};
 
-use programmes::Judgement;
 use state::{Answer, Outcome, Refusal, State};
 
 // The exported call.
@@ -27,13 +26,12 @@ pub fn set_programme(
             state: st,
         };
     }
-    let judgement = programmes::judge(codes);
-    match judgement {
-        Judgement::Offends(index) => Outcome {
+    match programmes::judge(codes) {
+        Err(index) => Outcome {
             answer: Answer::Refused(Refusal::Codes(index)),
             state: st,
         },
-        Judgement::Passes => {
+        Ok(()) => {
             let programme = programmes::programme_of(codes);
             Outcome {
                 answer: Answer::Set,

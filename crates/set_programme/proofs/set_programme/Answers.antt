@@ -17,15 +17,15 @@ returns-then-not-shape_ok c =
     (sym c.shape_ok.ensures ∙ c.if-not-shape_ok.true)
 
 pub programme_of-programme-requires : goal.programme_of-programme-requires
-programme_of-programme-requires c = ((judge_exact c.args.codes.now).0 (sym c.in-Passes.ensures)).few
+programme_of-programme-requires c = ((judge_exact c.args.codes.now).0 (sym c.in-Ok.ensures)).few
 
-pub returns-in-Offends : goal.returns-in-Offends
-returns-in-Offends c =
+pub returns-in-Err : goal.returns-in-Err
+returns-in-Err c =
     set_refused c.args.codes.now (tables c.args.clauses.now c.args.literals.now c.args.variables.now c.args.times.now c.args.links.now) c.args.st
-    (sym c.shape_ok.ensures ∙ c.if-not-shape_ok.false) c.in-Offends.index (sym c.in-Offends.ensures)
+    (sym c.shape_ok.ensures ∙ c.if-not-shape_ok.false) c.in-Err.index (sym c.in-Err.ensures)
 
-pub returns-in-Passes : goal.returns-in-Passes
-returns-in-Passes c =
+pub returns-in-Ok : goal.returns-in-Ok
+returns-in-Ok c =
     let t = tables c.args.clauses.now c.args.literals.now c.args.variables.now c.args.times.now c.args.links.now in
     ap (λ (st : State). answered Set st t) (c.programmed.ensures ∙ ap (λ (p : Programme). programmed p c.args.st) c.programme_of-programme.ensures)
-    ∙ set_made c.args.codes.now t c.args.st (sym c.shape_ok.ensures ∙ c.if-not-shape_ok.false) (sym c.in-Passes.ensures)
+    ∙ set_made c.args.codes.now t c.args.st (sym c.shape_ok.ensures ∙ c.if-not-shape_ok.false) (sym c.in-Ok.ensures)
