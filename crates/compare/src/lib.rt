@@ -7,49 +7,32 @@ ghost use Rattle.compare.specs.Compare.{has_record, compare_call, comparison_res
 use intervals::Relation;
 use state::Refusal;
 
-// What the call answers.
-#[derive(Clone, Copy)]
-pub enum Comparison {
-    Refused(Refusal),
-    // how the interval of the first literal lies to that of the second
-    Answered(Relation),
-}
-
 // Whether l is a literal of one of v variables, and has a record: the stamps are those of 1,024 variables.
 fn has_record(l: i32, v: u32) -> bool
     ensures { result ≡ has_record v l }
 {
-    if !literal::in_range(l, 1024) {
-        return false;
-    }
-    literal::in_range(l, v)
+    literal::in_range(l, 1024) && literal::in_range(l, v)
 }
 
-// The exported call, by the times as they stand, fresh or not. Refusal 1 where these are fewer than stated or a literal is not of the v variables.
-pub fn compare(times: &[u32], v: u32, p: i32, q: i32) -> Comparison
+// The exported call: how the interval of p lies to that of q, by the times as they stand, fresh or not. Refusal 1 where these are fewer than stated or a literal is not of the v variables.
+pub fn compare(times: &[u32], v: u32, p: i32, q: i32) -> Result<Relation, Refusal>
     ensures value { result ≡ compare_call times.now v p q }
     ensures times_value { times.now ≡ times.now }
 {
-    if times.len() < 4096 {
-        return Comparison::Refused(Refusal::Shape);
-    }
-    if !has_record(p, v) {
-        return Comparison::Refused(Refusal::Shape);
-    }
-    if !has_record(q, v) {
-        return Comparison::Refused(Refusal::Shape);
+    if times.len() < 4096 || !has_record(p, v) || !has_record(q, v) {
+        return Err(Refusal::Shape);
     }
     let a = literal::slot_of(p) as u32;
     let b = literal::slot_of(q) as u32;
-    Comparison::Answered(stamp_columns::compare(times, a, b))
+    Ok(stamp_columns::compare(times, a, b))
 }
 
 // What C gets: the number of the answer, or that of the refusal, negative.
-pub fn result(c: Comparison) -> i64
-    ensures { result ≡ comparison_result c }
+pub fn result(answer: Result<Relation, Refusal>) -> i64
+    ensures { result ≡ comparison_result answer }
 {
-    match c {
-        Comparison::Refused(refusal) => state::result(refusal.number(), 0),
-        Comparison::Answered(relation) => state::result(0, relation.number()),
+    match answer {
+        Err(refusal) => state::result(refusal.number(), 0),
+        Ok(relation) => state::result(0, relation.number()),
     }
 }

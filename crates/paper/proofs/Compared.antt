@@ -17,7 +17,7 @@ use Rattle.intervals.proofs.Comparing.{one_answer}
 use Rattle.stamps.specs.Fresh.{NestedOrApart, FreshStamps}
 use Rattle.tables.specs.Tables.{Tables}
 use Rattle.shape.specs.Shape.{Shape}
-use Rattle.compare.specs.declared.Comparison.TheVariants.{Answered}
+use Rattle.std.specs.Prelude.{Ok}
 use Rattle.compare.specs.Compare.{interval_of, compare_call}
 use Rattle.compare.proofs.Comparing.{answered, literal_has_record}
 use Rattle.paper.specs.Records.{discovered, finished}
@@ -75,7 +75,7 @@ module _ (v : ℕ) (t : Tables) (F : FreshStamps v t.times t.links) (p q : ℤ) 
   }
 
 pub compare_fresh : (t : Tables) (st : State) → Shape t st → st.fresh ≡ true → (p q : ℤ) → Literal st.v p → Literal st.v q
-    → (r : Relation) × (compare_call t.times st.v p q ≡ Answered r) × Compared t p q r
+    → (r : Relation) × (compare_call t.times st.v p q ≡ Ok r) × Compared t p q r
 compare_fresh t st S fresh p q Lp Lq = (
   compare (interval_of t.times p) (interval_of t.times q),
   answered t.times st.v p q S.long.times (literal_has_record S.v_limit Lp) (literal_has_record S.v_limit Lq),
