@@ -8,18 +8,18 @@ use mathlib.Core.List.{List, ◌++◌}
 use lib.ListN.{length, drop}
 use lib.Dec.{leb}
 use lib.IntN.{pos}
+use Rattle.std.specs.Prelude.{Result, Ok, Err}
 use Rattle.state.specs.Answers.{reply_of, result_by}
 use Rattle.state.specs.declared.State.{State}
 use Rattle.state.specs.declared.Answer.{Answer}
 use Rattle.state.specs.declared.Answer.TheVariants.{Refused, Written, Explained}
+use Rattle.state.specs.declared.Refusal.{Refusal}
 use Rattle.state.specs.declared.Refusal.TheVariants.{Shape, Short}
 use Rattle.stamp_columns.specs.Columns.{columns}
 use Rattle.tables.specs.Tables.{Tables}
 use Rattle.tables.specs.Clauses.{literals_of}
 use Rattle.shape.specs.Decision.{shape_ok}
 use Rattle.entry.specs.Entry.{opening_of}
-use Rattle.entry.specs.declared.Opening.{Opening}
-use Rattle.entry.specs.declared.Opening.TheVariants.{Denied, Granted}
 use Rattle.write.specs.Write.{AfterWrite, after_write, text_into, write_into, write_text, write_call}
 use Rattle.explain.specs.Reasons.{Reasons, reasons_of}
 use Rattle.explain.specs.Explain.{chains_text, stands, explain_if, explain_unless_stale, explain_opening, explain_call}
@@ -71,9 +71,9 @@ explain_keeps number t st out = by (opening_of t st)
     fresh true = standing (stands number st.n t.clauses)
     fresh false = inr refl
 
-    by : (o : Opening) → KeptOut out (explain_opening o number t st out)
-    by (Denied r) = inr refl
-    by Granted = fresh st.fresh
+    by : (o : Result (Unit {0}) Refusal) → KeptOut out (explain_opening o number t st out)
+    by (Err r) = inr refl
+    by (Ok _) = fresh st.fresh
 
 -- ---- for C
 

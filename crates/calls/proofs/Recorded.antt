@@ -7,6 +7,7 @@ use mathlib.Core.Bool.{Bool, true, false}
 use mathlib.Core.List.{List, map}
 use lib.IntN.{ℤ}
 use lib.ListN.{length, take, drop, length-take}
+use Rattle.std.specs.Prelude.{Result, Ok, Err}
 use Rattle.literal.specs.Literals.{slot_of}
 use Rattle.implications.specs.Clauses.{implications}
 use Rattle.scc.specs.Groups.{cyclic}
@@ -23,8 +24,6 @@ use Rattle.tables.specs.Clauses.{slots_from}
 use Rattle.tables.specs.Calls.{After, after, refuse}
 use Rattle.stamp.specs.Stamp.{stamps_of, stamped_tables, stamp_acyclic, stamp_call}
 use Rattle.stamp.specs.Asking.{ask_of}
-use Rattle.stamp.specs.declared.Ruling.{Ruling}
-use Rattle.stamp.specs.declared.Ruling.TheVariants.{No, Fit}
 use Rattle.stamp.proofs.Asking.{Known, fit_known, known_proper, known_records, call_refused, call_fit, acyclic_no, acyclic_yes}
 use Rattle.stamp.proofs.Freshness.{times_long, links_long}
 use Rattle.calls.specs.Calls.{recorded, AfterStamp, after_stamp, in_records}
@@ -61,9 +60,9 @@ module _ (order : List ℤ) (t : Tables) (st : State) where
   pub stamp_kept : Kept t (stamp_call order t st).tables
   stamp_kept = by (ask_of order t st) refl
     where
-      by : (r : Ruling) → ask_of order t st ≡ r → Kept t (stamp_call order t st).tables
-      by (No r) e = subst (λ (a : After). Kept t a.tables) (call_refused order t st r e) (unchanged t)
-      by Fit e = subst (λ (a : After). Kept t a.tables) (call_fit order t st e) (acyclic_kept (fit_known t st order e))
+      by : (r : Result (Unit {0}) Refusal) → ask_of order t st ≡ r → Kept t (stamp_call order t st).tables
+      by (Err r) e = subst (λ (a : After). Kept t a.tables) (call_refused order t st r e) (unchanged t)
+      by (Ok _) e = subst (λ (a : After). Kept t a.tables) (call_fit order t st e) (acyclic_kept (fit_known t st order e))
 
 -- THE LAW: the contract's equation gives the one over the tables, so that a later call's contract goes on from there
 pub stamp_recorded : (order : List ℤ) (clauses : List ℕ) (literals variables : List ℤ) (stamps : List StampRecord) (st : State) (o : Outcome) (stamps' : List StampRecord)

@@ -5,15 +5,16 @@ use mathlib.Core.Bool.{Bool, true, false}
 use mathlib.Core.List.{List}
 use lib.IntN.{ℤ}
 use lib.ListN.{length}
+use Rattle.std.specs.Prelude.{Result}
 use Rattle.state.specs.declared.State.{State}
 use Rattle.state.specs.declared.Answer.TheVariants.{Refused}
+use Rattle.state.specs.declared.Refusal.{Refusal}
 use Rattle.state.specs.declared.Refusal.TheVariants.{Shape}
 use Rattle.stamp_records.specs.declared.StampRecord.{StampRecord}
 use Rattle.tables.specs.Tables.{Tables}
 use Rattle.tables.specs.Calls.{After, refuse}
 use Rattle.entry.specs.declared.PassName.TheVariants as own
 use Rattle.entry.specs.declared.Entry.{Entry}
-use Rattle.entry.specs.declared.Opening.{Opening}
 use Rattle.dimacs.specs.Text.{judge_text, body_of}
 use Rattle.window.specs.Window.{Places, AfterWindow, after_window, refuse_with}
 use Rattle.window.specs.Rule.{long_window_ok, window_ok}
@@ -52,23 +53,23 @@ module _ (t : Tables) (st : State) (short : length t.times < 4096) where
 
   pub propagate_short : (n : ℕ) → propagate_call n t st ≡ refuse Shape st t
   unfolding propagate_call
-  propagate_short n = ap (λ (e : Entry). propagate_by e n t st) (short_entry t short own.Propagate st)
+  propagate_short n = ap (λ (e : Result Entry Refusal). propagate_by e n t st) (short_entry t short own.Propagate st)
 
   pub merge_short : (n : ℕ) → merge_call n t st ≡ refuse Shape st t
   unfolding merge_call
-  merge_short n = ap (λ (e : Entry). merge_by e n t st) (short_entry t short own.Merge st)
+  merge_short n = ap (λ (e : Result Entry Refusal). merge_by e n t st) (short_entry t short own.Merge st)
 
   pub stamp_short : (order : List ℤ) → stamp_call order t st ≡ refuse Shape st t
   unfolding stamp_call
-  stamp_short order = ap (λ (e : Opening). stamp_by e order t st) (short_opening t short st)
+  stamp_short order = ap (λ (e : Result (Unit {0}) Refusal). stamp_by e order t st) (short_opening t short st)
 
   pub failed_short : failed_call t st ≡ refuse Shape st t
   unfolding failed_call
-  failed_short = ap (λ (e : Opening). failed_by e t st) (short_opening t short st)
+  failed_short = ap (λ (e : Result (Unit {0}) Refusal). failed_by e t st) (short_opening t short st)
 
   pub sweep_short : (n : ℕ) → sweep_call n t st ≡ refuse Shape st t
   unfolding sweep_call
-  sweep_short n = ap (λ (e : Entry). sweep_by e n t st) (short_entry t short own.Sweep st)
+  sweep_short n = ap (λ (e : Result Entry Refusal). sweep_by e n t st) (short_entry t short own.Sweep st)
 
   pub learn_short : (C : List ℤ) (w : Places) → learn_call C t st w ≡ refuse_with Shape t st w
   unfolding learn_call
@@ -76,11 +77,11 @@ module _ (t : Tables) (st : State) (short : length t.times < 4096) where
 
   pub explain_short : (number : ℕ) (out : List ℕ) → explain_call number t st out ≡ after_write (Refused Shape) out
   unfolding explain_call
-  explain_short number out = ap (λ (e : Opening). explain_opening e number t st out) (short_opening t short st)
+  explain_short number out = ap (λ (e : Result (Unit {0}) Refusal). explain_opening e number t st out) (short_opening t short st)
 
   pub run_short : (n : ℕ) → run_call n t st ≡ refuse Shape st t
   unfolding run_call
-  run_short n = ap (λ (e : Opening). run_by e n t st) (short_opening t short st)
+  run_short n = ap (λ (e : Result (Unit {0}) Refusal). run_by e n t st) (short_opening t short st)
 
   pub set_short : (codes : List ℕ) → set_call codes t st ≡ refuse Shape st t
   set_short codes = sym (set_misshapen codes t st (short_shape t short st))

@@ -6,6 +6,7 @@ use mathlib.Core.Path.{◌≡◌, refl}
 use mathlib.Core.Bool.{Bool, true, false}
 use mathlib.Core.List.{List}
 use lib.ListN.{length, take, length-take}
+use Rattle.std.specs.Prelude.{Err}
 use Rattle.base.specs.Decide.{does_exact}
 use Rattle.state.specs.declared.State.{State}
 use Rattle.state.specs.declared.Refusal.TheVariants.{Shape}
@@ -17,8 +18,6 @@ use Rattle.tables.specs.Long.{long?, long_ok}
 use Rattle.shape.specs.Decision.{shape_ok}
 use Rattle.entry.specs.Entry.{entry_of, opening_of}
 use Rattle.entry.specs.declared.PassName.{PassName}
-use Rattle.entry.specs.declared.Entry.TheVariants.{No}
-use Rattle.entry.specs.declared.Opening.TheVariants.{Denied}
 use Rattle.shape.proofs.Reading.{shaped}
 use Rattle.entry.proofs.Entering.{entry_misshapen, opening_misshapen}
 
@@ -32,10 +31,10 @@ module _ (t : Tables) (short : length t.times < 4096) where
       go true e = absurd (omega (arith, short, (shaped t st e).long.times))
       go false e = e
 
-  pub short_entry : (own : PassName) (st : State) → entry_of own t st ≡ No Shape
+  pub short_entry : (own : PassName) (st : State) → entry_of own t st ≡ Err Shape
   short_entry own st = entry_misshapen own t st (short_shape st)
 
-  pub short_opening : (st : State) → opening_of t st ≡ Denied Shape
+  pub short_opening : (st : State) → opening_of t st ≡ Err Shape
   short_opening st = opening_misshapen t st (short_shape st)
 
   pub short_long : long_ok t ≡ false

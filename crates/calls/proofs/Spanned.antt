@@ -6,17 +6,17 @@ use mathlib.Core.List.{List, [], ◌∷◌}
 use lib.IntN.{ℤ}
 use lib.ListN.{length}
 use lib.Dec.{ltb, eqb}
+use Rattle.std.specs.Prelude.{Result, Ok, Err}
 use Rattle.base.proofs.Booleans.{or_left}
 use Rattle.state.specs.Programmes.{codes_of}
 use Rattle.state.specs.declared.State.{State}
 use Rattle.state.specs.declared.Pass.{Pass}
+use Rattle.state.specs.declared.Refusal.{Refusal}
 use Rattle.tables.specs.Tables.{Tables, length_of}
 use Rattle.tables.specs.Fates.{Fate, kept, left, dropped, unit, conflict, shortened, dropped_at, store, fate_at, visit, visits}
 use Rattle.tables.specs.Passes.{advance}
 use Rattle.tables.specs.Calls.{After}
 use Rattle.entry.specs.Entry.{opening_of}
-use Rattle.entry.specs.declared.Opening.{Opening}
-use Rattle.entry.specs.declared.Opening.TheVariants.{Denied, Granted}
 use Rattle.propagate.specs.Propagate.{propagate_from}
 use Rattle.propagate_visits.specs.Visits.{Progress, going, settled, contradicted, onward, visited, changes, propagate_clause, propagate_visit, propagate_visits, begin}
 use Rattle.propagate.proofs.Shaped.{tables_at, begin_tables, replied_tables}
@@ -168,6 +168,6 @@ rounds_many codes (suc m) k {w} R = go ((round k codes w).state.mark || unchange
 pub run_many : (n : ℕ) (t : Tables) (st : State) → AsMany t (run_call n t st).tables
 run_many n t st = by (opening_of t st) refl
   where
-    by : (e : Opening) → opening_of t st ≡ e → AsMany t (run_call n t st).tables
-    by (Denied r) e = subst (λ (a : After). AsMany t a.tables) (call_refused n t st r e) (same t)
-    by Granted e = subst (λ (a : After). AsMany t a.tables) (call_granted n t st e) (rounds_many (codes_of st.programme) n 0 (granted_runs t st e))
+    by : (e : Result (Unit {0}) Refusal) → opening_of t st ≡ e → AsMany t (run_call n t st).tables
+    by (Err r) e = subst (λ (a : After). AsMany t a.tables) (call_refused n t st r e) (same t)
+    by (Ok _) e = subst (λ (a : After). AsMany t a.tables) (call_granted n t st e) (rounds_many (codes_of st.programme) n 0 (granted_runs t st e))

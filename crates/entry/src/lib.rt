@@ -15,51 +15,32 @@ pub enum PassName {
     Sweep,
 }
 
-// What is left to a call of such a pass: a refusal, or it opens the pass, or it resumes it, with the cursor and Propagate's change flag.
+// What a call of such a pass does where it is not refused: it opens the pass, or resumes it, with the cursor and Propagate's change flag.
 #[derive(Clone, Copy)]
 pub enum Entry {
-    No(Refusal),
     Opens,
     Resumes(u32, bool),
 }
 
-// What is left to a call that resumes nothing.
-#[derive(Clone, Copy)]
-pub enum Opening {
-    Denied(Refusal),
-    Granted,
-}
-
-fn unless_marked(mark: bool, entry: Entry) -> Entry
+fn unless_marked(mark: bool, entry: Entry) -> Result<Entry, Refusal>
     ensures { result ≡ unless_marked mark entry }
 {
     if mark {
-        return Entry::No(Refusal::Marked);
+        return Err(Refusal::Marked);
     }
-    entry
+    Ok(entry)
 }
 
 // By the open pass and the mark.
-fn entry_by(own: PassName, pass: Pass, mark: bool) -> Entry
+fn entry_by(own: PassName, pass: Pass, mark: bool) -> Result<Entry, Refusal>
     ensures { result ≡ entry_by own pass mark }
 {
-    match pass {
-        Pass::Idle => unless_marked(mark, Entry::Opens),
-        Pass::Propagate(k, changed) => match own {
-            PassName::Propagate => unless_marked(mark, Entry::Resumes(k, changed)),
-            PassName::Merge => Entry::No(Refusal::OtherPass),
-            PassName::Sweep => Entry::No(Refusal::OtherPass),
-        },
-        Pass::Merge(k) => match own {
-            PassName::Propagate => Entry::No(Refusal::OtherPass),
-            PassName::Merge => unless_marked(mark, Entry::Resumes(k, false)),
-            PassName::Sweep => Entry::No(Refusal::OtherPass),
-        },
-        Pass::Sweep(k) => match own {
-            PassName::Propagate => Entry::No(Refusal::OtherPass),
-            PassName::Merge => Entry::No(Refusal::OtherPass),
-            PassName::Sweep => unless_marked(mark, Entry::Resumes(k, false)),
-        },
+    match (own, pass) {
+        (_, Pass::Idle) => unless_marked(mark, Entry::Opens),
+        (PassName::Propagate, Pass::Propagate(k, changed)) => unless_marked(mark, Entry::Resumes(k, changed)),
+        (PassName::Merge, Pass::Merge(k)) => unless_marked(mark, Entry::Resumes(k, false)),
+        (PassName::Sweep, Pass::Sweep(k)) => unless_marked(mark, Entry::Resumes(k, false)),
+        _ => Err(Refusal::OtherPass),
     }
 }
 
@@ -72,30 +53,23 @@ pub fn entry_of(
     links: &[i32],
     st: State,
     own: PassName,
-) -> Entry
+) -> Result<Entry, Refusal>
     ensures { result ≡ entry_of own (lent clauses.now literals.now variables.now times.now links.now) st }
 {
     if !shape::shape_ok(clauses, literals, variables, times, links, st) {
-        return Entry::No(Refusal::Shape);
+        return Err(Refusal::Shape);
     }
-    let pass = st.pass;
-    entry_by(own, pass, st.mark)
+    entry_by(own, st.pass, st.mark)
 }
 
 // By the open pass and the mark, once refusal 1 does not apply. The call of a learnt clause asks here, since its refusal 1 looks at the window too.
-pub fn opening_by(pass: Pass, mark: bool) -> Opening
+pub fn opening_by(pass: Pass, mark: bool) -> Result<(), Refusal>
     ensures { result ≡ opening_by pass mark }
 {
     match pass {
-        Pass::Idle => {
-            if mark {
-                return Opening::Denied(Refusal::Marked);
-            }
-            Opening::Granted
-        }
-        Pass::Propagate(_, _) => Opening::Denied(Refusal::OtherPass),
-        Pass::Merge(_) => Opening::Denied(Refusal::OtherPass),
-        Pass::Sweep(_) => Opening::Denied(Refusal::OtherPass),
+        Pass::Idle if mark => Err(Refusal::Marked),
+        Pass::Idle => Ok(()),
+        _ => Err(Refusal::OtherPass),
     }
 }
 
@@ -107,12 +81,11 @@ pub fn may_open(
     times: &[u32],
     links: &[i32],
     st: State,
-) -> Opening
+) -> Result<(), Refusal>
     ensures { result ≡ opening_of (lent clauses.now literals.now variables.now times.now links.now) st }
 {
     if !shape::shape_ok(clauses, literals, variables, times, links, st) {
-        return Opening::Denied(Refusal::Shape);
+        return Err(Refusal::Shape);
     }
-    let pass = st.pass;
-    opening_by(pass, st.mark)
+    opening_by(st.pass, st.mark)
 }

@@ -5,6 +5,7 @@ use mathlib.Core.Path.{◌≡◌, sym, ap}
 use mathlib.Core.Bool.{Bool, true, false}
 use mathlib.Core.List.{List}
 use lib.IntN.{ℤ}
+use Rattle.std.specs.Prelude.{Result, Ok, Err}
 use Rattle.state.specs.declared.State.{State}
 use Rattle.state.specs.declared.Refusal.{Refusal}
 use Rattle.state.specs.declared.Answer.TheVariants.{Refused}
@@ -12,8 +13,6 @@ use Rattle.state.specs.declared.Refusal.TheVariants.{Stale, NoClause}
 use Rattle.tables.specs.Tables.{Tables}
 use Rattle.tables.specs.Clauses.{literals_of}
 use Rattle.entry.specs.Entry.{opening_of}
-use Rattle.entry.specs.declared.Opening.{Opening}
-use Rattle.entry.specs.declared.Opening.TheVariants.{Denied, Granted}
 use Rattle.entry.proofs.Entering.{granted_entered}
 use Rattle.visits.specs.Visited.{Visitable}
 use Rattle.visits.proofs.Entered.{entered_formed}
@@ -24,7 +23,7 @@ use Rattle.explain.specs.Asking.{Clause, Ready}
 use Rattle.explain.proofs.Standing.{Stands}
 use Rattle.explain.proofs.Few.{few_literals}
 
-pub granted_ready : (t : Tables) (st : State) → opening_of t st ≡ Granted → Ready t.clauses t.literals t.times t.links st
+pub granted_ready : (t : Tables) (st : State) → opening_of t st ≡ Ok tt → Ready t.clauses t.literals t.times t.links st
 granted_ready t st e =
     let E = granted_entered t st e in
     let S = E.shape in
@@ -65,10 +64,10 @@ module _ (number : ℕ) (t : Tables) (st : State) (out : List ℕ) where
   pub clause_told : st.fresh ≡ true → stands number st.n t.clauses ≡ true → explain_literals t.times t.links (literals_of t.clauses t.literals (number - 1)) out ≡ explain_unless_stale st.fresh number t st out
   clause_told f e = rw (f, e)
 
-  pub call_refused : (r : Refusal) → opening_of t st ≡ Denied r → after_write (Refused r) out ≡ explain_call number t st out
+  pub call_refused : (r : Refusal) → opening_of t st ≡ Err r → after_write (Refused r) out ≡ explain_call number t st out
   unfolding explain_call
-  call_refused r e = ap (λ (x : Opening). explain_opening x number t st out) (sym e)
+  call_refused r e = ap (λ (x : Result (Unit {0}) Refusal). explain_opening x number t st out) (sym e)
 
-  pub call_granted : opening_of t st ≡ Granted → explain_unless_stale st.fresh number t st out ≡ explain_call number t st out
+  pub call_granted : opening_of t st ≡ Ok tt → explain_unless_stale st.fresh number t st out ≡ explain_call number t st out
   unfolding explain_call
-  call_granted e = ap (λ (x : Opening). explain_opening x number t st out) (sym e)
+  call_granted e = ap (λ (x : Result (Unit {0}) Refusal). explain_opening x number t st out) (sym e)

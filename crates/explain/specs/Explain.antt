@@ -1,15 +1,14 @@
 -- The call. Document 02, CR 7: "For a clause number, give what Sweep will do: drop it, take out these literals, or nothing. .. The verdict, with the number of literals taken out (0 on a drop), is the result; each chain is written as a DIMACS clause line ..
 -- Refusals 1, 4, 5 and 9 apply as for a Sweep that opens. It refuses with 13 a number outside 1 to N or a dropped clause, after 9, and last with 10." The tables and the state are only read. Assumes nothing: these are definitions.
-use Rattle.std.specs.Prelude.{ℕ, zero, suc, ◌-◌, Bool, true, false, List, leb, ℤ}
+use Rattle.std.specs.Prelude.{ℕ, zero, suc, ◌-◌, Bool, true, false, List, leb, ℤ, Result, Ok, Err}
 use Rattle.stamp_columns.specs.Columns.{columns}
 use Rattle.state.specs.declared.State.{State}
 use Rattle.state.specs.declared.Answer.TheVariants.{Refused, Explained}
+use Rattle.state.specs.declared.Refusal.{Refusal}
 use Rattle.state.specs.declared.Refusal.TheVariants.{Stale, NoClause}
 use Rattle.tables.specs.Tables.{Tables, standing}
 use Rattle.tables.specs.Clauses.{literals_of}
 use Rattle.entry.specs.Entry.{opening_of}
-use Rattle.entry.specs.declared.Opening.{Opening}
-use Rattle.entry.specs.declared.Opening.TheVariants.{Denied, Granted}
 use Rattle.printing.specs.Printing.{clauses_text}
 use Rattle.write.specs.Write.{AfterWrite, after_write, text_into}
 use Rattle.chains.specs.Chains.{chains_of}
@@ -46,9 +45,9 @@ explain_unless_stale true number t st out = explain_if (stands number st.n t.cla
 explain_unless_stale false number t st out = after_write (Refused Stale) out
 
 -- 1, 4 and 5
-abbrev pub explain_opening : Opening → ℕ → Tables → State → List ℕ → AfterWrite
-explain_opening (Denied r) number t st out = after_write (Refused r) out
-explain_opening Granted number t st out = explain_unless_stale st.fresh number t st out
+abbrev pub explain_opening : Result (Unit {0}) Refusal → ℕ → Tables → State → List ℕ → AfterWrite
+explain_opening (Err r) number t st out = after_write (Refused r) out
+explain_opening (Ok _) number t st out = explain_unless_stale st.fresh number t st out
 
 unfoldable pub explain_call : ℕ → Tables → State → List ℕ → AfterWrite
 explain_call number t st out = explain_opening (opening_of t st) number t st out

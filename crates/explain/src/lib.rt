@@ -17,7 +17,6 @@ ghost use Rattle.explain.specs.Explain.{explain_into, explain_literals, stands, 
 ghost use Rattle.explain.specs.Asking.{Timed, Clause, Listed, LeftOf, Says, Ready};
 
 use chains::Ends;
-use entry::Opening;
 use state::{Answer, Refusal, State, Verdict};
 use visits::Visited;
 
@@ -348,7 +347,7 @@ pub fn explain(
     ensures { after_write result out.new ≡ explain_call number (lent clauses.now literals.now variables.now times.now links.now) st out.old }
 {
     match entry::may_open(clauses, literals, variables, times, links, st) {
-        Opening::Denied(refusal) => Answer::Refused(refusal),
-        Opening::Granted => unless_stale(clauses, literals, times, links, st, number, out),
+        Err(refusal) => Answer::Refused(refusal),
+        Ok(()) => unless_stale(clauses, literals, times, links, st, number, out),
     }
 }

@@ -5,6 +5,7 @@ use mathlib.Core.Path.{◌≡◌, sym, ap, subst}
 use mathlib.Core.Bool.{Bool, true, false}
 use mathlib.Core.List.{List}
 use lib.IntN.{ℤ}
+use Rattle.std.specs.Prelude.{Result, Ok, Err}
 use Rattle.stamp_columns.specs.Columns.{columns}
 use Rattle.state.specs.declared.State.{State}
 use Rattle.state.specs.declared.Refusal.{Refusal}
@@ -14,8 +15,6 @@ use Rattle.tables.specs.Tables.{Tables, with_variables}
 use Rattle.tables.specs.Calls.{answered, refuse}
 use Rattle.shape.specs.Shape.{Shape}
 use Rattle.entry.specs.Entry.{opening_of}
-use Rattle.entry.specs.declared.Opening.{Opening}
-use Rattle.entry.specs.declared.Opening.TheVariants.{Denied, Granted}
 use Rattle.entry.proofs.Entering.{granted_entered}
 use Rattle.visits.specs.Formed.{Variables}
 use Rattle.visits.proofs.Entered.{entered_formed}
@@ -51,13 +50,13 @@ module _ (t : Tables) (st : State) where
 
   -- ---- the two ways of the call
 
-  pub call_refused : (r : Refusal) → opening_of t st ≡ Denied r → refuse r st t ≡ failed_call t st
+  pub call_refused : (r : Refusal) → opening_of t st ≡ Err r → refuse r st t ≡ failed_call t st
   unfolding failed_call
-  call_refused r e = ap (λ (x : Opening). failed_by x t st) (sym e)
+  call_refused r e = ap (λ (x : Result (Unit {0}) Refusal). failed_by x t st) (sym e)
 
-  pub call_granted : opening_of t st ≡ Granted → failed_unless_stale st.fresh t st ≡ failed_call t st
+  pub call_granted : opening_of t st ≡ Ok tt → failed_unless_stale st.fresh t st ≡ failed_call t st
   unfolding failed_call
-  call_granted e = ap (λ (x : Opening). failed_by x t st) (sym e)
+  call_granted e = ap (λ (x : Result (Unit {0}) Refusal). failed_by x t st) (sym e)
 
-  pub granted_callable : opening_of t st ≡ Granted → Callable st t.variables t.times t.links
+  pub granted_callable : opening_of t st ≡ Ok tt → Callable st t.variables t.times t.links
   granted_callable e = let E = granted_entered t st e in record { rows = (entered_formed E tt).vars; stamped = shape_stamped E.shape }

@@ -6,16 +6,16 @@ use Prim.Native.Nat.{◌*◌}
 use native.Mathlib.Omega.{arith}
 use mathlib.Core.Path.{◌≡◌, refl}
 use mathlib.Core.Bool.{Bool, true, false}
+use Rattle.std.specs.Prelude.{Result, Ok, Err}
 use Rattle.stamp_columns.specs.Columns.{columns}
 use Rattle.state.specs.States.{closed, marked}
 use Rattle.state.specs.declared.State.{State}
 use Rattle.programmes.specs.Rules.{Passing}
 use Rattle.state.specs.declared.Pass.TheVariants.{Idle}
+use Rattle.state.specs.declared.Refusal.{Refusal}
 use Rattle.tables.specs.Tables.{Tables, with_variables}
 use Rattle.shape.specs.Shape.{Shape}
 use Rattle.entry.specs.Entry.{opening_of}
-use Rattle.entry.specs.declared.Opening.{Opening}
-use Rattle.entry.specs.declared.Opening.TheVariants.{Denied, Granted}
 use Rattle.entry.proofs.Entering.{Entered, granted_entered}
 use Rattle.visits.specs.Formed.{Formed}
 use Rattle.visits.proofs.Forming.{formed_values, formed_marked, formed_shape}
@@ -56,6 +56,6 @@ module _ (t : Tables) (st : State) where
   unfolding failed_call
   failed_shape S = go (opening_of t st) refl
     where
-      go : (x : Opening) → opening_of t st ≡ x → Shape (failed_by x t st).tables (failed_by x t st).state
-      go (Denied r) e = S
-      go Granted e = entered_shape (granted_entered t st e) st.fresh refl
+      go : (x : Result (Unit {0}) Refusal) → opening_of t st ≡ x → Shape (failed_by x t st).tables (failed_by x t st).state
+      go (Err r) e = S
+      go (Ok _) e = entered_shape (granted_entered t st e) st.fresh refl

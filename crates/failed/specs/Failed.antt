@@ -1,13 +1,14 @@
 -- Document 01: "Failed is whole in one call. For each variable in rising order whose two literals have the same start: the literal whose interval holds both and which holds no other such literal has failed, and its complement's value is set.
 -- The opposite value already there sets the mark and ends the call. It answers how many values it set." A value that is there already with the same sign is not counted.
 -- Change request 4: "The value of v is that of its class literal, sign included, after every accepted call. .. Failed still counts, only for variables that are their own class": a value is set at a class literal, and counted there. Assumes nothing: these are definitions.
-use Rattle.std.specs.Prelude.{ℕ, zero, suc, ◌*◌, Bool, true, false, List, ℤ}
+use Rattle.std.specs.Prelude.{ℕ, zero, suc, ◌*◌, Bool, true, false, List, ℤ, Result, Ok, Err}
 use Rattle.literal.specs.Literals.{lit_at, twin}
 use Rattle.walk.specs.Walk.{Stamps}
 use Rattle.stamp_columns.specs.Columns.{columns}
 use Rattle.hidden.specs.Failed.{same_start, failed_slot}
 use Rattle.state.specs.States.{closed, marked}
 use Rattle.state.specs.declared.State.{State}
+use Rattle.state.specs.declared.Refusal.{Refusal}
 use Rattle.state.specs.declared.Refusal.TheVariants.{Stale}
 use Rattle.state.specs.declared.Answer.TheVariants.{Failed}
 use Rattle.tables.specs.Tables.{Tables, with_variables}
@@ -15,8 +16,6 @@ use Rattle.tables.specs.Values.{is_true, is_false, set_true}
 use Rattle.tables.specs.Calls.{After, answered, refuse}
 use Rattle.spread.specs.Spread.{spread_behind}
 use Rattle.entry.specs.Entry.{opening_of}
-use Rattle.entry.specs.declared.Opening.{Opening}
-use Rattle.entry.specs.declared.Opening.TheVariants.{Denied, Granted}
 
 -- the variable table, how many values were set, and whether the opposite value was met
 pub record Found : Type 0 where
@@ -57,9 +56,9 @@ abbrev pub failed_unless_stale : Bool → Tables → State → After
 failed_unless_stale true t st = failed_fresh t st
 failed_unless_stale false t st = refuse Stale st t
 
-abbrev pub failed_by : Opening → Tables → State → After
-failed_by (Denied r) t st = refuse r st t
-failed_by Granted t st = failed_unless_stale st.fresh t st
+abbrev pub failed_by : Result (Unit {0}) Refusal → Tables → State → After
+failed_by (Err r) t st = refuse r st t
+failed_by (Ok _) t st = failed_unless_stale st.fresh t st
 
 unfoldable pub failed_call : Tables → State → After
 failed_call t st = failed_by (opening_of t st) t st

@@ -11,7 +11,6 @@ ghost use Rattle.visits.specs.Formed.{Variables, Known};
 ghost use Rattle.failed.specs.Failed.{found, assert, failed_at, failed_from, failed_fresh, failed_unless_stale, failed_call, state_after};
 ghost use Rattle.failed.specs.Steps.{found_of, root, Rooted, FullStamps, Shared, Failable, Callable};
 
-use entry::Opening;
 use state::{Answer, Outcome, Refusal, State};
 
 // How many values were set, and whether the opposite value was met.
@@ -172,12 +171,11 @@ pub fn failed(
     ensures { after result (returned clauses.now literals.now variables.new times.now links.now)
         ≡ failed_call (lent clauses.now literals.now variables.old times.now links.now) st }
 {
-    let opening = entry::may_open(clauses, literals, variables, times, links, st);
-    match opening {
-        Opening::Denied(r) => Outcome {
-            answer: Answer::Refused(r),
+    match entry::may_open(clauses, literals, variables, times, links, st) {
+        Err(refusal) => Outcome {
+            answer: Answer::Refused(refusal),
             state: st,
         },
-        Opening::Granted => unless_stale(variables, times, links, st),
+        Ok(()) => unless_stale(variables, times, links, st),
     }
 }

@@ -5,6 +5,7 @@ use mathlib.Core.Path.{◌≡◌, sym, ap, ◌∙◌}
 use mathlib.Core.Bool.{Bool, true, false}
 use mathlib.Core.List.{List}
 use lib.IntN.{ℤ}
+use Rattle.std.specs.Prelude.{Result, Ok, Err}
 use Rattle.base.specs.Decide.{Decides}
 use Rattle.hidden_tautologies.specs.Judged.{Judged}
 use Rattle.stamp_columns.specs.Columns.{columns}
@@ -16,8 +17,6 @@ use Rattle.shape.specs.Shape.{Shape}
 use Rattle.shape.specs.Decision.{shape_ok}
 use Rattle.shape.proofs.Reading.{shaped}
 use Rattle.entry.specs.Entry.{opening_by}
-use Rattle.entry.specs.declared.Opening.{Opening}
-use Rattle.entry.specs.declared.Opening.TheVariants.{Denied, Granted}
 use Rattle.sweep_visits.specs.Clause.{sweep_clause}
 use Rattle.window.specs.Window.{Places, AfterWindow, refuse_with}
 use Rattle.window.specs.Rule.{Newcomer, WindowRule, learnable_agrees, window_ok, window_agrees}
@@ -73,12 +72,12 @@ module _ (C : List ℤ) (t : Tables) (st : State) (w : Places) where
     pub call_unruled : b ≡ false → refuse_with refusal.Shape t st w ≡ learn_call C t st w
     call_unruled e = ruled_by false e
 
-    module _ (rule : b ≡ true) (o : Opening) (is : o ≡ opening_by st.pass st.mark) where
-      opening_is : (p : Opening) → o ≡ p → learn_opening p C t st w ≡ learn_call C t st w
-      opening_is p e = ap (λ (q : Opening). learn_opening q C t st w) (sym e ∙ is) ∙ ruled_by true rule
+    module _ (rule : b ≡ true) (o : Result (Unit {0}) Refusal) (is : o ≡ opening_by st.pass st.mark) where
+      opening_is : (p : Result (Unit {0}) Refusal) → o ≡ p → learn_opening p C t st w ≡ learn_call C t st w
+      opening_is p e = ap (λ (q : Result (Unit {0}) Refusal). learn_opening q C t st w) (sym e ∙ is) ∙ ruled_by true rule
 
-      pub call_denied : (r : Refusal) → o ≡ Denied r → refuse_with r t st w ≡ learn_call C t st w
-      call_denied r e = opening_is (Denied r) e
+      pub call_denied : (r : Refusal) → o ≡ Err r → refuse_with r t st w ≡ learn_call C t st w
+      call_denied r e = opening_is (Err r) e
 
-      pub call_granted : o ≡ Granted → learn_unless_stale st.fresh C t st w ≡ learn_call C t st w
-      call_granted e = opening_is Granted e
+      pub call_granted : o ≡ Ok tt → learn_unless_stale st.fresh C t st w ≡ learn_call C t st w
+      call_granted e = opening_is (Ok tt) e

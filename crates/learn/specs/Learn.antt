@@ -1,18 +1,17 @@
 -- The call of a learnt clause. Document 02, CR 1: "each newcomer is judged by Sweep's rules against fresh stamps and is dropped, or kept whole or shortened, and when a 65th is kept the eldest leaves. .. Refusals 1, 4, 5 and 9 apply as for a Sweep that opens. It refuses with 11 .. after 9."
 -- It opens no pass and resumes none. No table changes, and the state does not. Assumes nothing: these are definitions.
-use Rattle.std.specs.Prelude.{ℕ, Bool, true, false, List, [], length, eqb, ℤ}
+use Rattle.std.specs.Prelude.{ℕ, Bool, true, false, List, [], length, eqb, ℤ, Result, Ok, Err}
 use Rattle.stamp_columns.specs.Columns.{columns}
 use Rattle.state.specs.declared.State.{State}
 use Rattle.state.specs.declared.Answer.{Answer}
 use Rattle.state.specs.declared.Answer.TheVariants.{KeptWhole, KeptShort, NotKept}
+use Rattle.state.specs.declared.Refusal.{Refusal}
 use Rattle.state.specs.declared.Refusal.TheVariants as refusal
 use Rattle.tables.specs.Tables.{Tables}
 use Rattle.tables.specs.Calls.{answered}
 use Rattle.tables.specs.Fates.{Fate, kept, left, dropped, unit, conflict}
 use Rattle.shape.specs.Decision.{shape_ok}
 use Rattle.entry.specs.Entry.{opening_by}
-use Rattle.entry.specs.declared.Opening.{Opening}
-use Rattle.entry.specs.declared.Opening.TheVariants.{Denied, Granted}
 use Rattle.sweep_visits.specs.Clause.{sweep_clause}
 use Rattle.window.specs.Window.{Places, AfterWindow, after_window, refuse_with, keep}
 use Rattle.window.specs.Rule.{learnable_ok, window_ok}
@@ -51,9 +50,9 @@ learn_unless_stale true C t st w = learn_if (learnable_ok st.v C) C t st w
 learn_unless_stale false C t st w = refuse_with refusal.Stale t st w
 
 -- 4 and 5
-abbrev pub learn_opening : Opening → List ℤ → Tables → State → Places → AfterWindow
-learn_opening (Denied r) C t st w = refuse_with r t st w
-learn_opening Granted C t st w = learn_unless_stale st.fresh C t st w
+abbrev pub learn_opening : Result (Unit {0}) Refusal → List ℤ → Tables → State → Places → AfterWindow
+learn_opening (Err r) C t st w = refuse_with r t st w
+learn_opening (Ok _) C t st w = learn_unless_stale st.fresh C t st w
 
 -- the window's rule belongs to 1, as the shape rule does
 abbrev pub learn_ruled : Bool → List ℤ → Tables → State → Places → AfterWindow

@@ -14,7 +14,6 @@ ghost use Rattle.window.specs.Rule.{Ruled};
 ghost use Rattle.learn.specs.Learn.{remains, kept_as, kept_with, learn_by, learn_unless_stale, learn_call};
 ghost use Rattle.learn.specs.Ready.{Ready, FewLeft};
 
-use entry::Opening;
 use state::{Answer, Outcome, Refusal, State};
 use visits::Visited;
 use window::{Window, Windowed};
@@ -178,10 +177,9 @@ pub fn learn(
     if !window::window_ok(sizes, learnt, window, variables, st.v) {
         return refused(Refusal::Shape, st, window);
     }
-    let pass = st.pass;
-    match entry::opening_by(pass, st.mark) {
-        Opening::Denied(refusal) => refused(refusal, st, window),
-        Opening::Granted => learn_entered(
+    match entry::opening_by(st.pass, st.mark) {
+        Err(refusal) => refused(refusal, st, window),
+        Ok(()) => learn_entered(
             variables, times, links, st, newcomer, sizes, learnt, window,
         ),
     }

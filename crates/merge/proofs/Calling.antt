@@ -7,6 +7,7 @@ use mathlib.Core.Logic.{⊎_elim}
 use mathlib.Core.List.{List}
 use lib.IntN.{ℤ}
 use borrow.Author.Tests.{lt-ltb, le-ltb}
+use Rattle.std.specs.Prelude.{Result, Ok, Err}
 use Rattle.base.specs.Decide.{le_or}
 use Rattle.base.specs.Lists.{first}
 use Rattle.state.specs.States.{marked}
@@ -22,7 +23,7 @@ use Rattle.tables.specs.Calls.{After, answered, refuse}
 use Rattle.entry.specs.Entry.{entry_of}
 use Rattle.entry.specs.declared.PassName.TheVariants as own
 use Rattle.entry.specs.declared.Entry.{Entry}
-use Rattle.entry.specs.declared.Entry.TheVariants.{No, Opens, Resumes}
+use Rattle.entry.specs.declared.Entry.TheVariants.{Opens, Resumes}
 use Rattle.entry.proofs.Entering.{opens_entered, resumes_entered}
 use Rattle.visits.specs.Formed.{Formed}
 use Rattle.visits.proofs.Counting.{none_gone}
@@ -129,21 +130,21 @@ settled_cases steps st t P refused opens =
 -- ---- the three ways of the call
 
 module _ (steps : ℕ) (t : Tables) (st : State) where
-  pub call_refused : (r : Refusal) → entry_of own.Merge t st ≡ No r → refuse r st t ≡ merge_call steps t st
+  pub call_refused : (r : Refusal) → entry_of own.Merge t st ≡ Err r → refuse r st t ≡ merge_call steps t st
   unfolding merge_call
-  call_refused r e = ap (λ (x : Entry). merge_by x steps t st) (sym e)
+  call_refused r e = ap (λ (x : Result Entry Refusal). merge_by x steps t st) (sym e)
 
-  pub call_opens : entry_of own.Merge t st ≡ Opens → merge_settled steps t st ≡ merge_call steps t st
+  pub call_opens : entry_of own.Merge t st ≡ Ok Opens → merge_settled steps t st ≡ merge_call steps t st
   unfolding merge_call
-  call_opens e = ap (λ (x : Entry). merge_by x steps t st) (sym e)
+  call_opens e = ap (λ (x : Result Entry Refusal). merge_by x steps t st) (sym e)
 
-  pub call_resumes : (k : ℕ) (changed : Bool) → entry_of own.Merge t st ≡ Resumes k changed → merge_from st.fresh steps k t st ≡ merge_call steps t st
+  pub call_resumes : (k : ℕ) (changed : Bool) → entry_of own.Merge t st ≡ Ok (Resumes k changed) → merge_from st.fresh steps k t st ≡ merge_call steps t st
   unfolding merge_call
-  call_resumes k changed e = ap (λ (x : Entry). merge_by x steps t st) (sym e)
+  call_resumes k changed e = ap (λ (x : Result Entry Refusal). merge_by x steps t st) (sym e)
 
-  pub opens_formed : entry_of own.Merge t st ≡ Opens → Formed st.v st.n st.n false t.clauses t.literals t.variables
+  pub opens_formed : entry_of own.Merge t st ≡ Ok Opens → Formed st.v st.n st.n false t.clauses t.literals t.variables
   opens_formed e = entered_formed (opens_entered own.Merge t st e) tt
 
 -- an open Merge has visited the clauses before its cursor
-pub resumes_resumable : (t : Tables) (st : State) (k : ℕ) (changed : Bool) → entry_of own.Merge t st ≡ Resumes k changed → Resumable st k t.clauses t.literals t.variables
+pub resumes_resumable : (t : Tables) (st : State) (k : ℕ) (changed : Bool) → entry_of own.Merge t st ≡ Ok (Resumes k changed) → Resumable st k t.clauses t.literals t.variables
 resumes_resumable t st k changed e = let E = resumes_entered own.Merge t st k changed e in record { formed = entered_to E; within = omega (arith, (entered_cursor E).0) }

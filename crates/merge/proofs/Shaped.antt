@@ -5,11 +5,13 @@ use native.Mathlib.Nat.{min-le_right}
 use mathlib.Core.Path.{◌≡◌, refl, sym, subst}
 use mathlib.Core.Bool.{Bool, true, false, false≢true}
 use lib.ListN.{length}
+use Rattle.std.specs.Prelude.{Result, Ok, Err}
 use Rattle.stamps.specs.Fresh.{FreshStamps}
 use Rattle.state.specs.States.{opened, closed, marked}
 use Rattle.state.specs.declared.State.{State}
 use Rattle.programmes.specs.Rules.{Passing}
 use Rattle.state.specs.declared.Pass.TheVariants.{Merge}
+use Rattle.state.specs.declared.Refusal.{Refusal}
 use Rattle.tables.specs.Tables.{Tables, tables}
 use Rattle.tables.specs.Fates.{visits}
 use Rattle.tables.specs.Passes.{first_unsettled}
@@ -18,7 +20,7 @@ use Rattle.shape.specs.Shape.{Spread, Shape}
 use Rattle.entry.specs.Entry.{entry_of}
 use Rattle.entry.specs.declared.PassName.TheVariants as own
 use Rattle.entry.specs.declared.Entry.{Entry}
-use Rattle.entry.specs.declared.Entry.TheVariants.{No, Opens, Resumes}
+use Rattle.entry.specs.declared.Entry.TheVariants.{Opens, Resumes}
 use Rattle.visits.proofs.Forming.{formed_marked, formed_shape}
 use Rattle.visits.proofs.Visiting.{Beside, visits_beside}
 use Rattle.visits.proofs.StoreKeeps.{FormedTo, formed_shape_as}
@@ -78,7 +80,7 @@ module _ (steps : ℕ) (t : Tables) (st : State) (S : Shape t st) where
   unfolding merge_call
   merge_shaped = go (entry_of own.Merge t st) refl
     where
-      go : (x : Entry) → entry_of own.Merge t st ≡ x → Shaped (merge_by x steps t st)
-      go (No r) e = S
-      go Opens e = settled_cases steps st t Shaped S (open_shaped (opens_formed steps t st e))
-      go (Resumes k changed) e = let R = resumes_resumable t st k changed e in from_shaped st.fresh steps k t st R.formed R.within S.long.times S.long.links S.values S.stamps S.programme
+      go : (x : Result Entry Refusal) → entry_of own.Merge t st ≡ x → Shaped (merge_by x steps t st)
+      go (Err r) e = S
+      go (Ok Opens) e = settled_cases steps st t Shaped S (open_shaped (opens_formed steps t st e))
+      go (Ok (Resumes k changed)) e = let R = resumes_resumable t st k changed e in from_shaped st.fresh steps k t st R.formed R.within S.long.times S.long.links S.values S.stamps S.programme

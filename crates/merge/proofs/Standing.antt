@@ -9,6 +9,7 @@ use mathlib.Core.Logic.{⊎_elim, ◌↔◌}
 use mathlib.Core.List.{List, [], map}
 use lib.ListN.{length, get_or}
 use lib.IntN.{ℤ, pos, nat_abs}
+use Rattle.std.specs.Prelude.{Result, Ok, Err}
 use Rattle.base.specs.Decide.{same_or}
 use Rattle.literal.specs.Literals.{Literal}
 use Rattle.literal.specs.Clauses.{tautology}
@@ -17,6 +18,7 @@ use Rattle.state.specs.States.{opened}
 use Rattle.state.specs.declared.State.{State}
 use Rattle.state.specs.declared.Pass.{Pass}
 use Rattle.state.specs.declared.Pass.TheVariants.{Idle, Merge}
+use Rattle.state.specs.declared.Refusal.{Refusal}
 use Rattle.tables.specs.Tables.{Tables, tables, length_of, standing, class_of, value_of}
 use Rattle.tables.specs.Values.{class_literal}
 use Rattle.tables.specs.Clauses.{literals_of}
@@ -27,7 +29,7 @@ use Rattle.tables.specs.Stands.{Stands}
 use Rattle.entry.specs.Entry.{entry_of}
 use Rattle.entry.specs.declared.PassName.TheVariants as own
 use Rattle.entry.specs.declared.Entry.{Entry}
-use Rattle.entry.specs.declared.Entry.TheVariants.{No, Opens, Resumes}
+use Rattle.entry.specs.declared.Entry.TheVariants.{Opens, Resumes}
 use Rattle.entry.proofs.Entering.{opens_entered, resumes_entered}
 use Rattle.visits.specs.Formed.{Formed, Known}
 use Rattle.visits.proofs.Stores.{recorded, recorded_here, recorded_other, stored_at, stored_view, stored_other}
@@ -202,7 +204,7 @@ pub merge_keeps : (steps : ℕ) (t : Tables) (st : State) (τ : Assignment) → 
 unfolding merge_call
 merge_keeps steps t st τ = go (entry_of own.Merge t st) refl
   where
-    go : (x : Entry) → entry_of own.Merge t st ≡ x → Kept τ (merge_by x steps t st) t st
-    go (No r) e = Iff.rfl
-    go Opens e = settled_cases steps st t (λ (a : After). Kept τ a t st) Iff.rfl (open_keeps st (opens_entered own.Merge t st e).unmarked τ steps t (opens_formed steps t st e))
-    go (Resumes k changed) e = let R = resumes_resumable t st k changed e in from_keeps st (resumes_entered own.Merge t st k changed e).unmarked τ st.fresh steps k t R.formed R.within
+    go : (x : Result Entry Refusal) → entry_of own.Merge t st ≡ x → Kept τ (merge_by x steps t st) t st
+    go (Err r) e = Iff.rfl
+    go (Ok Opens) e = settled_cases steps st t (λ (a : After). Kept τ a t st) Iff.rfl (open_keeps st (opens_entered own.Merge t st e).unmarked τ steps t (opens_formed steps t st e))
+    go (Ok (Resumes k changed)) e = let R = resumes_resumable t st k changed e in from_keeps st (resumes_entered own.Merge t st k changed e).unmarked τ st.fresh steps k t R.formed R.within

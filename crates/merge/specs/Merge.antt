@@ -1,7 +1,7 @@
 -- Document 01: "Merge. The call that opens it, for any n, finds the groups of literals that reach each other. If v and −v share one, the mark is set, nothing else changes and it is Done.
 -- Otherwise each literal's class becomes the group's smallest variable, with the sign that equality gives it; older classes pass through the new. Visits then put class literals in, remove repeats (the first stays) and drop a clause that has v and −v."
 -- Assumes nothing: these are definitions.
-use Rattle.std.specs.Prelude.{ℕ, zero, suc, ◌+◌, ◌*◌, Bool, true, false, List, [], ◌∷◌, ltb, ℤ}
+use Rattle.std.specs.Prelude.{ℕ, zero, suc, ◌+◌, ◌*◌, Bool, true, false, List, [], ◌∷◌, ltb, ℤ, Result, Ok, Err}
 use Rattle.base.specs.Lists.{any_below}
 use Rattle.literal.specs.Literals.{slot_of, lit_at}
 use Rattle.implications.specs.Clauses.{implications}
@@ -9,6 +9,7 @@ use Rattle.scc.specs.Groups.{connected, least_mutual}
 use Rattle.state.specs.States.{marked}
 use Rattle.state.specs.declared.State.{State}
 use Rattle.state.specs.declared.Pass.TheVariants.{Merge}
+use Rattle.state.specs.declared.Refusal.{Refusal}
 use Rattle.state.specs.declared.Refusal.TheVariants.{Unsettled}
 use Rattle.state.specs.declared.Answer.TheVariants.{Done}
 use Rattle.tables.specs.Tables.{Tables, tables}
@@ -18,7 +19,7 @@ use Rattle.tables.specs.Calls.{After, answered, refuse}
 use Rattle.entry.specs.Entry.{entry_of}
 use Rattle.entry.specs.declared.PassName.TheVariants as own
 use Rattle.entry.specs.declared.Entry.{Entry}
-use Rattle.entry.specs.declared.Entry.TheVariants.{No, Opens, Resumes}
+use Rattle.entry.specs.declared.Entry.TheVariants.{Opens, Resumes}
 use Rattle.merge_visits.specs.Clause.{merge_clause}
 
 -- ---- the groups
@@ -63,10 +64,10 @@ unfoldable pub merge_settled : ℕ → Tables → State → After
 merge_settled steps t st =
     elim (ltb (first_unsettled t st.n) st.n) [ true ↦ refuse (Unsettled (first_unsettled t st.n + 1)) st t | false ↦ merge_open steps t st ]
 
-abbrev pub merge_by : Entry → ℕ → Tables → State → After
-merge_by (No r) steps t st = refuse r st t
-merge_by Opens steps t st = merge_settled steps t st
-merge_by (Resumes k changed) steps t st = merge_from st.fresh steps k t st
+abbrev pub merge_by : Result Entry Refusal → ℕ → Tables → State → After
+merge_by (Err r) steps t st = refuse r st t
+merge_by (Ok Opens) steps t st = merge_settled steps t st
+merge_by (Ok (Resumes k changed)) steps t st = merge_from st.fresh steps k t st
 
 unfoldable pub merge_call : ℕ → Tables → State → After
 merge_call steps t st = merge_by (entry_of own.Merge t st) steps t st

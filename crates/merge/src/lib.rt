@@ -163,14 +163,13 @@ pub fn merge(
         ≡ merge_call n (lent clauses.old literals.old variables.old times.now links.now) st }
 {
     let own = PassName::Merge;
-    let entry = entry::entry_of(clauses, literals, variables, times, links, st, own);
-    match entry {
-        Entry::No(r) => Outcome {
-            answer: Answer::Refused(r),
+    match entry::entry_of(clauses, literals, variables, times, links, st, own) {
+        Err(refusal) => Outcome {
+            answer: Answer::Refused(refusal),
             state: st,
         },
-        Entry::Opens => merge_settled(clauses, literals, variables, st, n as u32),
-        Entry::Resumes(k, _) => {
+        Ok(Entry::Opens) => merge_settled(clauses, literals, variables, st, n as u32),
+        Ok(Entry::Resumes(k, _)) => {
             let fresh = st.fresh;
             merge_from(clauses, literals, variables, st, fresh, n as u32, k)
         }

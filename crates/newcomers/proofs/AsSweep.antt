@@ -6,8 +6,10 @@ use mathlib.Core.Bool.{Bool, true, false}
 use mathlib.Core.Logic.{◌⊎◌, inl, inr}
 use mathlib.Core.List.{List}
 use lib.IntN.{ℤ}
+use Rattle.std.specs.Prelude.{Result, Err}
 use Rattle.stamp_columns.specs.Columns.{columns}
 use Rattle.state.specs.declared.State.{State}
+use Rattle.state.specs.declared.Refusal.{Refusal}
 use Rattle.state.specs.declared.Refusal.TheVariants as refusal
 use Rattle.state.specs.declared.Pass.{Pass}
 use Rattle.state.specs.declared.Pass.TheVariants.{Idle, Propagate, Merge, Sweep}
@@ -16,7 +18,6 @@ use Rattle.tables.specs.Calls.{After}
 use Rattle.shape.specs.Decision.{shape_ok}
 use Rattle.entry.specs.Entry.{opening_by, entry_by, entry_of}
 use Rattle.entry.specs.declared.Entry.{Entry}
-use Rattle.entry.specs.declared.Entry.TheVariants.{No}
 use Rattle.entry.specs.declared.PassName.TheVariants as own
 use Rattle.visits.proofs.Advancing.{advance_cases}
 use Rattle.sweep_visits.specs.Clause.{sweep_clause}
@@ -58,7 +59,7 @@ module _ (steps : ℕ) (C : List ℤ) (t : Tables) (st : State) (w : Places) whe
     as_sweep n = by (shape_ok t st)
       where
         by : (b : Bool) → number_of (elim b as (λ x. AfterWindow) [ true ↦ learn_ruled (window_ok st.v w) C t st w | false ↦ refuse_with refusal.Shape t st w ])
-            ≡ (sweep_by (elim b as (λ x. Entry) [ true ↦ entry_by own.Sweep st.pass st.mark | false ↦ No refusal.Shape ]) steps t st).reply.number
+            ≡ (sweep_by (elim b as (λ x. Result Entry Refusal) [ true ↦ entry_by own.Sweep st.pass st.mark | false ↦ Err refusal.Shape ]) steps t st).reply.number
         by true = ap (λ (b : Bool). number_of (learn_ruled b C t st w)) ruled ∙ opens st.pass st.mark n
         by false = refl
 

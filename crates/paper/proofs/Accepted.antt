@@ -5,6 +5,7 @@ use mathlib.Core.Path.{◌≡◌, refl, sym, ap, ◌∙◌}
 use mathlib.Core.Bool.{Bool, true, false}
 use mathlib.Core.List.{List}
 use lib.IntN.{ℤ}
+use Rattle.std.specs.Prelude.{Result, Ok, Err}
 use Rattle.scc.specs.Groups.{cyclic}
 use Rattle.state.specs.Answers.{refusal_number}
 use Rattle.state.specs.declared.State.{State}
@@ -15,8 +16,6 @@ use Rattle.tables.specs.Tables.{Tables}
 use Rattle.tables.specs.Calls.{After}
 use Rattle.stamp.specs.Stamp.{stamp_fresh, stamp_call}
 use Rattle.stamp.specs.Asking.{ask_of}
-use Rattle.stamp.specs.declared.Ruling.{Ruling}
-use Rattle.stamp.specs.declared.Ruling.TheVariants.{No, Fit}
 use Rattle.stamp.proofs.Asking.{Known, fit_known, call_refused, call_fit, acyclic_no, acyclic_yes}
 use Rattle.paper.specs.Stamping.{edges_from}
 
@@ -35,9 +34,9 @@ accepted order t st taken = by (ask_of order t st) refl
     refused : (r : Refusal) → (stamp_call order t st).reply.number ≡ refusal_number r → Accepted order t st
     refused r e = absurd (refusal_above r (sym e ∙ taken))
 
-    by : (r : Ruling) → ask_of order t st ≡ r → Accepted order t st
-    by (No r) e = refused r (ap (λ (a : After). a.reply.number) (sym (call_refused order t st r e)))
-    by Fit e = go (cyclic (edges_from t st) (2 * st.v)) refl
+    by : (r : Result (Unit {0}) Refusal) → ask_of order t st ≡ r → Accepted order t st
+    by (Err r) e = refused r (ap (λ (a : After). a.reply.number) (sym (call_refused order t st r e)))
+    by (Ok _) e = go (cyclic (edges_from t st) (2 * st.v)) refl
       where
         go : (b : Bool) → cyclic (edges_from t st) (2 * st.v) ≡ b → Accepted order t st
         go true c = refused Cyclic (ap (λ (a : After). a.reply.number) (sym (call_fit order t st e) ∙ acyclic_no order t st c))

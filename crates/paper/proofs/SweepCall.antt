@@ -4,17 +4,19 @@ use native.Mathlib.Nat.{min-le_right}
 use native.Mathlib.Omega.{arith}
 use mathlib.Core.Path.{◌≡◌, refl, ap, subst}
 use mathlib.Core.Bool.{Bool, true, false}
+use Rattle.std.specs.Prelude.{Result, Ok, Err}
 use Rattle.stamp_columns.specs.Columns.{columns}
 use Rattle.state.specs.declared.State.{State}
 use Rattle.state.specs.declared.Pass.{Pass}
 use Rattle.state.specs.declared.Pass.TheVariants.{Sweep}
+use Rattle.state.specs.declared.Refusal.{Refusal}
 use Rattle.tables.specs.Tables.{Tables}
 use Rattle.tables.specs.Fates.{visits}
 use Rattle.tables.specs.Calls.{After}
 use Rattle.entry.specs.Entry.{entry_of}
 use Rattle.entry.specs.declared.PassName.TheVariants as own
 use Rattle.entry.specs.declared.Entry.{Entry}
-use Rattle.entry.specs.declared.Entry.TheVariants.{No, Opens, Resumes}
+use Rattle.entry.specs.declared.Entry.TheVariants.{Opens, Resumes}
 use Rattle.entry.proofs.Entering.{Entered, opens_entered, resumes_entered}
 use Rattle.visits.proofs.Entered.{NoMerge, entered_formed, entered_cursor}
 use Rattle.visits.proofs.Visiting.{visits_beside}
@@ -52,7 +54,7 @@ sweep_call_lem steps t st = by (entry_of own.Sweep t st) refl
     begun : {p : Pass} → Entered p t st → NoMerge p → swept_from p ≤ st.n → So (sweep_unless_stale st.fresh steps (swept_from p) t st)
     begun E d le = subst (λ (k : ℕ). So (sweep_unless_stale st.fresh steps k t st)) (ap swept_from E.pass) (unless E d le st.fresh refl)
 
-    by : (x : Entry) → entry_of own.Sweep t st ≡ x → So (sweep_by x steps t st)
-    by (No r) q = λ taken. absurd (refusal_above r taken)
-    by Opens q = begun (opens_entered own.Sweep t st q) tt (omega arith)
-    by (Resumes k changed) q = let E = resumes_entered own.Sweep t st k changed q in begun E tt (omega (arith, (entered_cursor E).0))
+    by : (x : Result Entry Refusal) → entry_of own.Sweep t st ≡ x → So (sweep_by x steps t st)
+    by (Err r) q = λ taken. absurd (refusal_above r taken)
+    by (Ok Opens) q = begun (opens_entered own.Sweep t st q) tt (omega arith)
+    by (Ok (Resumes k changed)) q = let E = resumes_entered own.Sweep t st k changed q in begun E tt (omega (arith, (entered_cursor E).0))

@@ -7,6 +7,7 @@ use mathlib.Core.Bool.{true, false}
 use mathlib.Core.Logic.{◌⊎◌, inl, inr}
 use mathlib.Core.List.{List, [], ◌∷◌}
 use lib.IntN.{ℤ}
+use Rattle.std.specs.Prelude.{Result, Ok, Err}
 use Rattle.stamp_columns.specs.Columns.{columns}
 use Rattle.state.specs.States.{opened, closed}
 use Rattle.state.specs.declared.State.{State}
@@ -20,7 +21,7 @@ use Rattle.tables.specs.Calls.{After, refuse}
 use Rattle.entry.specs.Entry.{entry_of}
 use Rattle.entry.specs.declared.PassName.TheVariants as own
 use Rattle.entry.specs.declared.Entry.{Entry}
-use Rattle.entry.specs.declared.Entry.TheVariants.{No, Opens, Resumes}
+use Rattle.entry.specs.declared.Entry.TheVariants.{Opens, Resumes}
 use Rattle.entry.proofs.Entering.{opens_entered, resumes_entered}
 use Rattle.visits.proofs.Visiting.{visits_beside}
 use Rattle.visits.proofs.Advancing.{advance_cases}
@@ -73,28 +74,28 @@ module _ (t : Tables) (st : State) where
   from_none : (steps : ℕ) (u : Tables) → u ≡ visits rule 0 0 t → Made (sweep_by (entry_of own.Sweep u (closed true st)) steps u (closed true st))
   from_none steps u e = by (entry_of own.Sweep u (closed true st)) refl
     where
-      by : (x : Entry) → entry_of own.Sweep u (closed true st) ≡ x → Made (sweep_by x steps u (closed true st))
-      by (No r) q = stays 0 u (closed true st) r (omega arith) e (inl (refl, refl))
-      by Opens q = goes_on 0 steps Idle u (omega arith) e
-      by (Resumes k changed) q = absurd (not_open (resumes_entered own.Sweep u (closed true st) k changed q).pass)
+      by : (x : Result Entry Refusal) → entry_of own.Sweep u (closed true st) ≡ x → Made (sweep_by x steps u (closed true st))
+      by (Err r) q = stays 0 u (closed true st) r (omega arith) e (inl (refl, refl))
+      by (Ok Opens) q = goes_on 0 steps Idle u (omega arith) e
+      by (Ok (Resumes k changed)) q = absurd (not_open (resumes_entered own.Sweep u (closed true st) k changed q).pass)
 
   from_open : (steps k : ℕ) (u : Tables) → k ≤ st.n → u ≡ visits rule k 0 t → Made (sweep_by (entry_of own.Sweep u (opened (Sweep k) true st)) steps u (opened (Sweep k) true st))
   from_open steps k u le e = by (entry_of own.Sweep u (opened (Sweep k) true st)) refl
     where
-      by : (x : Entry) → entry_of own.Sweep u (opened (Sweep k) true st) ≡ x → Made (sweep_by x steps u (opened (Sweep k) true st))
-      by (No r) q = stays k u (opened (Sweep k) true st) r le e (inr (inl refl))
-      by Opens q = absurd (not_open (sym (opens_entered own.Sweep u (opened (Sweep k) true st) q).pass))
-      by (Resumes j changed) q =
+      by : (x : Result Entry Refusal) → entry_of own.Sweep u (opened (Sweep k) true st) ≡ x → Made (sweep_by x steps u (opened (Sweep k) true st))
+      by (Err r) q = stays k u (opened (Sweep k) true st) r le e (inr (inl refl))
+      by (Ok Opens) q = absurd (not_open (sym (opens_entered own.Sweep u (opened (Sweep k) true st) q).pass))
+      by (Ok (Resumes j changed)) q =
           let same : k ≡ j = ap swept_from (resumes_entered own.Sweep u (opened (Sweep k) true st) j changed q).pass in
           subst (λ (i : ℕ). Made (sweep_from steps i u (opened (Sweep k) true st))) same (goes_on k steps (Sweep k) u le e)
 
   from_spent : (steps k : ℕ) (u : Tables) → k ≤ st.n → u ≡ visits rule k 0 t → Made (sweep_by (entry_of own.Sweep u (closed false st)) steps u (closed false st))
   from_spent steps k u le e = by (entry_of own.Sweep u (closed false st)) refl
     where
-      by : (x : Entry) → entry_of own.Sweep u (closed false st) ≡ x → Made (sweep_by x steps u (closed false st))
-      by (No r) q = stays k u (closed false st) r le e (inr (inr refl))
-      by Opens q = stays k u (closed false st) Stale le e (inr (inr refl))
-      by (Resumes j changed) q = absurd (not_open (resumes_entered own.Sweep u (closed false st) j changed q).pass)
+      by : (x : Result Entry Refusal) → entry_of own.Sweep u (closed false st) ≡ x → Made (sweep_by x steps u (closed false st))
+      by (Err r) q = stays k u (closed false st) r le e (inr (inr refl))
+      by (Ok Opens) q = stays k u (closed false st) Stale le e (inr (inr refl))
+      by (Ok (Resumes j changed)) q = absurd (not_open (resumes_entered own.Sweep u (closed false st) j changed q).pass)
 
   step : (steps : ℕ) (a : After) → Made a → Made (sweep_call steps a.tables a.state)
   unfolding sweep_call

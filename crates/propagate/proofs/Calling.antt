@@ -2,6 +2,7 @@
 use Prim.Native.Nat.{ℕ, zero, suc, ◌<◌}
 use mathlib.Core.Path.{◌≡◌, refl, sym, ap, ◌∙◌}
 use mathlib.Core.Bool.{Bool, false}
+use Rattle.std.specs.Prelude.{Result, Ok, Err}
 use Rattle.state.specs.declared.State.{State}
 use Rattle.state.specs.declared.Counts.{Counts}
 use Rattle.state.specs.declared.Refusal.{Refusal}
@@ -10,7 +11,7 @@ use Rattle.tables.specs.Calls.{refuse}
 use Rattle.entry.specs.Entry.{entry_of}
 use Rattle.entry.specs.declared.PassName.TheVariants as own
 use Rattle.entry.specs.declared.Entry.{Entry}
-use Rattle.entry.specs.declared.Entry.TheVariants.{No, Opens, Resumes}
+use Rattle.entry.specs.declared.Entry.TheVariants.{Opens, Resumes}
 use Rattle.entry.proofs.Entering.{opens_entered, resumes_entered}
 use Rattle.visits.specs.Formed.{Formed}
 use Rattle.visits.proofs.Counting.{none_gone}
@@ -43,20 +44,20 @@ begin_some (suc n) t d = refl
 -- ---- the three ways of the call
 
 module _ (steps : ℕ) (t : Tables) (st : State) where
-  pub call_refused : (r : Refusal) → entry_of own.Propagate t st ≡ No r → refuse r st t ≡ propagate_call steps t st
+  pub call_refused : (r : Refusal) → entry_of own.Propagate t st ≡ Err r → refuse r st t ≡ propagate_call steps t st
   unfolding propagate_call
-  call_refused r e = ap (λ (x : Entry). propagate_by x steps t st) (sym e)
+  call_refused r e = ap (λ (x : Result Entry Refusal). propagate_by x steps t st) (sym e)
 
-  pub call_opens : entry_of own.Propagate t st ≡ Opens → propagate_from false steps (begin st.n t) t st ≡ propagate_call steps t st
+  pub call_opens : entry_of own.Propagate t st ≡ Ok Opens → propagate_from false steps (begin st.n t) t st ≡ propagate_call steps t st
   unfolding propagate_call
-  call_opens e = ap (λ (x : Entry). propagate_by x steps t st) (sym e)
+  call_opens e = ap (λ (x : Result Entry Refusal). propagate_by x steps t st) (sym e)
 
-  pub call_resumes : (k : ℕ) (changed : Bool) → entry_of own.Propagate t st ≡ Resumes k changed → propagate_from st.fresh steps (going k changed t) t st ≡ propagate_call steps t st
+  pub call_resumes : (k : ℕ) (changed : Bool) → entry_of own.Propagate t st ≡ Ok (Resumes k changed) → propagate_from st.fresh steps (going k changed t) t st ≡ propagate_call steps t st
   unfolding propagate_call
-  call_resumes k changed e = ap (λ (x : Entry). propagate_by x steps t st) (sym e)
+  call_resumes k changed e = ap (λ (x : Result Entry Refusal). propagate_by x steps t st) (sym e)
 
-  pub opens_formed : entry_of own.Propagate t st ≡ Opens → Formed st.v st.n st.n false t.clauses t.literals t.variables
+  pub opens_formed : entry_of own.Propagate t st ≡ Ok Opens → Formed st.v st.n st.n false t.clauses t.literals t.variables
   opens_formed e = entered_formed (opens_entered own.Propagate t st e) tt
 
-  pub resumes_before : (k : ℕ) (changed : Bool) → entry_of own.Propagate t st ≡ Resumes k changed → Formed st.v st.n st.n false t.clauses t.literals t.variables × (k < st.n)
+  pub resumes_before : (k : ℕ) (changed : Bool) → entry_of own.Propagate t st ≡ Ok (Resumes k changed) → Formed st.v st.n st.n false t.clauses t.literals t.variables × (k < st.n)
   resumes_before k changed e = let E = resumes_entered own.Propagate t st k changed e in (entered_formed E tt, (entered_cursor E).0)

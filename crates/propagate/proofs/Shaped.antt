@@ -5,8 +5,10 @@ use mathlib.Core.Path.{◌≡◌, refl, sym, subst, ◌∙◌}
 use mathlib.Core.Bool.{Bool, true, false, ◌||◌, false≢true}
 use mathlib.Core.List.{List}
 use lib.Dec.{ltb}
+use Rattle.std.specs.Prelude.{Result, Ok, Err}
 use Rattle.state.specs.declared.State.{State}
 use Rattle.programmes.specs.Rules.{Passing}
+use Rattle.state.specs.declared.Refusal.{Refusal}
 use Rattle.tables.specs.Tables.{Tables, length_of, class_of}
 use Rattle.tables.specs.Fates.{Fate, kept, left, dropped, unit, conflict, store, fate_at}
 use Rattle.stamps.specs.Fresh.{FreshStamps}
@@ -14,7 +16,7 @@ use Rattle.shape.specs.Shape.{settled_to, Cursor, Shape}
 use Rattle.entry.specs.Entry.{entry_of}
 use Rattle.entry.specs.declared.PassName.TheVariants as own
 use Rattle.entry.specs.declared.Entry.{Entry}
-use Rattle.entry.specs.declared.Entry.TheVariants.{No, Opens, Resumes}
+use Rattle.entry.specs.declared.Entry.TheVariants.{Opens, Resumes}
 use Rattle.entry.proofs.Entering.{opens_entered, resumes_entered}
 use Rattle.visits.specs.Formed.{Formed}
 use Rattle.visits.proofs.Visiting.{SameStamps, stamps_same, stamps_join, store_stamps}
@@ -112,11 +114,11 @@ pub propagate_shaped : (steps : ℕ) (t : Tables) (st : State) → Shape t st �
 unfolding propagate_call
 propagate_shaped steps t st S = by (entry_of own.Propagate t st) refl
   where
-    by : (e : Entry) → entry_of own.Propagate t st ≡ e → Shape (propagate_by e steps t st).tables (propagate_by e steps t st).state
-    by (No r) q = S
-    by Opens q =
+    by : (e : Result Entry Refusal) → entry_of own.Propagate t st ≡ e → Shape (propagate_by e steps t st).tables (propagate_by e steps t st).state
+    by (Err r) q = S
+    by (Ok Opens) q =
         let F = entered_formed (opens_entered own.Propagate t st q) tt in
         from_shaped t st S false (λ e. absurd (false≢true e)) steps (begin st.n t) (begin_good st.v st.n t F) (begin_tables st.n t)
-    by (Resumes k changed) q =
+    by (Ok (Resumes k changed)) q =
         let E = resumes_entered own.Propagate t st k changed q in
         from_shaped t st S st.fresh S.stamps steps (going k changed t) (entered_formed E tt, (entered_cursor E).0) refl

@@ -274,14 +274,13 @@ pub fn propagate(
         ≡ propagate_call n (lent clauses.old literals.old variables.old times.now links.now) st }
 {
     let own = PassName::Propagate;
-    let entry = entry::entry_of(clauses, literals, variables, times, links, st, own);
-    match entry {
-        Entry::No(r) => Outcome {
-            answer: Answer::Refused(r),
+    match entry::entry_of(clauses, literals, variables, times, links, st, own) {
+        Err(refusal) => Outcome {
+            answer: Answer::Refused(refusal),
             state: st,
         },
-        Entry::Opens => open_pass(clauses, literals, variables, st, n as u32),
-        Entry::Resumes(k, changed) => {
+        Ok(Entry::Opens) => open_pass(clauses, literals, variables, st, n as u32),
+        Ok(Entry::Resumes(k, changed)) => {
             let fresh = st.fresh;
             let steps = n as u32;
             propagate_from(clauses, literals, variables, st, fresh, steps, k, changed)

@@ -10,9 +10,11 @@ use mathlib.Core.Bool.{Bool, true, false}
 use mathlib.Core.Logic.{◌⊎◌, inl, inr, ⊎_elim}
 use mathlib.Core.List.{List}
 use lib.ListN.{length}
+use Rattle.std.specs.Prelude.{Result, Ok, Err}
 use Rattle.base.specs.Decide.{zero_or, same_or, le_or}
 use Rattle.state.specs.Answers.{refusal_number}
 use Rattle.state.specs.declared.State.{State}
+use Rattle.state.specs.declared.Refusal.{Refusal}
 use Rattle.state.specs.declared.Refusal.TheVariants.{Shape}
 use Rattle.state.specs.declared.Pass.{Pass}
 use Rattle.state.specs.declared.Pass.TheVariants.{Idle, Propagate, Merge, Sweep}
@@ -21,9 +23,6 @@ use Rattle.tables.specs.Tables.{Tables}
 use Rattle.shape.specs.Decision.{shape_ok}
 use Rattle.entry.specs.Entry.{opening_by, opening_of, entry_by, entry_of}
 use Rattle.entry.specs.declared.Entry.{Entry}
-use Rattle.entry.specs.declared.Entry.TheVariants.{No}
-use Rattle.entry.specs.declared.Opening.{Opening}
-use Rattle.entry.specs.declared.Opening.TheVariants.{Denied, Granted}
 use Rattle.entry.specs.declared.PassName.TheVariants as own
 use Rattle.visits.proofs.Forming.{shape_formed, stands_one}
 use Rattle.sweep.specs.Sweep.{sweep_unless_stale, sweep_by, sweep_call}
@@ -38,16 +37,16 @@ use Rattle.reasons.proofs.Cases.{Asked, explain_cases}
 -- ---- a Sweep that opens
 
 -- the number of the refusal of a call that opens its pass and needs fresh stamps
-abbrev opening_number : Opening → Bool → ℕ
-opening_number (Denied r) fresh = refusal_number r
-opening_number Granted true = 0
-opening_number Granted false = 9
+abbrev opening_number : Result (Unit {0}) Refusal → Bool → ℕ
+opening_number (Err r) fresh = refusal_number r
+opening_number (Ok _) true = 0
+opening_number (Ok _) false = 9
 
 sweep_opens : (steps : ℕ) (t : Tables) (st : State) → NoSweep st.pass → (sweep_call steps t st).reply.number ≡ opening_number (opening_of t st) st.fresh
 unfolding sweep_call entry_of opening_of
 sweep_opens steps t st n = by (shape_ok t st)
   where
-    stale : (fresh : Bool) → (sweep_unless_stale fresh steps 0 t st).reply.number ≡ opening_number Granted fresh
+    stale : (fresh : Bool) → (sweep_unless_stale fresh steps 0 t st).reply.number ≡ opening_number (Ok tt) fresh
     stale true = sweep_number steps t st
     stale false = refl
 
@@ -58,8 +57,8 @@ sweep_opens steps t st n = by (shape_ok t st)
     opens (Propagate cursor changed) mark d = refl
     opens (Merge cursor) mark d = refl
 
-    by : (b : Bool) → (sweep_by (elim b as (λ x. Entry) [ true ↦ entry_by own.Sweep st.pass st.mark | false ↦ No Shape ]) steps t st).reply.number
-        ≡ opening_number (elim b as (λ x. Opening) [ true ↦ opening_by st.pass st.mark | false ↦ Denied Shape ]) st.fresh
+    by : (b : Bool) → (sweep_by (elim b as (λ x. Result Entry Refusal) [ true ↦ entry_by own.Sweep st.pass st.mark | false ↦ Err Shape ]) steps t st).reply.number
+        ≡ opening_number (elim b as (λ x. Result (Unit {0}) Refusal) [ true ↦ opening_by st.pass st.mark | false ↦ Err Shape ]) st.fresh
     by true = opens st.pass st.mark n
     by false = refl
 
@@ -142,13 +141,13 @@ module _ (number : ℕ) (t : Tables) (st : State) (out : List ℕ) where
   explain_by : RefusedAs number t st out (opening_number (opening_of t st) st.fresh) (explain_call number t st out).reply.number
   explain_by =
       explain_cases number t st out (λ (a : AfterWrite). As (opening_number (opening_of t st) st.fresh) a.reply.number)
-      (λ r e. subst (λ (k : ℕ). As k (refusal_number r)) (sym (ap (λ (x : Opening). opening_number x st.fresh) e)) (refused_first (refusal_number r) (number_bounds r).0))
+      (λ r e. subst (λ (k : ℕ). As k (refusal_number r)) (sym (ap (λ (x : Result (Unit {0}) Refusal). opening_number x st.fresh) e)) (refused_first (refusal_number r) (number_bounds r).0))
       (λ g e. subst (λ (k : ℕ). As k 9) (sym (opened g e)) (refused_first 9 (omega arith)))
       (λ A none. subst (λ (k : ℕ). As k 13) (sym (fresh_opened A)) (refused_number A none))
       (λ A N less. subst (λ (k : ℕ). As k 10) (sym (fresh_opened A)) (refused_short N less))
       (λ A N fits. subst (λ (k : ℕ). As k 0) (sym (fresh_opened A)) (taken N fits))
     where
-      opened : {b : Bool} → opening_of t st ≡ Granted → st.fresh ≡ b → opening_number (opening_of t st) st.fresh ≡ opening_number Granted b
+      opened : {b : Bool} → opening_of t st ≡ Ok tt → st.fresh ≡ b → opening_number (opening_of t st) st.fresh ≡ opening_number (Ok tt) b
       opened g e = λ i. opening_number (g i) (e i)
 
       fresh_opened : Asked t st → opening_number (opening_of t st) st.fresh ≡ 0
@@ -162,10 +161,10 @@ module _ (number : ℕ) (t : Tables) (st : State) (out : List ℕ) where
   unfolding explain_call opening_of
   explain_open cursor e = by (shape_ok t st)
     where
-      By : Opening → Type 0
+      By : Result (Unit {0}) Refusal → Type 0
       By x = ((explain_opening x number t st out).reply.number ≡ 1) ⊎ ((explain_opening x number t st out).reply.number ≡ 4)
 
-      by : (b : Bool) → By (elim b as (λ x. Opening) [ true ↦ opening_by st.pass st.mark | false ↦ Denied Shape ])
+      by : (b : Bool) → By (elim b as (λ x. Result (Unit {0}) Refusal) [ true ↦ opening_by st.pass st.mark | false ↦ Err Shape ])
       by true = subst (λ (p : Pass). By (opening_by p st.mark)) (sym e) (inr refl)
       by false = inl refl
 

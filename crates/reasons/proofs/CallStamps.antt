@@ -7,12 +7,14 @@ use mathlib.Core.List.{List, ◌++◌}
 use lib.ListN.{drop, take-append-drop}
 use lib.Dec.{ltb}
 use lib.IntN.{ℤ}
+use Rattle.std.specs.Prelude.{Result, Ok, Err}
 use Rattle.base.proofs.Booleans.{clash}
 use Rattle.stamp_columns.specs.Columns.{columns}
 use Rattle.scc.specs.Groups.{cyclic}
 use Rattle.state.specs.States.{closed, marked}
 use Rattle.state.specs.declared.State.{State}
 use Rattle.state.specs.declared.Pass.TheVariants.{Propagate, Merge, Sweep}
+use Rattle.state.specs.declared.Refusal.{Refusal}
 use Rattle.state.specs.declared.Refusal.TheVariants.{Unsettled}
 use Rattle.tables.specs.Tables.{Tables}
 use Rattle.tables.specs.Passes.{first_unsettled}
@@ -20,9 +22,7 @@ use Rattle.tables.specs.Calls.{After, refuse}
 use Rattle.entry.specs.Entry.{entry_of, opening_of}
 use Rattle.entry.specs.declared.PassName.TheVariants as own
 use Rattle.entry.specs.declared.Entry.{Entry}
-use Rattle.entry.specs.declared.Entry.TheVariants.{No, Opens, Resumes}
-use Rattle.entry.specs.declared.Opening.{Opening}
-use Rattle.entry.specs.declared.Opening.TheVariants.{Denied, Granted}
+use Rattle.entry.specs.declared.Entry.TheVariants.{Opens, Resumes}
 use Rattle.entry.proofs.Entering.{resumes_entered}
 use Rattle.visits.proofs.Visiting.{visits_beside}
 use Rattle.visits.proofs.Advancing.{advance_cases}
@@ -31,8 +31,6 @@ use Rattle.propagate_visits.specs.Visits.{going, begin}
 use Rattle.merge.specs.Merge.{merge_open, merge_settled, merge_by, merge_call}
 use Rattle.stamp.specs.Stamp.{stamp_acyclic, stamp_call}
 use Rattle.stamp.specs.Asking.{ask_of}
-use Rattle.stamp.specs.declared.Ruling.{Ruling}
-use Rattle.stamp.specs.declared.Ruling.TheVariants as ruling
 use Rattle.stamp.proofs.Asking.{call_refused, call_fit, acyclic_no, acyclic_yes}
 use Rattle.failed.specs.Failed.{found, failed_from, failed_fresh, failed_unless_stale, failed_by, failed_call}
 use Rattle.sweep_visits.specs.Clause.{sweep_clause}
@@ -81,10 +79,10 @@ module _ (t : Tables) (st : State) where
   unfolding propagate_call
   propagate_keeps F steps = by (entry_of own.Propagate t st) refl
     where
-      by : (x : Entry) → entry_of own.Propagate t st ≡ x → Keeps (propagate_by x steps t st)
-      by (No r) q h = unchanged h
-      by Opens q h = clash h (propagate_spends st false refl steps (begin st.n t) t).fresh
-      by (Resumes k changed) q h = clash h (propagate_spends st st.fresh (F.propagate k changed (resumes_entered own.Propagate t st k changed q).pass) steps (going k changed t) t).fresh
+      by : (x : Result Entry Refusal) → entry_of own.Propagate t st ≡ x → Keeps (propagate_by x steps t st)
+      by (Err r) q h = unchanged h
+      by (Ok Opens) q h = clash h (propagate_spends st false refl steps (begin st.n t) t).fresh
+      by (Ok (Resumes k changed)) q h = clash h (propagate_spends st st.fresh (F.propagate k changed (resumes_entered own.Propagate t st k changed q).pass) steps (going k changed t) t).fresh
 
   merge_keeps : OpenSpent st → (steps : ℕ) → Keeps (merge_call steps t st)
   unfolding merge_call merge_settled
@@ -94,10 +92,10 @@ module _ (t : Tables) (st : State) where
       opens true h = unchanged h
       opens false h = clash h (open_spends st steps t).fresh
 
-      by : (x : Entry) → entry_of own.Merge t st ≡ x → Keeps (merge_by x steps t st)
-      by (No r) q h = unchanged h
-      by Opens q h = opens (ltb (first_unsettled t st.n) st.n) h
-      by (Resumes k changed) q h = clash h (merge_spends st st.fresh (F.merge k (resumes_entered own.Merge t st k changed q).pass) steps k t).fresh
+      by : (x : Result Entry Refusal) → entry_of own.Merge t st ≡ x → Keeps (merge_by x steps t st)
+      by (Err r) q h = unchanged h
+      by (Ok Opens) q h = opens (ltb (first_unsettled t st.n) st.n) h
+      by (Ok (Resumes k changed)) q h = clash h (merge_spends st st.fresh (F.merge k (resumes_entered own.Merge t st k changed q).pass) steps k t).fresh
 
   failed_keeps : Keeps (failed_call t st)
   unfolding failed_call failed_fresh
@@ -111,9 +109,9 @@ module _ (t : Tables) (st : State) where
           same false = refl
       unless false e h = unchanged h
 
-      by : (x : Opening) → Keeps (failed_by x t st)
-      by (Denied r) = unchanged
-      by Granted = unless st.fresh refl
+      by : (x : Result (Unit {0}) Refusal) → Keeps (failed_by x t st)
+      by (Err r) = unchanged
+      by (Ok _) = unless st.fresh refl
 
   sweep_keeps : (steps : ℕ) → Keeps (sweep_call steps t st)
   unfolding sweep_call
@@ -131,10 +129,10 @@ module _ (t : Tables) (st : State) where
       unless true e k = goes e k
       unless false e k = unchanged
 
-      by : (x : Entry) → Keeps (sweep_by x steps t st)
-      by (No r) = unchanged
-      by Opens = unless st.fresh refl 0
-      by (Resumes k changed) = unless st.fresh refl k
+      by : (x : Result Entry Refusal) → Keeps (sweep_by x steps t st)
+      by (Err r) = unchanged
+      by (Ok Opens) = unless st.fresh refl 0
+      by (Ok (Resumes k changed)) = unless st.fresh refl k
 
   programme_keeps : (codes : List ℕ) → Keeps (call_on (programme codes) t st)
   programme_keeps codes h = record {
@@ -154,9 +152,9 @@ module _ (t : Tables) (st : State) where
       walked true e = subst So (sym (acyclic_no order t st e)) (λ h. inr (unchanged h))
       walked false e = subst So (sym (acyclic_yes order t st e)) (λ h. inl (record { order = order; call = refl; accepted = refl; variables = refl }))
 
-      by : (r : Ruling) → ask_of order t st ≡ r → So (stamp_call order t st)
-      by (ruling.No r) e = subst So (call_refused order t st r e) (λ h. inr (unchanged h))
-      by ruling.Fit e = subst So (call_fit order t st e) (walked (cyclic (edges_from t st) (2 * st.v)) refl)
+      by : (r : Result (Unit {0}) Refusal) → ask_of order t st ≡ r → So (stamp_call order t st)
+      by (Err r) e = subst So (call_refused order t st r e) (λ h. inr (unchanged h))
+      by (Ok _) e = subst So (call_fit order t st e) (walked (cyclic (edges_from t st) (2 * st.v)) refl)
 
 -- THE LAW
 pub call_stamps : (c : Call) (t : Tables) (st : State) → OpenSpent st → (call_on c t st).state.fresh ≡ true → Stamps c t st (call_on c t st) ⊎ Kept t st (call_on c t st).tables (call_on c t st).state

@@ -7,6 +7,7 @@ use mathlib.Core.List.{List, ◌++◌}
 use lib.ListN.{length, drop}
 use lib.Dec.{leb}
 use borrow.Author.Tests.{leb-true, leb-false, le-leb}
+use Rattle.std.specs.Prelude.{Result, Ok, Err}
 use Rattle.base.proofs.Booleans.{clash}
 use Rattle.state.specs.declared.State.{State}
 use Rattle.state.specs.declared.Pass.TheVariants.{Idle}
@@ -16,8 +17,6 @@ use Rattle.state.specs.declared.Answer.TheVariants.{Refused, Explained}
 use Rattle.tables.specs.Tables.{Tables, standing}
 use Rattle.shape.specs.Shape.{Shape}
 use Rattle.entry.specs.Entry.{opening_of}
-use Rattle.entry.specs.declared.Opening.{Opening}
-use Rattle.entry.specs.declared.Opening.TheVariants.{Denied, Granted}
 use Rattle.entry.proofs.Entering.{Entered, granted_entered}
 use Rattle.visits.proofs.Forming.{shape_formed, stands_one}
 use Rattle.write.specs.Write.{AfterWrite, after_write}
@@ -54,14 +53,14 @@ stands_named (suc k) t st S h = by (leb (suc k) st.n) refl h
 
 -- what is left where 1, 4, 5 and 9 do not apply
 pub record Asked (t : Tables) (st : State) : Type 0 where
-  pub granted : opening_of t st ≡ Granted
+  pub granted : opening_of t st ≡ Ok tt
   pub entered : Entered Idle t st
   pub fresh : st.fresh ≡ true
 
 module _ (number : ℕ) (t : Tables) (st : State) (out : List ℕ) where
   pub explain_cases : (P : AfterWrite → Type 0)
-      → ((r : Refusal) → opening_of t st ≡ Denied r → P (after_write (Refused r) out))
-      → (opening_of t st ≡ Granted → st.fresh ≡ false → P (after_write (Refused Stale) out))
+      → ((r : Refusal) → opening_of t st ≡ Err r → P (after_write (Refused r) out))
+      → (opening_of t st ≡ Ok tt → st.fresh ≡ false → P (after_write (Refused Stale) out))
       → (Asked t st → (Named number t st → ⊥) → P (after_write (Refused NoClause) out))
       → (Asked t st → (N : Named number t st) → length out < length (text_at t N.at) → P (after_write (Refused (Short (length (text_at t N.at)))) out))
       → (Asked t st → (N : Named number t st) → length (text_at t N.at) ≤ length out
@@ -88,13 +87,13 @@ module _ (number : ℕ) (t : Tables) (st : State) (out : List ℕ) where
           subst (λ (i : ℕ). P (explain_literals t.times t.links (clause_at t i) out)) at (by_length A N)
       by_clause A false e = none A (λ N. clash (named_stands number t st N) e)
 
-      by_stamps : opening_of t st ≡ Granted → (b : Bool) → st.fresh ≡ b → P (explain_unless_stale b number t st out)
+      by_stamps : opening_of t st ≡ Ok tt → (b : Bool) → st.fresh ≡ b → P (explain_unless_stale b number t st out)
       by_stamps g true e = by_clause (record { granted = g; entered = granted_entered t st g; fresh = e }) (stands number st.n t.clauses) refl
       by_stamps g false e = stale g e
 
-      by_opening : (x : Opening) → opening_of t st ≡ x → P (explain_opening x number t st out)
-      by_opening (Denied r) e = denied r e
-      by_opening Granted e = by_stamps e st.fresh refl
+      by_opening : (x : Result (Unit {0}) Refusal) → opening_of t st ≡ x → P (explain_opening x number t st out)
+      by_opening (Err r) e = denied r e
+      by_opening (Ok _) e = by_stamps e st.fresh refl
 
   -- an accepted call
   pub explain_asked : (explain_call number t st out).reply.number ≡ 0 → Asked t st

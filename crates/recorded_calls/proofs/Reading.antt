@@ -4,7 +4,9 @@ use mathlib.Core.Path.{◌≡◌, refl, sym, subst}
 use mathlib.Core.Bool.{Bool, true, false}
 use mathlib.Core.List.{List}
 use lib.IntN.{ℤ}
+use Rattle.std.specs.Prelude.{Result, Ok, Err}
 use Rattle.state.specs.declared.State.{State}
+use Rattle.state.specs.declared.Refusal.{Refusal}
 use Rattle.state.specs.declared.Refusal.TheVariants.{Shape}
 use Rattle.state.specs.declared.Pass.{Pass}
 use Rattle.state.specs.declared.Pass.TheVariants.{Merge, Sweep}
@@ -17,9 +19,7 @@ use Rattle.tables.specs.Calls.{After, refuse}
 use Rattle.entry.specs.Entry.{entry_of, opening_of}
 use Rattle.entry.specs.declared.PassName.TheVariants as own
 use Rattle.entry.specs.declared.Entry.{Entry}
-use Rattle.entry.specs.declared.Entry.TheVariants.{No, Opens, Resumes}
-use Rattle.entry.specs.declared.Opening.{Opening}
-use Rattle.entry.specs.declared.Opening.TheVariants.{Denied, Granted}
+use Rattle.entry.specs.declared.Entry.TheVariants.{Opens, Resumes}
 use Rattle.entry.proofs.Entering.{opens_entered, resumes_entered}
 use Rattle.visits.proofs.Entered.{entered_formed, entered_cursor}
 use Rattle.visits.proofs.Advancing.{advance_cases}
@@ -76,10 +76,10 @@ propagate_reads steps t st = by (entry_of own.Propagate t st) refl
         let S = subst (SameStamps t) (sym (replied_tables fresh t.clauses st q.visits q.progress)) (subst (λ (x : Tables). SameStamps x (tables_at q.progress)) e (visits_stamps st.v st.n steps 0 p G)) in
         record { times = S.times; links = S.links }
 
-    by : (e : Entry) → entry_of own.Propagate t st ≡ e → Reads t (propagate_by e steps t st)
-    by (No r) q = stamps_same t
-    by Opens q = from false (begin st.n t) (begin_good st.v st.n t (entered_formed (opens_entered own.Propagate t st q) tt)) (begin_tables st.n t)
-    by (Resumes k changed) q = let E = resumes_entered own.Propagate t st k changed q in from st.fresh (going k changed t) (entered_formed E tt, (entered_cursor E).0) refl
+    by : (e : Result Entry Refusal) → entry_of own.Propagate t st ≡ e → Reads t (propagate_by e steps t st)
+    by (Err r) q = stamps_same t
+    by (Ok Opens) q = from false (begin st.n t) (begin_good st.v st.n t (entered_formed (opens_entered own.Propagate t st q) tt)) (begin_tables st.n t)
+    by (Ok (Resumes k changed)) q = let E = resumes_entered own.Propagate t st k changed q in from st.fresh (going k changed t) (entered_formed E tt, (entered_cursor E).0) refl
 
 pub merge_reads : (steps : ℕ) (t : Tables) (st : State) → Reads t (merge_call steps t st)
 unfolding merge_call merged_classes
@@ -90,10 +90,10 @@ merge_reads steps t st = by (entry_of own.Merge t st)
         open_cases steps st t (Reads t) (λ e. stamps_same t)
         (λ e. let u = merged_classes st.v st.n t in let S = advance_reads Merge false false (merge_clause u.variables) (merge_shrinks u.variables) steps 0 u st in record { times = S.times; links = S.links })
 
-    by : (e : Entry) → Reads t (merge_by e steps t st)
-    by (No r) = stamps_same t
-    by Opens = settled_cases steps st t (Reads t) (stamps_same t) (λ e. opened)
-    by (Resumes k changed) = advance_reads Merge st.fresh st.fresh (merge_clause t.variables) (merge_shrinks t.variables) steps k t st
+    by : (e : Result Entry Refusal) → Reads t (merge_by e steps t st)
+    by (Err r) = stamps_same t
+    by (Ok Opens) = settled_cases steps st t (Reads t) (stamps_same t) (λ e. opened)
+    by (Ok (Resumes k changed)) = advance_reads Merge st.fresh st.fresh (merge_clause t.variables) (merge_shrinks t.variables) steps k t st
 
 pub failed_reads : (t : Tables) (st : State) → Reads t (failed_call t st)
 unfolding failed_call failed_fresh
@@ -103,9 +103,9 @@ failed_reads t st = by (opening_of t st)
     unless true = record { times = refl; links = refl }
     unless false = stamps_same t
 
-    by : (o : Opening) → Reads t (failed_by o t st)
-    by (Denied r) = stamps_same t
-    by Granted = unless st.fresh
+    by : (o : Result (Unit {0}) Refusal) → Reads t (failed_by o t st)
+    by (Err r) = stamps_same t
+    by (Ok _) = unless st.fresh
 
 pub sweep_reads : (steps : ℕ) (t : Tables) (st : State) → Reads t (sweep_call steps t st)
 unfolding sweep_call
@@ -115,10 +115,10 @@ sweep_reads steps t st = by (entry_of own.Sweep t st)
     unless true k = let σ = columns t.times t.links in advance_reads Sweep true false (sweep_clause σ) (sweep_shrinks σ) steps k t st
     unless false k = stamps_same t
 
-    by : (e : Entry) → Reads t (sweep_by e steps t st)
-    by (No r) = stamps_same t
-    by Opens = unless st.fresh 0
-    by (Resumes k changed) = unless st.fresh k
+    by : (e : Result Entry Refusal) → Reads t (sweep_by e steps t st)
+    by (Err r) = stamps_same t
+    by (Ok Opens) = unless st.fresh 0
+    by (Ok (Resumes k changed)) = unless st.fresh k
 
 pub set_reads : (codes : List ℕ) (t : Tables) (st : State) → Reads t (set_call codes t st)
 set_reads codes t st = subst (SameStamps t) (sym (set_tables codes t st)) (stamps_same t)

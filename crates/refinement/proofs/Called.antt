@@ -5,15 +5,17 @@ use native.Mathlib.Omega.{arith}
 use mathlib.Core.Path.{◌≡◌, refl, subst}
 use mathlib.Core.Bool.{Bool, false}
 use mathlib.Core.List.{List}
+use Rattle.std.specs.Prelude.{Result, Ok, Err}
 use Rattle.state.specs.declared.State.{State}
 use Rattle.state.specs.declared.Pass.TheVariants.{Merge}
+use Rattle.state.specs.declared.Refusal.{Refusal}
 use Rattle.tables.specs.Tables.{Tables}
 use Rattle.tables.specs.Passes.{first_unsettled}
 use Rattle.tables.specs.Calls.{After}
 use Rattle.entry.specs.Entry.{entry_of}
 use Rattle.entry.specs.declared.PassName.TheVariants as own
 use Rattle.entry.specs.declared.Entry.{Entry}
-use Rattle.entry.specs.declared.Entry.TheVariants.{No, Opens, Resumes}
+use Rattle.entry.specs.declared.Entry.TheVariants.{Opens, Resumes}
 use Rattle.entry.proofs.Entering.{opens_entered, resumes_entered}
 use Rattle.visits.proofs.Entered.{entered_formed, entered_cursor}
 use Rattle.visits.proofs.StoreKeeps.{FormedTo}
@@ -62,12 +64,12 @@ pub propagate_reached : (steps : ℕ) (t : Tables) (st : State) (k : core.Core) 
 unfolding propagate_call
 propagate_reached steps t st k R = by (entry_of own.Propagate t st) refl
   where
-    by : (e : Entry) → entry_of own.Propagate t st ≡ e → Reached st k (propagate_by e steps t st)
-    by (No r) q = refused st R
-    by Opens q =
+    by : (e : Result Entry Refusal) → entry_of own.Propagate t st ≡ e → Reached st k (propagate_by e steps t st)
+    by (Err r) q = refused st R
+    by (Ok Opens) q =
         let E = opens_entered own.Propagate t st q in
         propagate_from_lem st k false steps (begin st.n t) t (begin_good st.v st.n t (entered_formed E tt)) (begin_tied st.v st.n t k (unmarked st E.unmarked R))
-    by (Resumes i changed) q =
+    by (Ok (Resumes i changed)) q =
         let E = resumes_entered own.Propagate t st i changed q in
         propagate_from_lem st k st.fresh steps (going i changed t) t (entered_formed E tt, (entered_cursor E).0) (unmarked st E.unmarked R)
 
@@ -91,7 +93,7 @@ pub merge_reached : (steps : ℕ) (t : Tables) (st : State) (k : core.Core) → 
 unfolding merge_call
 merge_reached steps t st k R = by (entry_of own.Merge t st) refl
   where
-    by : (e : Entry) → entry_of own.Merge t st ≡ e → Reached st k (merge_by e steps t st)
-    by (No r) q = refused st R
-    by Opens q = settled_cases steps st t (Reached st k) (refused st R) (merge_open_lem st steps t k (opens_formed steps t st q) (unmarked st (opens_entered own.Merge t st q).unmarked R))
-    by (Resumes i changed) q = let P = resumes_resumable t st i changed q in merge_from_lem st st.fresh steps i t k P.formed P.within (unmarked st (resumes_entered own.Merge t st i changed q).unmarked R)
+    by : (e : Result Entry Refusal) → entry_of own.Merge t st ≡ e → Reached st k (merge_by e steps t st)
+    by (Err r) q = refused st R
+    by (Ok Opens) q = settled_cases steps st t (Reached st k) (refused st R) (merge_open_lem st steps t k (opens_formed steps t st q) (unmarked st (opens_entered own.Merge t st q).unmarked R))
+    by (Ok (Resumes i changed)) q = let P = resumes_resumable t st i changed q in merge_from_lem st st.fresh steps i t k P.formed P.within (unmarked st (resumes_entered own.Merge t st i changed q).unmarked R)

@@ -13,12 +13,14 @@ use mathlib.Core.List.{List, [], ◌∷◌, ◌++◌, map, Memᴰ, Sublistᴰ}
 use lib.ListN.{length, get_or, drop, take, length-take, length-append, take-append-drop, get_or-append}
 use lib.Seq.{get_or-take}
 use lib.IntN.{ℤ, pos, nat_abs}
+use Rattle.std.specs.Prelude.{Result}
 use Rattle.base.proofs.Lists.{get_d_mem}
 use Rattle.literal.proofs.Laws.{slot_variable}
 use Rattle.literal.specs.Literals.{Literal, slot_of}
 use Rattle.literal.specs.Clauses.{distinct, tautology}
 use Rattle.literal.specs.Assignments.{Assignment, Satisfies}
 use Rattle.state.specs.declared.State.{State}
+use Rattle.state.specs.declared.Refusal.{Refusal}
 use Rattle.state.specs.declared.Refusal.TheVariants as refusal
 use Rattle.tables.specs.Tables.{Tables, tables}
 use Rattle.tables.specs.Tables as T
@@ -31,7 +33,6 @@ use Rattle.shape.specs.Shape.{Shape, settled_to}
 use Rattle.shape.specs.Decision.{shape_ok}
 use Rattle.entry.specs.declared.PassName.TheVariants as own
 use Rattle.entry.specs.declared.Entry.{Entry}
-use Rattle.entry.specs.declared.Opening.{Opening}
 use Rattle.shape.proofs.Reading.{shaped}
 use Rattle.entry.proofs.Entering.{entry_misshapen, opening_misshapen}
 use Rattle.visits.proofs.Forming.{shape_formed, clause_fits}
@@ -77,11 +78,11 @@ call_held (programme codes) t st H = programme_held codes t st H
 -- a call on tables that break the shape rule, short ones among them, changes nothing
 pub call_refused : (c : Call) (t : Tables) (st : State) → shape_ok t st ≡ false → call_on c t st ≡ refuse refusal.Shape st t
 unfolding propagate_call merge_call stamp_call failed_call sweep_call
-call_refused (propagate steps) t st e = ap (λ (x : Entry). propagate_by x steps t st) (entry_misshapen own.Propagate t st e)
-call_refused (merge steps) t st e = ap (λ (x : Entry). merge_by x steps t st) (entry_misshapen own.Merge t st e)
-call_refused (stamp order) t st e = ap (λ (x : Opening). stamp_by x order t st) (opening_misshapen t st e)
-call_refused failed t st e = ap (λ (x : Opening). failed_by x t st) (opening_misshapen t st e)
-call_refused (sweep steps) t st e = ap (λ (x : Entry). sweep_by x steps t st) (entry_misshapen own.Sweep t st e)
+call_refused (propagate steps) t st e = ap (λ (x : Result Entry Refusal). propagate_by x steps t st) (entry_misshapen own.Propagate t st e)
+call_refused (merge steps) t st e = ap (λ (x : Result Entry Refusal). merge_by x steps t st) (entry_misshapen own.Merge t st e)
+call_refused (stamp order) t st e = ap (λ (x : Result (Unit {0}) Refusal). stamp_by x order t st) (opening_misshapen t st e)
+call_refused failed t st e = ap (λ (x : Result (Unit {0}) Refusal). failed_by x t st) (opening_misshapen t st e)
+call_refused (sweep steps) t st e = ap (λ (x : Result Entry Refusal). sweep_by x steps t st) (entry_misshapen own.Sweep t st e)
 call_refused (programme codes) t st e = sym (set_misshapen codes t st e)
 
 -- ---- what is lent, and given back

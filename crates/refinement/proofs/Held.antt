@@ -5,6 +5,7 @@ use mathlib.Core.Path.{◌≡◌, refl, sym, subst, subst₂}
 use mathlib.Core.Bool.{Bool, true, false}
 use mathlib.Core.List.{List, Memᴰ}
 use lib.Dec.{ltb}
+use Rattle.std.specs.Prelude.{Result, Ok, Err}
 use Rattle.walk.specs.Walk.{Stamps}
 use Rattle.stamp_columns.specs.Columns.{columns}
 use Rattle.hidden.proofs.Agree.{Agree}
@@ -13,6 +14,7 @@ use Rattle.state.specs.declared.State.{State}
 use Rattle.state.specs.declared.Pass.{Pass}
 use Rattle.state.specs.declared.Pass.TheVariants.{Idle, Propagate, Merge, Sweep}
 use Rattle.state.specs.declared.Answer.TheVariants.{Open, Done}
+use Rattle.state.specs.declared.Refusal.{Refusal}
 use Rattle.state.specs.declared.Refusal.TheVariants.{Unsettled}
 use Rattle.tables.specs.Tables.{Tables}
 use Rattle.tables.specs.Clauses.{gone}
@@ -23,7 +25,7 @@ use Rattle.shape.specs.Shape.{Shape}
 use Rattle.entry.specs.Entry.{entry_of}
 use Rattle.entry.specs.declared.PassName.TheVariants as own
 use Rattle.entry.specs.declared.Entry.{Entry}
-use Rattle.entry.specs.declared.Entry.TheVariants.{No, Opens, Resumes}
+use Rattle.entry.specs.declared.Entry.TheVariants.{Opens, Resumes}
 use Rattle.entry.proofs.Entering.{resumes_entered}
 use Rattle.propagate.specs.Propagate.{propagate_from, replied, propagate_by, propagate_call}
 use Rattle.propagate_visits.specs.Visits.{Progress, going, settled, contradicted, begin, propagate_visits}
@@ -123,10 +125,10 @@ pub propagate_held : {f : List Clause} (steps : ℕ) (t : Tables) (st : State) �
 unfolding propagate_call
 propagate_held {f} steps t st H = by (entry_of own.Propagate t st) refl (propagate_shaped steps t st H.shape) (propagate_reached steps t st H.core H.tied)
   where
-    by : (e : Entry) → entry_of own.Propagate t st ≡ e → Shape (propagate_by e steps t st).tables (propagate_by e steps t st).state → Reached st H.core (propagate_by e steps t st) → Held f (propagate_by e steps t st).tables (propagate_by e steps t st).state
-    by (No r) q S R = H
-    by Opens q S R = held_spent H (propagate_from false steps (begin st.n t) t st) (propagate_spends st false refl steps (begin st.n t) t) S R
-    by (Resumes i changed) q S R =
+    by : (e : Result Entry Refusal) → entry_of own.Propagate t st ≡ e → Shape (propagate_by e steps t st).tables (propagate_by e steps t st).state → Reached st H.core (propagate_by e steps t st) → Held f (propagate_by e steps t st).tables (propagate_by e steps t st).state
+    by (Err r) q S R = H
+    by (Ok Opens) q S R = held_spent H (propagate_from false steps (begin st.n t) t st) (propagate_spends st false refl steps (begin st.n t) t) S R
+    by (Ok (Resumes i changed)) q S R =
         held_spent H (propagate_from st.fresh steps (going i changed t) t st)
         (propagate_spends st st.fresh (resumed_stale (Propagate i changed) tt (resumes_entered own.Propagate t st i changed q).pass H.stamps) steps (going i changed t) t) S R
 
@@ -164,9 +166,9 @@ merge_held {f} steps t st H = by (entry_of own.Merge t st) refl (merge_shaped st
     opens true S R = H
     opens false S R = held_spent H (merge_open steps t st) (open_spends st steps t) S R
 
-    by : (e : Entry) → entry_of own.Merge t st ≡ e → Shape (merge_by e steps t st).tables (merge_by e steps t st).state → Reached st H.core (merge_by e steps t st) → Held f (merge_by e steps t st).tables (merge_by e steps t st).state
-    by (No r) q S R = H
-    by Opens q S R = opens (ltb (first_unsettled t st.n) st.n) S R
-    by (Resumes i changed) q S R =
+    by : (e : Result Entry Refusal) → entry_of own.Merge t st ≡ e → Shape (merge_by e steps t st).tables (merge_by e steps t st).state → Reached st H.core (merge_by e steps t st) → Held f (merge_by e steps t st).tables (merge_by e steps t st).state
+    by (Err r) q S R = H
+    by (Ok Opens) q S R = opens (ltb (first_unsettled t st.n) st.n) S R
+    by (Ok (Resumes i changed)) q S R =
         held_spent H (merge_from st.fresh steps i t st)
         (merge_spends st st.fresh (resumed_stale (Merge i) tt (resumes_entered own.Merge t st i changed q).pass H.stamps) steps i t) S R

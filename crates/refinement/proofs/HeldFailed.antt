@@ -5,6 +5,7 @@ use mathlib.Core.Path.{◌≡◌, refl, sym, ap, subst, ◌∙◌}
 use mathlib.Core.Bool.{Bool, true, false, false≢true}
 use mathlib.Core.List.{List}
 use lib.IntN.{ℤ}
+use Rattle.std.specs.Prelude.{Result, Ok, Err}
 use Rattle.literal.specs.Literals.{Literal, slot_of, lit_at, twin}
 use Rattle.literal.proofs.Laws.{slot_lit}
 use Rattle.literal.proofs.Twins.{twin_below}
@@ -16,12 +17,11 @@ use Rattle.state.specs.States.{closed, marked}
 use Rattle.state.specs.declared.State.{State}
 use Rattle.state.specs.declared.Pass.{Pass}
 use Rattle.state.specs.declared.Pass.TheVariants.{Idle}
+use Rattle.state.specs.declared.Refusal.{Refusal}
 use Rattle.tables.specs.Tables.{Tables, with_variables}
 use Rattle.tables.specs.Values as values
 use Rattle.shape.specs.Shape.{Shape}
 use Rattle.entry.specs.Entry.{opening_of}
-use Rattle.entry.specs.declared.Opening.{Opening}
-use Rattle.entry.specs.declared.Opening.TheVariants.{Denied, Granted}
 use Rattle.entry.proofs.Entering.{Entered, granted_entered}
 use Rattle.visits.specs.Formed.{Variables}
 use Rattle.visits.proofs.Entered.{entered_formed}
@@ -177,6 +177,6 @@ failed_held {P} lasting t st H = by (opening_of t st) refl (failed_shape t st H.
     unless E true e Q = fresh_held lasting H E e Q
     unless E false e Q = H
 
-    by : (e : Opening) → opening_of t st ≡ e → Shape (failed_by e t st).tables (failed_by e t st).state → HeldBy P (failed_by e t st).tables (failed_by e t st).state
-    by (Denied r) q Q = H
-    by Granted q Q = unless (granted_entered t st q) st.fresh refl Q
+    by : (e : Result (Unit {0}) Refusal) → opening_of t st ≡ e → Shape (failed_by e t st).tables (failed_by e t st).state → HeldBy P (failed_by e t st).tables (failed_by e t st).state
+    by (Err r) q Q = H
+    by (Ok _) q Q = unless (granted_entered t st q) st.fresh refl Q

@@ -4,12 +4,14 @@ use mathlib.Core.Path.{◌≡◌, refl, sym, ap, subst, ◌∙◌}
 use mathlib.Core.Bool.{Bool, true, false}
 use mathlib.Core.List.{List, map}
 use lib.IntN.{ℤ}
+use Rattle.std.specs.Prelude.{Result, Ok, Err}
 use Rattle.literal.specs.Literals.{slot_of}
 use Rattle.walk.specs.Walk.{Stamps, Lists}
 use Rattle.implications.specs.Clauses.{implications}
 use Rattle.scc.specs.Groups.{cyclic}
 use Rattle.state.specs.declared.State.{State}
 use Rattle.state.specs.declared.Pass.{Pass}
+use Rattle.state.specs.declared.Refusal.{Refusal}
 use Rattle.tables.specs.Tables.{Tables}
 use Rattle.tables.specs.Clauses.{slots_from}
 use Rattle.tables.specs.Calls.{After}
@@ -18,8 +20,6 @@ use Rattle.visits.specs.Formed.{Formed}
 use Rattle.visits.proofs.Forming.{shape_formed}
 use Rattle.stamp.specs.Stamp.{stamps_of, stamped_tables, stamp_fresh, stamp_acyclic, stamp_call}
 use Rattle.stamp.specs.Asking.{ask_of}
-use Rattle.stamp.specs.declared.Ruling.{Ruling}
-use Rattle.stamp.specs.declared.Ruling.TheVariants.{No, Fit}
 use Rattle.stamp.proofs.Asking.{Known, fit_known, known_proper, call_refused, call_fit, acyclic_no, acyclic_yes}
 use Rattle.stamp.proofs.Writing.{full_ordered}
 use Rattle.stamp.proofs.Freshness.{discoveries_size, finishes_size, parents_size, starts_size}
@@ -80,6 +80,6 @@ stamp_held {f} order t st H = by (ask_of order t st) refl
     walked K true e = subst So (sym (acyclic_no order t st e)) H
     walked K false e = subst So (sym (acyclic_yes order t st e)) (stamped_held K H.core H.tied (record { moves = go H.so.moves (stamps_move K H.core H.tied e H.stamped); within = H.so.within }))
 
-    by : (r : Ruling) → ask_of order t st ≡ r → So (stamp_call order t st)
-    by (No r) e = subst So (call_refused order t st r e) H
-    by Fit e = subst So (call_fit order t st e) (walked (fit_known t st order e) (cyclic (implications (slots_from t.clauses t.literals st.n 0)) (2 * st.v)) refl)
+    by : (r : Result (Unit {0}) Refusal) → ask_of order t st ≡ r → So (stamp_call order t st)
+    by (Err r) e = subst So (call_refused order t st r e) H
+    by (Ok _) e = subst So (call_fit order t st e) (walked (fit_known t st order e) (cyclic (implications (slots_from t.clauses t.literals st.n 0)) (2 * st.v)) refl)

@@ -6,6 +6,7 @@ use mathlib.Core.Path.{◌≡◌, refl, sym, subst, ◌∙◌}
 use mathlib.Core.Bool.{Bool, true, false, false≢true}
 use mathlib.Core.List.{List}
 use lib.IntN.{ℤ}
+use Rattle.std.specs.Prelude.{Result, Ok, Err}
 use Rattle.walk.specs.Walk.{Stamps}
 use Rattle.stamp_columns.specs.Columns.{columns}
 use Rattle.hidden.proofs.Intervals.{Nested}
@@ -15,6 +16,7 @@ use Rattle.state.specs.States.{opened, closed}
 use Rattle.state.specs.declared.State.{State}
 use Rattle.state.specs.declared.Pass.{Pass}
 use Rattle.state.specs.declared.Pass.TheVariants.{Idle, Propagate, Merge, Sweep}
+use Rattle.state.specs.declared.Refusal.{Refusal}
 use Rattle.tables.specs.Tables.{Tables}
 use Rattle.tables.specs.Fates.{visits}
 use Rattle.tables.specs.Calls.{After}
@@ -22,7 +24,7 @@ use Rattle.shape.specs.Shape.{Shape}
 use Rattle.entry.specs.Entry.{entry_of}
 use Rattle.entry.specs.declared.PassName.TheVariants as own
 use Rattle.entry.specs.declared.Entry.{Entry}
-use Rattle.entry.specs.declared.Entry.TheVariants.{No, Opens, Resumes}
+use Rattle.entry.specs.declared.Entry.TheVariants.{Opens, Resumes}
 use Rattle.entry.proofs.Entering.{Entered, opens_entered, resumes_entered}
 use Rattle.visits.specs.Formed.{Formed}
 use Rattle.visits.proofs.Entered.{NoMerge, entered_formed, entered_cursor}
@@ -134,7 +136,7 @@ sweep_held {P} lasting steps t st H = by (entry_of own.Sweep t st) refl
     unless E k b le true e = stamped E k b le e
     unless E k b le false e = H
 
-    by : (e : Entry) → entry_of own.Sweep t st ≡ e → HeldBy P (sweep_by e steps t st).tables (sweep_by e steps t st).state
-    by (No r) q = H
-    by Opens q = unless (opens_entered own.Sweep t st q) 0 refl (omega arith) st.fresh refl
-    by (Resumes k changed) q = let E = resumes_entered own.Sweep t st k changed q in unless E k refl (omega (arith, (entered_cursor E).0)) st.fresh refl
+    by : (e : Result Entry Refusal) → entry_of own.Sweep t st ≡ e → HeldBy P (sweep_by e steps t st).tables (sweep_by e steps t st).state
+    by (Err r) q = H
+    by (Ok Opens) q = unless (opens_entered own.Sweep t st q) 0 refl (omega arith) st.fresh refl
+    by (Ok (Resumes k changed)) q = let E = resumes_entered own.Sweep t st k changed q in unless E k refl (omega (arith, (entered_cursor E).0)) st.fresh refl

@@ -6,15 +6,17 @@ use mathlib.Core.Bool.{Bool, false}
 use mathlib.Core.Logic.Iff
 use mathlib.Core.Logic.{◌↔◌}
 use mathlib.Core.List.{List}
+use Rattle.std.specs.Prelude.{Result, Ok, Err}
 use Rattle.literal.specs.Assignments.{Assignment}
 use Rattle.state.specs.declared.State.{State}
+use Rattle.state.specs.declared.Refusal.{Refusal}
 use Rattle.tables.specs.Tables.{Tables}
 use Rattle.tables.specs.Stands.{Stands}
 use Rattle.shape.specs.Shape.{Spread}
 use Rattle.entry.specs.Entry.{entry_of}
 use Rattle.entry.specs.declared.PassName.TheVariants as own
 use Rattle.entry.specs.declared.Entry.{Entry}
-use Rattle.entry.specs.declared.Entry.TheVariants.{No, Opens, Resumes}
+use Rattle.entry.specs.declared.Entry.TheVariants.{Opens, Resumes}
 use Rattle.entry.proofs.Entering.{opens_entered, resumes_entered}
 use Rattle.visits.specs.Formed.{Formed}
 use Rattle.visits.proofs.Entered.{entered_formed, entered_cursor}
@@ -68,13 +70,13 @@ pub propagate_keeps : (steps : ℕ) (t : Tables) (st : State) (τ : Assignment) 
 unfolding propagate_call k
 propagate_keeps steps t st τ = by (entry_of own.Propagate t st) refl
   where
-    by : (e : Entry) → entry_of own.Propagate t st ≡ e → Stands (propagate_by e steps t st).tables (propagate_by e steps t st).state τ ↔ Stands t st τ
-    by (No r) q = Iff.rfl
-    by Opens q =
+    by : (e : Result Entry Refusal) → entry_of own.Propagate t st ≡ e → Stands (propagate_by e steps t st).tables (propagate_by e steps t st).state τ ↔ Stands t st τ
+    by (Err r) q = Iff.rfl
+    by (Ok Opens) q =
         let E = opens_entered own.Propagate t st q in
         let F = entered_formed E tt in
         from_keeps t st F E.shape.values E.unmarked τ false steps (begin st.n t) (begin_good st.v st.n t F) (begin_tied st.v st.n t (core_of st.v st.n false t) (core_represented st.v st.n false t))
-    by (Resumes i changed) q =
+    by (Ok (Resumes i changed)) q =
         let E = resumes_entered own.Propagate t st i changed q in
         let F = entered_formed E tt in
         from_keeps t st F E.shape.values E.unmarked τ st.fresh steps (going i changed t) (F, (entered_cursor E).0) (core_represented st.v st.n false t)

@@ -7,6 +7,7 @@ use mathlib.Core.Logic.{◌↔◌}
 use mathlib.Core.List.{List, [], ◌∷◌, ◌++◌}
 use lib.Dec.{eqb}
 use lib.IntN.{ℤ}
+use Rattle.std.specs.Prelude.{Result, Ok, Err}
 use Rattle.literal.specs.Assignments.{Assignment, Satisfies}
 use Rattle.state.specs.Programmes.{codes_of}
 use Rattle.state.specs.States.{closed, marked}
@@ -17,6 +18,7 @@ use Rattle.state.specs.declared.Answer.TheVariants.{Set}
 use Rattle.programmes.specs.Rules.{Rules}
 use Rattle.programmes.specs.Judging.{fits_by, stamped_by}
 use Rattle.programmes.proofs.Programmes.{Follow, rules_follow}
+use Rattle.state.specs.declared.Refusal.{Refusal}
 use Rattle.tables.specs.Tables.{Tables}
 use Rattle.tables.specs.Stands.{Stands}
 use Rattle.tables.specs.Passes.{first_unsettled}
@@ -24,8 +26,6 @@ use Rattle.tables.specs.Calls.{After}
 use Rattle.entry.specs.Entry.{opening_of}
 use Rattle.entry.specs.declared.PassName.TheVariants as own
 use Rattle.entry.specs.declared.Entry.{Entry}
-use Rattle.entry.specs.declared.Opening.{Opening}
-use Rattle.entry.specs.declared.Opening.TheVariants.{Denied, Granted}
 use Rattle.stamp_columns.specs.Columns.{columns}
 use Rattle.visits.proofs.Advancing.{advance_cases}
 use Rattle.merge.specs.Merge.{merged_classes, merge_open}
@@ -145,7 +145,7 @@ module _ (k : ℕ) (w : Standing) (R : Runs w) where
 
   failed_is : failed_call t st ≡ failed_unless_stale st.fresh t st
   unfolding failed_call
-  failed_is = ap (λ (x : Opening). failed_by x t st) (runs_granted R)
+  failed_is = ap (λ (x : Result (Unit {0}) Refusal). failed_by x t st) (runs_granted R)
 
   failed_done : (stamped : Bool) → st.fresh ≡ true → Done k 3 stamped w
   unfolding follow failed_fresh
@@ -163,7 +163,7 @@ module _ (k : ℕ) (w : Standing) (R : Runs w) where
 
   sweep_is : sweep_call st.n t st ≡ sweep_unless_stale st.fresh st.n 0 t st
   unfolding sweep_call
-  sweep_is = ap (λ (x : Entry). sweep_by x st.n t st) (runs_opens R own.Sweep)
+  sweep_is = ap (λ (x : Result Entry Refusal). sweep_by x st.n t st) (runs_opens R own.Sweep)
 
   sweep_taken : (sweep_unless_stale true st.n 0 t st).reply.number ≡ 0
   sweep_taken = advance_cases Sweep true false (sweep_clause (columns t.times t.links)) st.n 0 t st (λ a. a.reply.number ≡ 0) (λ counts lt. refl) (λ counts done. refl)
@@ -219,9 +219,9 @@ pub run_calls : (count : ℕ) (t : Tables) (st : State) → Made (standing_in t 
 unfolding run_call
 run_calls count t st = by (opening_of t st) refl
   where
-    by : (x : Opening) → opening_of t st ≡ x → Made (standing_in t st) (between (run_by x count t st))
-    by (Denied r) e = made_none (standing_in t st)
-    by Granted e = let R = granted_runs t st e in run_made (codes_of st.programme) (rules_follow (codes_of st.programme) R.shape.programme.rules) count 0 (standing_in t st) R
+    by : (x : Result (Unit {0}) Refusal) → opening_of t st ≡ x → Made (standing_in t st) (between (run_by x count t st))
+    by (Err r) e = made_none (standing_in t st)
+    by (Ok _) e = let R = granted_runs t st e in run_made (codes_of st.programme) (rules_follow (codes_of st.programme) R.shape.programme.rules) count 0 (standing_in t st) R
 
 -- so demand 3 holds of it: an accepted load or join, any list of calls, programmes set among them, and a run
 module _ (b : Started) where
@@ -248,7 +248,7 @@ module _ (b : Started) where
       let idle : loaded.state.pass ≡ Idle = ap (λ (a : After). a.state.pass) (started_laid b).is in
       record { shape = (start_held b).shape; idle = idle; unmarked = clear }
 
-  pub run_taken : loaded.state.mark ≡ false → opening_of loaded.tables loaded.state ≡ Granted
+  pub run_taken : loaded.state.mark ≡ false → opening_of loaded.tables loaded.state ≡ Ok tt
   run_taken clear = runs_granted (loaded_runs clear)
 
   -- a programme that keeps the rules, set behind the load: it is set, no table changes, and a run is made and follows it

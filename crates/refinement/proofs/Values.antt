@@ -7,14 +7,15 @@ use Prim.Native.Nat.{ℕ}
 use native.Mathlib.Omega.{arith}
 use mathlib.Core.Path.{◌≡◌, refl, sym, ap, ◌∙◌}
 use mathlib.Core.Bool.{Bool, true, false}
+use Rattle.std.specs.Prelude.{Result}
 use Rattle.state.specs.declared.State.{State}
+use Rattle.state.specs.declared.Refusal.{Refusal}
 use Rattle.state.specs.declared.Refusal.TheVariants as refusal
 use Rattle.tables.specs.Tables.{Tables}
 use Rattle.tables.specs.Calls.{After, refuse}
 use Rattle.shape.specs.Shape.{Spread, Shape}
 use Rattle.shape.specs.Decision.{shape_ok}
 use Rattle.shape.proofs.Reading.{shaped}
-use Rattle.entry.specs.declared.Opening.{Opening}
 use Rattle.entry.proofs.Entering.{opening_misshapen}
 use Rattle.propagate.proofs.Shaped.{propagate_shaped}
 use Rattle.merge.proofs.Shaped.{merge_shaped}
@@ -59,7 +60,7 @@ call_values c t st h = (call_shaped c t st (accepted_shape t st (call_on c t st)
 
 pub run_values : (count : ℕ) (t : Tables) (st : State) → Accepted (run_call count t st) → Spread (run_call count t st).state.v (run_call count t st).tables.variables
 unfolding run_call
-run_values count t st h = (run_shaped count t st (accepted_shape t st (run_call count t st) (λ e. ap (λ (x : Opening). run_by x count t st) (opening_misshapen t st e)) h)).values
+run_values count t st h = (run_shaped count t st (accepted_shape t st (run_call count t st) (λ e. ap (λ (x : Result (Unit {0}) Refusal). run_by x count t st) (opening_misshapen t st e)) h)).values
 
 pub start_values : (b : Started) → Spread (begun b).state.v (begun b).tables.variables
 start_values b = (start_held b).shape.values

@@ -5,20 +5,20 @@ use mathlib.Core.Bool.{Bool, true, false}
 use mathlib.Core.List.{List, [], ◌∷◌}
 use lib.Dec.{eqb}
 use lib.IntN.{ℤ}
+use Rattle.std.specs.Prelude.{Result, Ok, Err}
 use Rattle.implications.specs.Clauses.{implications}
 use Rattle.scc.specs.Groups.{cyclic}
 use Rattle.stamp_columns.specs.Columns.{columns}
 use Rattle.state.specs.States.{closed, marked}
 use Rattle.state.specs.declared.State.{State}
 use Rattle.state.specs.declared.Pass.TheVariants.{Idle}
+use Rattle.state.specs.declared.Refusal.{Refusal}
 use Rattle.tables.specs.Tables.{Tables}
 use Rattle.tables.specs.Clauses.{slots_from}
 use Rattle.tables.specs.Calls.{After}
 use Rattle.shape.specs.Shape.{Shape}
 use Rattle.stamp.specs.Stamp.{stamp_acyclic, stamp_ordered}
 use Rattle.stamp.specs.Asking.{ask_ordered}
-use Rattle.stamp.specs.declared.Ruling.{Ruling}
-use Rattle.stamp.specs.declared.Ruling.TheVariants.{No, Fit}
 use Rattle.stamp.proofs.Asking.{acyclic_no, acyclic_yes}
 use Rattle.stamp.proofs.Shaped.{stamp_shaped}
 use Rattle.failed.specs.Failed.{found, failed_from, failed_fresh}
@@ -54,9 +54,9 @@ module _ {w : Standing} (R : Runs w) where
       walked true e = subst So (sym (acyclic_no order t st e)) R.idle
       walked false e = subst So (sym (acyclic_yes order t st e)) refl
 
-      by : (r : Ruling) → ask_ordered order t st ≡ r → So (stamp_ordered order t st)
-      by (No r) e = subst So (stamp_refused R order r e) R.idle
-      by Fit e = subst So (stamp_fit R order e) (walked (cyclic (implications (slots_from t.clauses t.literals st.n 0)) (2 * st.v)) refl)
+      by : (r : Result (Unit {0}) Refusal) → ask_ordered order t st ≡ r → So (stamp_ordered order t st)
+      by (Err r) e = subst So (stamp_refused R order r e) R.idle
+      by (Ok _) e = subst So (stamp_fit R order e) (walked (cyclic (implications (slots_from t.clauses t.literals st.n 0)) (2 * st.v)) refl)
 
   pub stamp_rests : (order : List ℤ) → Rests (between (stamp_ordered order t st))
   stamp_rests order = record {

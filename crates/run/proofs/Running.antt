@@ -5,6 +5,7 @@ use mathlib.Core.Bool.{Bool, true, false}
 use mathlib.Core.List.{List}
 use lib.IntN.{ℤ}
 use borrow.Author.Tests.{eq-eqb, ne_eqb}
+use Rattle.std.specs.Prelude.{Result, Ok, Err}
 use Rattle.state.specs.declared.Pass.TheVariants.{Idle}
 use Rattle.state.specs.declared.Refusal.{Refusal}
 use Rattle.tables.specs.Calls.{refuse}
@@ -12,14 +13,11 @@ use Rattle.shape.specs.Decision.{shape_ok, shape_exact}
 use Rattle.entry.specs.Entry.{entry_of, opening_of}
 use Rattle.entry.specs.declared.PassName.{PassName}
 use Rattle.entry.specs.declared.Entry.TheVariants.{Opens}
-use Rattle.entry.specs.declared.Opening.{Opening}
-use Rattle.entry.specs.declared.Opening.TheVariants.{Granted}
 use Rattle.entry.proofs.Entering.{Entered, entry_idle, opening_idle}
 use Rattle.visits.specs.Formed.{Formed}
 use Rattle.visits.proofs.Entered.{entered_formed}
 use Rattle.stamp.specs.Stamp.{stamp_acyclic, stamp_ordered, stamp_by, stamp_call}
 use Rattle.stamp.specs.Asking.{ask_ordered, ask_of}
-use Rattle.stamp.specs.declared.Ruling.TheVariants.{No, Fit}
 use Rattle.stamp.proofs.Asking.{Known, ask_by_lem, fit_known, call_refused, call_fit}
 use Rattle.failed.specs.Failed as failing
 use Rattle.failed.specs.Steps.{Callable}
@@ -43,10 +41,10 @@ module _ {w : Standing} (R : Runs w) where
       go false e = absurd ((shape_exact w.tables w.state).fails e R.shape)
 
   -- any call opens its pass
-  pub runs_opens : (own : PassName) → entry_of own w.tables w.state ≡ Opens
+  pub runs_opens : (own : PassName) → entry_of own w.tables w.state ≡ Ok Opens
   runs_opens = entry_idle w.tables w.state well_shaped R.idle R.unmarked
 
-  pub runs_granted : opening_of w.tables w.state ≡ Granted
+  pub runs_granted : opening_of w.tables w.state ≡ Ok tt
   runs_granted = opening_idle w.tables w.state well_shaped R.idle R.unmarked
 
   pub runs_entered : Entered Idle w.tables w.state
@@ -65,19 +63,19 @@ module _ {w : Standing} (R : Runs w) where
 
   module _ (order : List ℤ) where
     asked : ask_ordered order w.tables w.state ≡ ask_of order w.tables w.state
-    asked = ask_by_lem order w.tables w.state Granted runs_granted
+    asked = ask_by_lem order w.tables w.state (Ok tt) runs_granted
 
     pub called : stamp_call order w.tables w.state ≡ stamp_ordered order w.tables w.state
     unfolding stamp_call
-    called = ap (λ (e : Opening). stamp_by e order w.tables w.state) runs_granted
+    called = ap (λ (e : Result (Unit {0}) Refusal). stamp_by e order w.tables w.state) runs_granted
 
-    pub runs_known : ask_ordered order w.tables w.state ≡ Fit → Known order w.tables w.state
+    pub runs_known : ask_ordered order w.tables w.state ≡ Ok tt → Known order w.tables w.state
     runs_known e = fit_known w.tables w.state order (sym asked ∙ e)
 
-    pub stamp_refused : (r : Refusal) → ask_ordered order w.tables w.state ≡ No r → refuse r w.state w.tables ≡ stamp_ordered order w.tables w.state
+    pub stamp_refused : (r : Refusal) → ask_ordered order w.tables w.state ≡ Err r → refuse r w.state w.tables ≡ stamp_ordered order w.tables w.state
     stamp_refused r e = call_refused order w.tables w.state r (sym asked ∙ e) ∙ called
 
-    pub stamp_fit : ask_ordered order w.tables w.state ≡ Fit → stamp_acyclic order w.tables w.state ≡ stamp_ordered order w.tables w.state
+    pub stamp_fit : ask_ordered order w.tables w.state ≡ Ok tt → stamp_acyclic order w.tables w.state ≡ stamp_ordered order w.tables w.state
     stamp_fit e = call_fit order w.tables w.state (sym asked ∙ e) ∙ called
 
 -- ---- what each code does

@@ -6,8 +6,10 @@ use mathlib.Core.Bool.{Bool, true, false, false≢true}
 use mathlib.Core.Logic.{◌⊎◌, ⊎_elim}
 use lib.Dec.{ltb}
 use borrow.Author.Tests.{le-ltb}
+use Rattle.std.specs.Prelude.{Result}
 use Rattle.state.specs.declared.State.{State}
 use Rattle.state.specs.declared.Pass.TheVariants.{Idle}
+use Rattle.state.specs.declared.Refusal.{Refusal}
 use Rattle.tables.specs.Tables.{Tables}
 use Rattle.tables.specs.Passes.{first_unsettled}
 use Rattle.tables.specs.Calls.{After}
@@ -39,7 +41,7 @@ module _ {w : Standing} (R : Runs w) where
 
   propagate_shape : Shape (propagated w).tables (propagated w).state
   unfolding propagate_call
-  propagate_shape = subst (λ (a : After). Shape a.tables a.state) (ap (λ (e : Entry). propagate_by e (enough t st) t st) (runs_opens R own.Propagate)) (propagate_shaped (enough t st) t st R.shape)
+  propagate_shape = subst (λ (a : After). Shape a.tables a.state) (ap (λ (e : Result Entry Refusal). propagate_by e (enough t st) t st) (runs_opens R own.Propagate)) (propagate_shaped (enough t st) t st R.shape)
 
   pub propagate_rests : Rests (propagated w)
   propagate_rests = record { shape = propagate_shape; idle = ⊎_elim (λ e. ap (λ (s : State). s.pass) e) (λ e. ap (λ (s : State). s.pass) e.0) ended.ending }
@@ -56,7 +58,7 @@ module _ {w : Standing} (R : Runs w) where
   module _ (settled : first_unsettled t st.n ≡ st.n) where
     pub merge_opens : merge_call st.n t st ≡ merge_open st.n t st
     unfolding merge_call merge_settled
-    merge_opens = ap (λ (e : Entry). merge_by e st.n t st) (runs_opens R own.Merge) ∙ (let f : ltb (first_unsettled t st.n) st.n ≡ false = le-ltb (first_unsettled t st.n) st.n (omega (arith, settled)) in rw (f, merge_settled))
+    merge_opens = ap (λ (e : Result Entry Refusal). merge_by e st.n t st) (runs_opens R own.Merge) ∙ (let f : ltb (first_unsettled t st.n) st.n ≡ false = le-ltb (first_unsettled t st.n) st.n (omega (arith, settled)) in rw (f, merge_settled))
 
     pub merge_rests : Rests (merged w)
     merge_rests = record {

@@ -3,13 +3,13 @@ use Prim.Native.Nat.{ℕ, zero, suc}
 use mathlib.Core.Path.{◌≡◌, refl}
 use mathlib.Core.Bool.{Bool, true, false, ◌||◌}
 use mathlib.Core.List.{List}
+use Rattle.std.specs.Prelude.{Result, Ok, Err}
 use Rattle.state.specs.Programmes.{codes_of}
 use Rattle.state.specs.declared.State.{State}
+use Rattle.state.specs.declared.Refusal.{Refusal}
 use Rattle.tables.specs.Tables.{Tables}
 use Rattle.shape.specs.Shape.{Shape}
 use Rattle.entry.specs.Entry.{opening_of}
-use Rattle.entry.specs.declared.Opening.{Opening}
-use Rattle.entry.specs.declared.Opening.TheVariants.{Denied, Granted}
 use Rattle.settle.specs.Settle.{Standing}
 use Rattle.settle.specs.Steps.{standing_in}
 use Rattle.run.specs.Run.{round, unchanged, Rounds, rounds, run_from, run_by, run_call}
@@ -33,6 +33,6 @@ pub run_shaped : (count : ℕ) (t : Tables) (st : State) → Shape t st → Shap
 unfolding run_call
 run_shaped count t st S = by (opening_of t st) refl
   where
-    by : (e : Opening) → opening_of t st ≡ e → Shape (run_by e count t st).tables (run_by e count t st).state
-    by (Denied r) q = S
-    by Granted q = (rounds_rest (codes_of st.programme) count 0 (standing_in t st) (granted_runs t st q)).shape
+    by : (e : Result (Unit {0}) Refusal) → opening_of t st ≡ e → Shape (run_by e count t st).tables (run_by e count t st).state
+    by (Err r) q = S
+    by (Ok _) q = (rounds_rest (codes_of st.programme) count 0 (standing_in t st) (granted_runs t st q)).shape

@@ -8,6 +8,7 @@ use mathlib.Core.List.{List, [], ◌∷◌}
 use lib.ListN.{length}
 use lib.Dec.{ltb, eqb}
 use lib.IntN.{ℤ}
+use Rattle.std.specs.Prelude.{Result, Ok, Err}
 use Rattle.implications.specs.Clauses.{implications}
 use Rattle.scc.specs.Groups.{cyclic}
 use Rattle.stamp_columns.specs.Columns.{columns}
@@ -15,6 +16,7 @@ use Rattle.state.specs.Programmes.{codes_of}
 use Rattle.state.specs.States.{closed, marked}
 use Rattle.state.specs.declared.State.{State}
 use Rattle.state.specs.declared.Pass.TheVariants.{Merge, Sweep}
+use Rattle.state.specs.declared.Refusal.{Refusal}
 use Rattle.tables.specs.Tables.{Tables}
 use Rattle.tables.specs.Clauses.{slots_from}
 use Rattle.tables.specs.Passes.{first_unsettled}
@@ -22,9 +24,7 @@ use Rattle.tables.specs.Calls.{After}
 use Rattle.entry.specs.Entry.{entry_of, opening_of}
 use Rattle.entry.specs.declared.PassName.TheVariants as own
 use Rattle.entry.specs.declared.Entry.{Entry}
-use Rattle.entry.specs.declared.Entry.TheVariants.{No, Opens, Resumes}
-use Rattle.entry.specs.declared.Opening.{Opening}
-use Rattle.entry.specs.declared.Opening.TheVariants.{Denied, Granted}
+use Rattle.entry.specs.declared.Entry.TheVariants.{Opens, Resumes}
 use Rattle.visits.proofs.Advancing.{advance_cases}
 use Rattle.propagate.specs.Propagate.{replied, propagate_from, propagate_by, propagate_call}
 use Rattle.propagate_visits.specs.Visits.{Progress, going, settled, contradicted, begin, propagate_visits}
@@ -82,10 +82,10 @@ pub propagate_way : (steps : ℕ) (t : Tables) (st : State) → Way t st (propag
 unfolding propagate_call
 propagate_way steps t st = by (entry_of own.Propagate t st)
   where
-    by : (e : Entry) → Way t st (propagate_by e steps t st)
-    by (No r) = inr (refl, refl)
-    by Opens = propagate_from_lem false steps (begin st.n t) t st
-    by (Resumes k changed) = propagate_from_lem st.fresh steps (going k changed t) t st
+    by : (e : Result Entry Refusal) → Way t st (propagate_by e steps t st)
+    by (Err r) = inr (refl, refl)
+    by (Ok Opens) = propagate_from_lem false steps (begin st.n t) t st
+    by (Ok (Resumes k changed)) = propagate_from_lem st.fresh steps (going k changed t) t st
 
 -- ---- Merge
 
@@ -99,10 +99,10 @@ pub merge_way : (steps : ℕ) (t : Tables) (st : State) → Way t st (merge_call
 unfolding merge_call merge_settled
 merge_way steps t st = by (entry_of own.Merge t st)
   where
-    by : (e : Entry) → Way t st (merge_by e steps t st)
-    by (No r) = inr (refl, refl)
-    by Opens = by_test t st _ _ (ltb (first_unsettled t st.n) st.n) (inr (refl, refl)) (merge_open_lem steps t st)
-    by (Resumes k changed) = merge_from_lem st.fresh steps k t t st
+    by : (e : Result Entry Refusal) → Way t st (merge_by e steps t st)
+    by (Err r) = inr (refl, refl)
+    by (Ok Opens) = by_test t st _ _ (ltb (first_unsettled t st.n) st.n) (inr (refl, refl)) (merge_open_lem steps t st)
+    by (Ok (Resumes k changed)) = merge_from_lem st.fresh steps k t t st
 
 -- ---- Stamp
 
@@ -119,9 +119,9 @@ pub stamp_way : (order : List ℤ) (t : Tables) (st : State) → Way t st (stamp
 unfolding stamp_call
 stamp_way order t st = by (opening_of t st)
   where
-    by : (o : Opening) → Way t st (stamp_by o order t st)
-    by (Denied r) = inr (refl, refl)
-    by Granted = stamp_ordered_lem order t st
+    by : (o : Result (Unit {0}) Refusal) → Way t st (stamp_by o order t st)
+    by (Err r) = inr (refl, refl)
+    by (Ok _) = stamp_ordered_lem order t st
 
 -- ---- Failed
 
@@ -138,9 +138,9 @@ pub failed_way : (t : Tables) (st : State) → Way t st (failed_call t st)
 unfolding failed_call
 failed_way t st = by (opening_of t st)
   where
-    by : (o : Opening) → Way t st (failed_by o t st)
-    by (Denied r) = inr (refl, refl)
-    by Granted = failed_unless st.fresh t st
+    by : (o : Result (Unit {0}) Refusal) → Way t st (failed_by o t st)
+    by (Err r) = inr (refl, refl)
+    by (Ok _) = failed_unless st.fresh t st
 
 -- ---- Sweep
 
@@ -152,10 +152,10 @@ pub sweep_way : (steps : ℕ) (t : Tables) (st : State) → Way t st (sweep_call
 unfolding sweep_call
 sweep_way steps t st = by (entry_of own.Sweep t st)
   where
-    by : (e : Entry) → Way t st (sweep_by e steps t st)
-    by (No r) = inr (refl, refl)
-    by Opens = sweep_unless st.fresh steps 0 t st
-    by (Resumes k changed) = sweep_unless st.fresh steps k t st
+    by : (e : Result Entry Refusal) → Way t st (sweep_by e steps t st)
+    by (Err r) = inr (refl, refl)
+    by (Ok Opens) = sweep_unless st.fresh steps 0 t st
+    by (Ok (Resumes k changed)) = sweep_unless st.fresh steps k t st
 
 -- ---- Run
 
@@ -234,6 +234,6 @@ pub run_way : (count : ℕ) (t : Tables) (st : State) → Way t st (run_call cou
 unfolding run_call
 run_way count t st = by (opening_of t st)
   where
-    by : (o : Opening) → Way t st (run_by o count t st)
-    by (Denied r) = inr (refl, refl)
-    by Granted = inl (refl, rounds_stay (codes_of st.programme) count 0 (standing_in t st))
+    by : (o : Result (Unit {0}) Refusal) → Way t st (run_by o count t st)
+    by (Err r) = inr (refl, refl)
+    by (Ok _) = inl (refl, rounds_stay (codes_of st.programme) count 0 (standing_in t st))

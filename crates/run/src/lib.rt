@@ -20,8 +20,6 @@ ghost use Rattle.run.specs.Run.{follow, round, unchanged, rounds, run_from, run_
 ghost use Rattle.settle.specs.Steps.{standing_in};
 ghost use Rattle.run.specs.Steps.{Runs, PartsInside, Places, Saves, Saved, Comparable};
 
-use entry::Opening;
-use stamp::Ruling;
 use state::{Answer, FAILED, Outcome, Programme, SETTLE, STAMP, SWEEP, State};
 
 // What a round leaves, and whether the run stops after it.
@@ -117,13 +115,9 @@ fn stamp_ordered(
     ensures { standing_in (returned clauses.now literals.now variables.now times.new links.new) result
         ≡ between (stamp_ordered order.now (lent clauses.now literals.now variables.now times.old links.old) st) }
 {
-    let ruling = stamp::ask_ordered(clauses, literals, variables, st, order);
-    match ruling {
-        Ruling::No(_) => st,
-        Ruling::Fit => {
-            let outcome = stamp::stamp_acyclic(clauses, literals, times, links, st, order);
-            outcome.state
-        }
+    match stamp::ask_ordered(clauses, literals, variables, st, order) {
+        Err(_) => st,
+        Ok(()) => stamp::stamp_acyclic(clauses, literals, times, links, st, order).state,
     }
 }
 
@@ -385,12 +379,11 @@ pub fn run(
 ) -> Outcome
     ensures { after result (returned clauses.new literals.new variables.new times.new links.new) ≡ run_call n (lent clauses.old literals.old variables.old times.old links.old) st }
 {
-    let opening = entry::may_open(clauses, literals, variables, times, links, st);
-    match opening {
-        Opening::Denied(r) => Outcome {
-            answer: Answer::Refused(r),
+    match entry::may_open(clauses, literals, variables, times, links, st) {
+        Err(refusal) => Outcome {
+            answer: Answer::Refused(refusal),
             state: st,
         },
-        Opening::Granted => run_entered(n as u32, clauses, literals, variables, times, links, st),
+        Ok(()) => run_entered(n as u32, clauses, literals, variables, times, links, st),
     }
 }

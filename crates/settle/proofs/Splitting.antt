@@ -4,6 +4,7 @@ use native.Mathlib.Omega.{arith}
 use mathlib.Core.Path.{◌≡◌, refl, sym, ap, subst, ◌∙◌}
 use mathlib.Core.Bool.{Bool, false}
 use mathlib.Core.List.{List, []}
+use Rattle.std.specs.Prelude.{Ok}
 use Rattle.base.specs.Decide.{says_yes}
 use Rattle.state.specs.States.{opened}
 use Rattle.state.specs.declared.State.{State}
@@ -82,7 +83,7 @@ module _ (t : Tables) (st : State) (S : Shape t st) (idle : st.pass ≡ Idle) (u
   opens = subst (Calls (record { tables = t; state = st })) (ap between (sym (call_opens 0 t st entry)) ∙ from_stop 0 (begin st.n t) t st)
       (more none 0 (omega arith) (sym (ap (λ (a : After). a.reply.number) (call_opens 0 t st entry)) ∙ from_taken false 0 (begin st.n t) t st))
     where
-      entry : entry_of own.Propagate t st ≡ Opens
+      entry : entry_of own.Propagate t st ≡ Ok Opens
       entry = entry_idle t st (sym (shape_agrees t st (says_yes S))) idle unmarked own.Propagate
 
   -- a call of b steps more: that it goes on from values that are spread makes no difference
@@ -99,7 +100,7 @@ module _ (t : Tables) (st : State) (S : Shape t st) (idle : st.pass ≡ Idle) (u
       x : Tables
       x = spread_tables st.v u
 
-      entry : entry_of own.Propagate x (opened (Propagate k changed) false st) ≡ Resumes k changed
+      entry : entry_of own.Propagate x (opened (Propagate k changed) false st) ≡ Ok (Resumes k changed)
       entry = entry_shaped own.Propagate x (opened (Propagate k changed) false st) (sym (shape_agrees x (opened (Propagate k changed) false st) (says_yes (calls_shaped C S))))
   resumes b h (settled u) G C = subst (λ (r : Reached). Calls (record { tables = t; state = st }) (stop st r.progress)) (sym (settled_stays st.n b 0 u)) C
   resumes b h (contradicted u) G C = subst (λ (r : Reached). Calls (record { tables = t; state = st }) (stop st r.progress)) (sym (contradicted_stays st.n b 0 u)) C

@@ -5,12 +5,14 @@ use mathlib.Core.Path.{◌≡◌, refl, sym, subst}
 use mathlib.Core.Bool.{Bool, true, false}
 use mathlib.Core.List.{List, map}
 use lib.IntN.{ℤ}
+use Rattle.std.specs.Prelude.{Result, Ok, Err}
 use Rattle.literal.specs.Literals.{slot_of}
 use Rattle.implications.specs.Clauses.{implications}
 use Rattle.scc.specs.Groups.{cyclic}
 use Rattle.state.specs.States.{closed}
 use Rattle.state.specs.declared.State.{State}
 use Rattle.state.specs.declared.Pass.{Pass}
+use Rattle.state.specs.declared.Refusal.{Refusal}
 use Rattle.tables.specs.Tables.{Tables}
 use Rattle.tables.specs.Clauses.{slots_from}
 use Rattle.tables.specs.Calls.{After}
@@ -20,8 +22,6 @@ use Rattle.visits.specs.Formed.{Formed}
 use Rattle.visits.proofs.Forming.{shape_formed, formed_shape}
 use Rattle.stamp.specs.Stamp.{stamps_of, stamped_tables, stamp_acyclic, stamp_call}
 use Rattle.stamp.specs.Asking.{ask_of}
-use Rattle.stamp.specs.declared.Ruling.{Ruling}
-use Rattle.stamp.specs.declared.Ruling.TheVariants.{No, Fit}
 use Rattle.stamp.proofs.Asking.{Known, fit_known, known_proper, known_records, call_refused, call_fit, acyclic_no, acyclic_yes}
 use Rattle.stamp.proofs.Freshness.{records_fresh, times_long, links_long}
 
@@ -57,6 +57,6 @@ stamp_shaped order t st S = by (ask_of order t st) refl
         go true e = subst (λ (a : After). Shape a.tables a.state) (sym (acyclic_no order t st e)) S
         go false e = subst (λ (a : After). Shape a.tables a.state) (sym (acyclic_yes order t st e)) (fresh_shaped K)
 
-    by : (r : Ruling) → ask_of order t st ≡ r → Shape (stamp_call order t st).tables (stamp_call order t st).state
-    by (No r) e = subst (λ (a : After). Shape a.tables a.state) (call_refused order t st r e) S
-    by Fit e = subst (λ (a : After). Shape a.tables a.state) (call_fit order t st e) (acyclic (fit_known t st order e))
+    by : (r : Result (Unit {0}) Refusal) → ask_of order t st ≡ r → Shape (stamp_call order t st).tables (stamp_call order t st).state
+    by (Err r) e = subst (λ (a : After). Shape a.tables a.state) (call_refused order t st r e) S
+    by (Ok _) e = subst (λ (a : After). Shape a.tables a.state) (call_fit order t st e) (acyclic (fit_known t st order e))

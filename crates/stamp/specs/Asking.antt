@@ -1,38 +1,35 @@
 -- How the call decides: refusals 1, 4, 5, 8 and 6 before anything is walked. And what the core asks and writes. Assumes nothing: these are definitions.
-use Rattle.std.specs.Prelude.{ℕ, ◌+◌, ◌*◌, ◌≤◌, ◌<◌, ◌≡◌, Bool, true, false, length, get_or, replicate, ltb, eqb, ℤ, pos}
+use Rattle.std.specs.Prelude.{ℕ, ◌+◌, ◌*◌, ◌≤◌, ◌<◌, ◌≡◌, Bool, true, false, length, get_or, replicate, ltb, eqb, ℤ, pos, Result, Ok, Err}
 use mathlib.Core.List.{List, map, Memᴰ}
 use Rattle.literal.specs.Literals.{Literal, slot_of}
 use Rattle.walk.specs.Walk.{Stamps}
 use Rattle.state.specs.States.{closed}
 use Rattle.state.specs.declared.State.{State}
+use Rattle.state.specs.declared.Refusal.{Refusal}
 use Rattle.state.specs.declared.Refusal.TheVariants.{Unsettled, Cyclic, Order}
 use Rattle.state.specs.declared.Answer.TheVariants.{Refused, Stamped}
 use Rattle.state.specs.declared.Outcome.{Outcome}
 use Rattle.tables.specs.Tables.{Tables}
 use Rattle.tables.specs.Passes.{first_unsettled}
 use Rattle.entry.specs.Entry.{opening_of}
-use Rattle.entry.specs.declared.Opening.{Opening}
-use Rattle.entry.specs.declared.Opening.TheVariants.{Denied, Granted}
 use Rattle.stamp.specs.Stamp.{first_bad, stamped_tables}
-use Rattle.stamp.specs.declared.Ruling.{Ruling}
-use Rattle.stamp.specs.declared.Ruling.TheVariants.{No, Fit}
 
-unfoldable pub ask_settled : Tables → State → Ruling
-ask_settled t st = elim (ltb (first_unsettled t st.n) st.n) [ true ↦ No (Unsettled (first_unsettled t st.n + 1)) | false ↦ Fit ]
+unfoldable pub ask_settled : Tables → State → Result (Unit {0}) Refusal
+ask_settled t st = elim (ltb (first_unsettled t st.n) st.n) [ true ↦ Err (Unsettled (first_unsettled t st.n + 1)) | false ↦ Ok tt ]
 
-unfoldable pub ask_ordered : List ℤ → Tables → State → Ruling
+unfoldable pub ask_ordered : List ℤ → Tables → State → Result (Unit {0}) Refusal
 ask_ordered order t st =
     elim (eqb (length order) (2 * st.v)) [
-      | true ↦ elim (ltb (first_bad st.v order) (2 * st.v)) [ true ↦ No (Order (first_bad st.v order)) | false ↦ ask_settled t st ]
-      | false ↦ No (Order 0)
+      | true ↦ elim (ltb (first_bad st.v order) (2 * st.v)) [ true ↦ Err (Order (first_bad st.v order)) | false ↦ ask_settled t st ]
+      | false ↦ Err (Order 0)
     ]
 
-abbrev pub ask_by : Opening → List ℤ → Tables → State → Ruling
-ask_by (Denied r) order t st = No r
-ask_by Granted order t st = ask_ordered order t st
+abbrev pub ask_by : Result (Unit {0}) Refusal → List ℤ → Tables → State → Result (Unit {0}) Refusal
+ask_by (Err r) order t st = Err r
+ask_by (Ok _) order t st = ask_ordered order t st
 
 -- the topmost refusal but for a cycle, or none
-unfoldable pub ask_of : List ℤ → Tables → State → Ruling
+unfoldable pub ask_of : List ℤ → Tables → State → Result (Unit {0}) Refusal
 ask_of order t st = ask_by (opening_of t st) order t st
 
 -- all 2v literals of v variables, each once

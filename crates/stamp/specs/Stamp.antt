@@ -1,6 +1,6 @@
 -- Document 01: "Stamp (000, figure 1) is whole in one call and takes a list of all 2V literals. It starts at each root in list order, then at each literal not yet entered, in list order. .. The result is one record per literal: discovery, finish, parent, start.
 -- A starting literal is its own parent. Records past 2V stay." Refusals 8 ("length not 2V (index 0), or first entry 0, out of range or repeated"), 6, 7 ("two different literals reach each other"). Assumes nothing: these are definitions.
-use Rattle.std.specs.Prelude.{ℕ, ◌+◌, ◌*◌, Bool, true, false, not, ◌||◌, List, ◌++◌, map, length, get_or, take, drop, replicate, ltb, eqb, ℤ, pos}
+use Rattle.std.specs.Prelude.{ℕ, ◌+◌, ◌*◌, Bool, true, false, not, ◌||◌, List, ◌++◌, map, length, get_or, take, drop, replicate, ltb, eqb, ℤ, pos, Result, Ok, Err}
 use Rattle.base.specs.Lists.{absent, first, interleave}
 use Rattle.literal.specs.Literals.{in_range, slot_of, lit_at}
 use Rattle.literal.specs.Clauses.{has}
@@ -9,6 +9,7 @@ use Rattle.implications.specs.Clauses.{implications, tos}
 use Rattle.scc.specs.Groups.{blank, cyclic}
 use Rattle.state.specs.States.{closed}
 use Rattle.state.specs.declared.State.{State}
+use Rattle.state.specs.declared.Refusal.{Refusal}
 use Rattle.state.specs.declared.Refusal.TheVariants.{Unsettled, Cyclic, Order}
 use Rattle.state.specs.declared.Answer.TheVariants.{Stamped}
 use Rattle.tables.specs.Tables.{Tables, tables}
@@ -16,8 +17,6 @@ use Rattle.tables.specs.Clauses.{slots_from}
 use Rattle.tables.specs.Passes.{first_unsettled}
 use Rattle.tables.specs.Calls.{After, answered, refuse}
 use Rattle.entry.specs.Entry.{opening_of}
-use Rattle.entry.specs.declared.Opening.{Opening}
-use Rattle.entry.specs.declared.Opening.TheVariants.{Denied, Granted}
 
 -- ---- the list
 
@@ -60,9 +59,9 @@ stamp_ordered order t st =
       | false ↦ refuse (Order 0) st t
     ]
 
-abbrev pub stamp_by : Opening → List ℤ → Tables → State → After
-stamp_by (Denied r) order t st = refuse r st t
-stamp_by Granted order t st = stamp_ordered order t st
+abbrev pub stamp_by : Result (Unit {0}) Refusal → List ℤ → Tables → State → After
+stamp_by (Err r) order t st = refuse r st t
+stamp_by (Ok _) order t st = stamp_ordered order t st
 
 unfoldable pub stamp_call : List ℤ → Tables → State → After
 stamp_call order t st = stamp_by (opening_of t st) order t st

@@ -1,7 +1,7 @@
 // Stamp: whole in one call, over an order of all literals.
 #![tactic(auto)]
 
-ghost use Rattle.std.specs.Prelude.{◌≡◌, false, List, map, ℕ, ◌*◌, ◌≤◌, ℤ};
+ghost use Rattle.std.specs.Prelude.{◌≡◌, false, List, map, length, ℕ, ◌*◌, ◌≤◌, ◌<◌, ℤ, MatchOption};
 ghost use Rattle.literal.specs.Literals.{slot_of};
 ghost use Rattle.implications.specs.Clauses.{implications};
 ghost use Rattle.scc.specs.Groups.{cyclic};
@@ -13,36 +13,25 @@ ghost use Rattle.stamp_walk.specs.Stamping.{Proper};
 ghost use Rattle.stamp.specs.Stamp.{first_bad, stamps_of, stamp_acyclic, stamp_call};
 ghost use Rattle.stamp.specs.Asking.{ask_ordered, ask_of, Full, Records, Blank, written_tables, answer_of};
 
-use entry::Opening;
 use state::{Answer, Outcome, Refusal, State};
 
-// Whether the call is refused before the graph is walked, or is fit.
-#[derive(Clone, Copy)]
-pub enum Ruling {
-    No(Refusal),
-    Fit,
-}
-
-// Refusal 8: the first entry of an order that is no literal of the variables 1 to v, or stands before; the order's length if there is none.
-fn check_order(order: &[i32], v: u32) -> usize
+// Refusal 8: the first entry of an order that is no literal of the variables 1 to v, or stands before.
+fn check_order(order: &[i32], v: u32) -> Option<usize>
     requires { v ≤ 1024 }
-    ensures { result ≡ first_bad v order.now }
+    ensures { MatchOption result (first_bad v order.now ≡ length order.now) (λ i. (i ≡ first_bad v order.now) × (i < length order.now)) }
 {
     let mut seen = [false; 2048];
-    let mut i = 0;
-    while i < order.len() {
-        let l = order[i];
+    for (i, &l) in order.iter().enumerate() {
         if !literal::in_range(l, v) {
-            return i;
+            return Some(i);
         }
         let s = literal::slot_of(l);
         if seen[s] {
-            return i;
+            return Some(i);
         }
         seen[s] = true;
-        i += 1;
     }
-    i
+    None
 }
 
 // Refusals 8 and 6, in this order: all that Run asks of a Stamp but for a cycle. The tables keep the shape rule: `entry::may_open` has checked it, and for a run the passes before keep it.
@@ -52,26 +41,23 @@ pub fn ask_ordered(
     variables: &[i32],
     st: State,
     order: &[i32],
-) -> Ruling
+) -> Result<(), Refusal>
     requires { Formed st.v st.n st.n false clauses.now literals.now variables.now }
     ensures { (times : List ℕ) (links : List ℤ) →
         result ≡ ask_ordered order.now (lent clauses.now literals.now variables.now times links) st }
 {
-    let v = st.v;
-    let slots = 2 * v as usize;
-    if order.len() != slots {
-        return Ruling::No(Refusal::Order(0));
+    if order.len() != 2 * st.v as usize {
+        return Err(Refusal::Order(0));
     }
-    let wrong = check_order(order, v);
-    if wrong < slots {
-        return Ruling::No(Refusal::Order(wrong));
+    if let Some(wrong) = check_order(order, st.v) {
+        return Err(Refusal::Order(wrong));
     }
     let n = st.n as usize;
     let unsettled = visits::first_unsettled(clauses, literals, variables, n);
     if unsettled < n {
-        return Ruling::No(Refusal::Unsettled(unsettled as u32 + 1));
+        return Err(Refusal::Unsettled(unsettled as u32 + 1));
     }
-    Ruling::Fit
+    Ok(())
 }
 
 // The topmost refusal but for a cycle, if one applies.
@@ -83,14 +69,11 @@ fn ask(
     links: &[i32],
     st: State,
     order: &[i32],
-) -> Ruling
+) -> Result<(), Refusal>
     ensures { result ≡ ask_of order.now (lent clauses.now literals.now variables.now times.now links.now) st }
 {
-    let opening = entry::may_open(clauses, literals, variables, times, links, st);
-    match opening {
-        Opening::Denied(r) => Ruling::No(r),
-        Opening::Granted => ask_ordered(clauses, literals, variables, st, order),
-    }
+    entry::may_open(clauses, literals, variables, times, links, st)?;
+    ask_ordered(clauses, literals, variables, st, order)
 }
 
 // Walks the graph in scratch columns and, unless it is cyclic, writes the records; whether it is cyclic.
@@ -202,12 +185,11 @@ pub fn stamp(
     ensures { after result (returned clauses.now literals.now variables.now times.new links.new)
         ≡ stamp_call order.now (lent clauses.now literals.now variables.now times.old links.old) st }
 {
-    let ruling = ask(clauses, literals, variables, times, links, st, order);
-    match ruling {
-        Ruling::No(r) => Outcome {
-            answer: Answer::Refused(r),
+    match ask(clauses, literals, variables, times, links, st, order) {
+        Err(refusal) => Outcome {
+            answer: Answer::Refused(refusal),
             state: st,
         },
-        Ruling::Fit => stamp_acyclic(clauses, literals, times, links, st, order),
+        Ok(()) => stamp_acyclic(clauses, literals, times, links, st, order),
     }
 }

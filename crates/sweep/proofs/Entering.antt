@@ -3,6 +3,7 @@ use Prim.Native.Nat.{ℕ}
 use native.Mathlib.Omega.{arith}
 use mathlib.Core.Path.{◌≡◌, sym, ap, ◌∙◌}
 use mathlib.Core.Bool.{Bool, true, false}
+use Rattle.std.specs.Prelude.{Result, Ok, Err}
 use Rattle.state.specs.declared.State.{State}
 use Rattle.state.specs.declared.Pass.{Pass}
 use Rattle.state.specs.declared.Refusal.{Refusal}
@@ -13,7 +14,7 @@ use Rattle.shape.specs.Shape as rule
 use Rattle.entry.specs.Entry.{entry_of}
 use Rattle.entry.specs.declared.PassName.TheVariants as own
 use Rattle.entry.specs.declared.Entry.{Entry}
-use Rattle.entry.specs.declared.Entry.TheVariants.{No, Opens, Resumes}
+use Rattle.entry.specs.declared.Entry.TheVariants.{Opens, Resumes}
 use Rattle.entry.proofs.Entering.{Entered}
 use Rattle.visits.proofs.Entered.{NoMerge, entered_formed}
 use Rattle.sweep.specs.Sweep.{sweep_from, sweep_unless_stale, sweep_by, sweep_call}
@@ -40,16 +41,16 @@ module _ (n : ℕ) (t : Tables) (st : State) where
   pub fresh_is : (k : ℕ) → st.fresh ≡ true → sweep_from n k t st ≡ sweep_unless_stale st.fresh n k t st
   fresh_is k e = ap (λ (b : Bool). sweep_unless_stale b n k t st) (sym e)
 
-  call_by : (e : Entry) → e ≡ entry_of own.Sweep t st → sweep_by e n t st ≡ sweep_call n t st
+  call_by : (e : Result Entry Refusal) → e ≡ entry_of own.Sweep t st → sweep_by e n t st ≡ sweep_call n t st
   unfolding sweep_call
-  call_by e h = ap (λ (x : Entry). sweep_by x n t st) h
+  call_by e h = ap (λ (x : Result Entry Refusal). sweep_by x n t st) h
 
-  module _ (e : Entry) (h : e ≡ entry_of own.Sweep t st) where
-    pub call_refused : (r : Refusal) → e ≡ No r → refuse r st t ≡ sweep_call n t st
-    call_refused r told = call_by (No r) (sym told ∙ h)
+  module _ (e : Result Entry Refusal) (h : e ≡ entry_of own.Sweep t st) where
+    pub call_refused : (r : Refusal) → e ≡ Err r → refuse r st t ≡ sweep_call n t st
+    call_refused r told = call_by (Err r) (sym told ∙ h)
 
-    pub call_opens : e ≡ Opens → sweep_unless_stale st.fresh n 0 t st ≡ sweep_call n t st
-    call_opens told = call_by Opens (sym told ∙ h)
+    pub call_opens : e ≡ Ok Opens → sweep_unless_stale st.fresh n 0 t st ≡ sweep_call n t st
+    call_opens told = call_by (Ok Opens) (sym told ∙ h)
 
-    pub call_resumes : (k : ℕ) (changed : Bool) → e ≡ Resumes k changed → sweep_unless_stale st.fresh n k t st ≡ sweep_call n t st
-    call_resumes k changed told = call_by (Resumes k changed) (sym told ∙ h)
+    pub call_resumes : (k : ℕ) (changed : Bool) → e ≡ Ok (Resumes k changed) → sweep_unless_stale st.fresh n k t st ≡ sweep_call n t st
+    call_resumes k changed told = call_by (Ok (Resumes k changed)) (sym told ∙ h)

@@ -4,12 +4,14 @@ use native.Mathlib.Nat.{min-le_right}
 use native.Mathlib.Omega.{arith}
 use mathlib.Core.Path.{◌≡◌, refl, sym, subst}
 use mathlib.Core.Bool.{Bool, true, false, false≢true}
+use Rattle.std.specs.Prelude.{Result, Ok, Err}
 use Rattle.walk.specs.Walk.{Stamps}
 use Rattle.stamp_columns.specs.Columns.{columns}
 use Rattle.hidden.proofs.FreshColumns.{fresh_nested}
 use Rattle.state.specs.States.{opened, closed}
 use Rattle.state.specs.declared.State.{State}
 use Rattle.state.specs.declared.Pass.TheVariants.{Sweep}
+use Rattle.state.specs.declared.Refusal.{Refusal}
 use Rattle.tables.specs.Tables.{Tables}
 use Rattle.tables.specs.Fates.{visits}
 use Rattle.tables.specs.Calls.{After}
@@ -17,7 +19,7 @@ use Rattle.shape.specs.Shape.{Spread, Shape}
 use Rattle.entry.specs.Entry.{entry_of}
 use Rattle.entry.specs.declared.PassName.TheVariants as own
 use Rattle.entry.specs.declared.Entry.{Entry}
-use Rattle.entry.specs.declared.Entry.TheVariants.{No, Opens, Resumes}
+use Rattle.entry.specs.declared.Entry.TheVariants.{Opens, Resumes}
 use Rattle.entry.proofs.Entering.{opens_entered, resumes_entered}
 use Rattle.visits.proofs.Visiting.{Beside, visits_beside}
 use Rattle.visits.proofs.StoreKeeps.{FormedIn, formed_shape_as}
@@ -69,7 +71,7 @@ sweep_shaped steps t st S = by (entry_of own.Sweep t st) refl
     unless k F le true e = from_shaped steps k t st S F e le
     unless k F le false e = S
 
-    by : (e : Entry) → entry_of own.Sweep t st ≡ e → Shaped (sweep_by e steps t st)
-    by (No r) q = S
-    by Opens q = unless 0 (entered_formed (opens_entered own.Sweep t st q) tt) (omega arith) st.fresh refl
-    by (Resumes k changed) q = let E = resumes_entered own.Sweep t st k changed q in unless k (entered_formed E tt) (omega (arith, (entered_cursor E).0)) st.fresh refl
+    by : (e : Result Entry Refusal) → entry_of own.Sweep t st ≡ e → Shaped (sweep_by e steps t st)
+    by (Err r) q = S
+    by (Ok Opens) q = unless 0 (entered_formed (opens_entered own.Sweep t st q) tt) (omega arith) st.fresh refl
+    by (Ok (Resumes k changed)) q = let E = resumes_entered own.Sweep t st k changed q in unless k (entered_formed E tt) (omega (arith, (entered_cursor E).0)) st.fresh refl

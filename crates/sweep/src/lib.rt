@@ -82,13 +82,12 @@ pub fn sweep(
         ≡ sweep_call n (lent clauses.old literals.old variables.now times.now links.now) st }
 {
     let own = PassName::Sweep;
-    let e = entry::entry_of(clauses, literals, variables, times, links, st, own);
-    match e {
-        Entry::No(r) => Outcome {
-            answer: Answer::Refused(r),
+    match entry::entry_of(clauses, literals, variables, times, links, st, own) {
+        Err(refusal) => Outcome {
+            answer: Answer::Refused(refusal),
             state: st,
         },
-        Entry::Opens => sweep_entered(clauses, literals, times, links, st, 0, n as u32),
-        Entry::Resumes(k, _) => sweep_entered(clauses, literals, times, links, st, k, n as u32),
+        Ok(Entry::Opens) => sweep_entered(clauses, literals, times, links, st, 0, n as u32),
+        Ok(Entry::Resumes(k, _)) => sweep_entered(clauses, literals, times, links, st, k, n as u32),
     }
 }
