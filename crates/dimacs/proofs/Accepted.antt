@@ -17,15 +17,14 @@ use Rattle.literal.proofs.Signed.{ne_eq_z}
 use Rattle.state.specs.declared.Refusal.TheVariants.{Grammar, Limit}
 use Rattle.dimacs.specs.Words.{Word, words_at}
 use Rattle.dimacs.specs.Tokens.{Meaning, bad, nought, literal, meaning}
-use Rattle.dimacs.specs.Header.{header}
+use Rattle.dimacs.specs.Header.{header, fitting}
 use Rattle.dimacs.specs.Text.{budget, judge, judge_end, judge_body, judge_text, literal_of, clauses_of, text_clauses}
 use Rattle.dimacs.specs.Numbers.{word_numbers, first_clause, clauses_in}
-use Rattle.dimacs.specs.declared.Header.{Header}
-use Rattle.dimacs.specs.declared.Header.TheVariants.{NoHeader, Fields}
-use Rattle.dimacs.specs.declared.Verdict.{Verdict}
-use Rattle.dimacs.specs.declared.Verdict.TheVariants.{Fits}
-use Rattle.dimacs.proofs.Judge.{header_v, header_n, judge_is, not_fits}
+use Rattle.dimacs.proofs.Judge.{fitting_is, header_small, judge_is, not_fits}
 use Rattle.dimacs.proofs.Literals.{literal_pos, abs_literal}
+use Rattle.std.specs.Prelude.{Result, Ok, Err}
+use Rattle.dimacs.specs.declared.Header.{Header}
+use Rattle.state.specs.declared.Refusal.{Refusal}
 
 -- ---- the clauses of words that are accepted
 
@@ -64,22 +63,22 @@ pub record Spelled (v k room : ℕ) (begun : List ℤ) (ws : List Word) : Type 0
   pub within : Within v k room (clauses_of begun ws)
   pub kept : (rest : List ℤ) → clauses_in k (begun ++ (word_numbers ws ++ rest)) ≡ clauses_of begun ws
 
-pub accepted : (v n body end : ℕ) (ws : List Word) (k r : ℕ) (u : Bool) (begun : List ℤ) → judge v (budget k r u) ws end (Fits v n body) ≡ Fits v n body → InClause v begun
+pub accepted : (v n body end : ℕ) (ws : List Word) (k r : ℕ) (u : Bool) (begun : List ℤ) → judge v (budget k r u) ws end (fitting v n body) ≡ fitting v n body → InClause v begun
     → Spelled v k (length begun + r) begun ws
 unfolding judge clauses_of InClauses InClause total word_numbers clauses_in
 accepted v n body end [] k r u begun acc B = go u refl k refl acc
   where
-    go : (t : Bool) → u ≡ t → (m : ℕ) → k ≡ m → judge_end (budget k r u) end (Fits v n body) ≡ Fits v n body → Spelled v k (length begun + r) begun []
-    go true t m e acc = absurd (not_fits (judge_end (budget k r u) end (Fits v n body)) (Grammar end) v n body (rw (t, judge_end)) acc)
+    go : (t : Bool) → u ≡ t → (m : ℕ) → k ≡ m → judge_end (budget k r u) end (fitting v n body) ≡ fitting v n body → Spelled v k (length begun + r) begun []
+    go true t m e acc = absurd (not_fits (judge_end (budget k r u) end (fitting v n body)) (Grammar end) v n body (rw (t, judge_end)) acc)
     go false t zero e acc = record { within = record { count = sym e; size = omega arith; each = tt }; kept = λ rest. rw e }
-    go false t (suc m) e acc = absurd (not_fits (judge_end (budget k r u) end (Fits v n body)) (Limit end) v n body (rw (t, judge_end, e)) acc)
+    go false t (suc m) e acc = absurd (not_fits (judge_end (budget k r u) end (fitting v n body)) (Limit end) v n body (rw (t, judge_end, e)) acc)
 accepted v n body end (w ∷ ws) k r u begun acc B =
     go (meaning w.bytes) refl (accepted v n body end ws (k - 1) r false []) (λ x. accepted v n body end ws k (r - 1) true (begun ++ (x ∷ [])))
   where
-    ok : Verdict
-    ok = Fits v n body
+    ok : Result Header Refusal
+    ok = fitting v n body
 
-    all : Verdict
+    all : Result Header Refusal
     all = judge v (budget k r u) (w ∷ ws) end ok
 
     go : (m : Meaning) → meaning w.bytes ≡ m
@@ -117,30 +116,28 @@ accepted v n body end (w ∷ ws) k r u begun acc B =
         literal_word false t = absurd (not_fits all (Limit w.at) v n body (rw (m, judge, t)) acc)
 
 -- ---- a text that fits: its header's numbers, and the judgement of its words
-pub fits_ready : (text : List ℕ) (v n body : ℕ) → judge_text text ≡ Fits v n body
-    → (v ≤ 1024) × ((n ≤ 4096) × (judge v (budget n 16384 false) (words_at (drop body text) body) (length text) (Fits v n body) ≡ Fits v n body))
+pub fits_ready : (text : List ℕ) (v n body : ℕ) → judge_text text ≡ fitting v n body
+    → (v ≤ 1024) × ((n ≤ 4096) × (judge v (budget n 16384 false) (words_at (drop body text) body) (length text) (fitting v n body) ≡ fitting v n body))
 unfolding judge_text
 fits_ready text v n body e = go (header text) refl e
   where
-    go : (h : Header) → header text ≡ h → judge_body text h ≡ Fits v n body
-        → (v ≤ 1024) × ((n ≤ 4096) × (judge v (budget n 16384 false) (words_at (drop body text) body) (length text) (Fits v n body) ≡ Fits v n body))
-    go (NoHeader r) h e = absurd (let z : ◌≡◌ {A = ℕ} 0 1 = cc in omega arith)
-    go (Fields w m at) h e = ⊎_elim
+    go : (h : Result Header Refusal) → header text ≡ h → judge_body text h ≡ fitting v n body
+        → (v ≤ 1024) × ((n ≤ 4096) × (judge v (budget n 16384 false) (words_at (drop body text) body) (length text) (fitting v n body) ≡ fitting v n body))
+    go (Err r) h e = absurd (let z : ◌≡◌ {A = ℕ} 0 1 = cc in omega arith)
+    go (Ok k) h e = ⊎_elim
         (λ ok.
-        let q : Fits w m at ≡ Fits v n body = sym ok ∙ e in
-        let ew : w ≡ v = cc in
-        let em : m ≡ n = cc in
-        let ea : at ≡ body = cc in (
-          subst (λ (i : ℕ). i ≤ 1024) ew (header_v text w m at h),
+        let q = fitting_is (sym ok ∙ e) in
+        let small = header_small text k.v k.n k.body h in (
+          subst (λ (i : ℕ). i ≤ 1024) q.0 small.0,
           (
-            subst (λ (i : ℕ). i ≤ 4096) em (header_n text w m at h),
-            subst₃ (λ (a b d : ℕ). judge a (budget b 16384 false) (words_at (drop d text) d) (length text) (Fits a b d) ≡ Fits a b d) ew em ea ok,
+            subst (λ (i : ℕ). i ≤ 4096) q.1.0 small.1,
+            subst₃ (λ (a b d : ℕ). judge a (budget b 16384 false) (words_at (drop d text) d) (length text) (fitting a b d) ≡ fitting a b d) q.0 q.1.0 q.1.1 ok,
           ),
         ))
-        (λ r. absurd (not_fits (judge w (budget m 16384 false) (words_at (drop at text) at) (length text) (Fits w m at)) r.0 v n body r.1 e))
-        (judge_is w (budget m 16384 false) (words_at (drop at text) at) (length text) (Fits w m at))
+        (λ r. absurd (not_fits (judge k.v (budget k.n 16384 false) (words_at (drop k.body text) k.body) (length text) (fitting k.v k.n k.body)) r.0 v n body r.1 e))
+        (judge_is k.v (budget k.n 16384 false) (words_at (drop k.body text) k.body) (length text) (fitting k.v k.n k.body))
 
-pub text_within : (text : List ℕ) (v n body : ℕ) → judge_text text ≡ Fits v n body → (v ≤ 1024) × ((n ≤ 4096) × Within v n 16384 (text_clauses text))
+pub text_within : (text : List ℕ) (v n body : ℕ) → judge_text text ≡ fitting v n body → (v ≤ 1024) × ((n ≤ 4096) × Within v n 16384 (text_clauses text))
 unfolding InClause
 text_within text v n body e =
     let R = fits_ready text v n body e in

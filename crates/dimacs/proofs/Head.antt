@@ -4,17 +4,16 @@ use mathlib.Core.Bool.{Bool, true, false, not}
 use mathlib.Core.List.{List, [], ◌∷◌}
 use Prim.Native.Nat.{ℕ, suc, ◌+◌, ◌≤◌, ◌<◌, min}
 use native.Mathlib.Omega.{arith}
-use native.Mathlib.Numerals.{add-one}
 use lib.ListN.{length, take, drop, get_or, length-drop, drop_of_length-le}
 use lib.Seq.{drop-cons, drop-drop, length-take-le}
 use lib.Dec.{eqb}
-use borrow.Author.Tests.{eq-eqb, ne_eqb, le-leb, lt-leb}
+use borrow.Author.Tests.{ne_eqb, le-leb}
 use Rattle.dimacs.specs.Words.{is_line_byte, is_digit, span, front}
 use Rattle.dimacs.specs.Tokens.{decimal}
-use Rattle.dimacs.specs.Header.{comments, expect, number, within_limit, line_end}
-use Rattle.state.specs.declared.Refusal.TheVariants.{Grammar, Limit}
-use Rattle.dimacs.specs.declared.Piece.TheVariants.{Wrong, Got}
+use Rattle.dimacs.specs.Header.{comments, expect, number, within_limit, got}
+use Rattle.state.specs.declared.Refusal.TheVariants.{Grammar}
 use Rattle.dimacs.proofs.Runs.{span_le}
+use Rattle.std.specs.Prelude.{Err}
 
 -- a byte of a comment line
 line_byte : (b : ℕ) (s : List ℕ) (at : ℕ) {t : Bool} → eqb b 10 ≡ t → comments true (b ∷ s) at ≡ comments (not t) s (suc at)
@@ -35,12 +34,12 @@ past_line (b ∷ s) at h = go (eqb b 10) refl (past_line s (suc at)) h
         let l : suc (span is_line_byte s) < suc (length s) = rw (e, span) at h in
         line_byte b s at e ∙ rw (e, span, q) (ih (omega arith))
 
-open_line : (s : List ℕ) (at : ℕ) → length s ≤ span is_line_byte s → comments true s at ≡ Wrong (Grammar (at + span is_line_byte s))
+open_line : (s : List ℕ) (at : ℕ) → length s ≤ span is_line_byte s → comments true s at ≡ Err (Grammar (at + span is_line_byte s))
 open_line [] at h = let q : at + 0 ≡ at = omega arith in rw q
 open_line (b ∷ s) at h = go (eqb b 10) refl (open_line s (suc at)) h
   where
-    go : (t : Bool) → eqb b 10 ≡ t → (length s ≤ span is_line_byte s → comments true s (suc at) ≡ Wrong (Grammar (suc at + span is_line_byte s)))
-        → length (b ∷ s) ≤ span is_line_byte (b ∷ s) → comments true (b ∷ s) at ≡ Wrong (Grammar (at + span is_line_byte (b ∷ s)))
+    go : (t : Bool) → eqb b 10 ≡ t → (length s ≤ span is_line_byte s → comments true s (suc at) ≡ Err (Grammar (suc at + span is_line_byte s)))
+        → length (b ∷ s) ≤ span is_line_byte (b ∷ s) → comments true (b ∷ s) at ≡ Err (Grammar (at + span is_line_byte (b ∷ s)))
     go true e ih h = absurd (let l : suc (length s) ≤ 0 = rw (e, span) at h in omega arith)
     go false e ih h =
         let q : at + suc (span is_line_byte s) ≡ suc at + span is_line_byte s = omega arith in
@@ -57,23 +56,11 @@ module _ (s : List ℕ) (i : ℕ) (h : i < length s) where
       let k : i + suc (span is_line_byte (drop i s)) ≡ lf + 1 = omega arith in
       comments_begin e ∙ past_line (drop i s) i (omega (arith, length-drop i s)) ∙ rw (drop-drop (suc (span is_line_byte (drop i s))) i s, k)
 
-  pub comments_open : (lf : ℕ) → get_or s i 0 ≡ 99 → lf ≡ i + span is_line_byte (drop i s) → length s ≤ lf → comments false (drop i s) i ≡ Wrong (Grammar lf)
+  pub comments_open : (lf : ℕ) → get_or s i 0 ≡ 99 → lf ≡ i + span is_line_byte (drop i s) → length s ≤ lf → comments false (drop i s) i ≡ Err (Grammar lf)
   comments_open lf e q l = comments_begin e ∙ open_line (drop i s) i (omega (arith, length-drop i s)) ∙ rw (← q)
 
-  pub comments_stop : (get_or s i 0 ≡ 99 → ⊥) → comments false (drop i s) i ≡ Got 0 i
-  comments_stop n = rw (drop-cons s i 0 h, ne_eqb _ _ n, comments)
-
-  pub expect_more : (ps : List ℕ) (k : ℕ) → k < length ps → get_or s i 0 ≡ get_or ps k 0 → expect (drop k ps) (drop i s) i ≡ expect (drop (k + 1) ps) (drop (i + 1) s) (i + 1)
-  expect_more ps k l e = rw (add-one i, add-one k, drop-cons s i 0 h, drop-cons ps k 0 l, eq-eqb _ _ e, expect)
-
-  pub expect_other : (ps : List ℕ) (k : ℕ) → k < length ps → (get_or s i 0 ≡ get_or ps k 0 → ⊥) → expect (drop k ps) (drop i s) i ≡ Wrong (Grammar i)
+  pub expect_other : (ps : List ℕ) (k : ℕ) → k < length ps → (get_or s i 0 ≡ get_or ps k 0 → ⊥) → expect (drop k ps) (drop i s) i ≡ Err (Grammar i)
   expect_other ps k l n = rw (drop-cons s i 0 h, drop-cons ps k 0 l, ne_eqb _ _ n, expect)
-
-  pub number_nought : (limit : ℕ) → get_or s i 0 ≡ 48 → number limit (drop i s) i ≡ Got 0 (i + 1)
-  number_nought limit e = rw (drop-cons s i 0 h, eq-eqb _ _ e, number)
-
-  pub number_not : (limit : ℕ) → (get_or s i 0 ≡ 48 → ⊥) → is_digit (get_or s i 0) ≡ false → number limit (drop i s) i ≡ Wrong (Grammar i)
-  number_not limit n e = rw (drop-cons s i 0 h, ne_eqb _ _ n, number, e)
 
   number_digits : (limit : ℕ) → (get_or s i 0 ≡ 48 → ⊥) → is_digit (get_or s i 0) ≡ true → number limit (drop i s) i ≡ within_limit limit (front is_digit (drop i s)) i
   number_digits limit n e = rw (drop-cons s i 0 h, ne_eqb _ _ n, number, e)
@@ -81,35 +68,14 @@ module _ (s : List ℕ) (i : ℕ) (h : i < length s) where
   -- the digits are read up to `next`, and their value is known up to 65,535
   module _ (limit next value : ℕ) (n : get_or s i 0 ≡ 48 → ⊥) (d : is_digit (get_or s i 0) ≡ true) (e : next ≡ i + span is_digit (drop i s))
       (v : value ≡ min (decimal (front is_digit (drop i s))) 65535) (small : limit < 65535) where
-    pub number_over : limit < value → number limit (drop i s) i ≡ Wrong (Limit i)
-    number_over o = number_digits limit n d ∙ rw (lt-leb (decimal (front is_digit (drop i s))) limit (omega (arith, v)), within_limit)
-
-    pub number_is : value ≤ limit → number limit (drop i s) i ≡ Got value next
+    pub number_is : value ≤ limit → number limit (drop i s) i ≡ got value next
     number_is o =
         let k : ℕ = span is_digit (drop i s) in
         let w : decimal (front is_digit (drop i s)) ≡ value = omega (arith, v) in
         let l : i + length (take k (drop i s)) ≡ next = omega (arith, e, length-take-le k (drop i s) (span_le is_digit (drop i s))) in
         number_digits limit n d ∙ rw (le-leb (decimal (front is_digit (drop i s))) limit (omega (arith, w)), within_limit, w, l)
 
-  pub line_end_is : get_or s i 0 ≡ 10 → line_end (drop i s) i ≡ Got 0 (i + 1)
-  line_end_is e = rw (drop-cons s i 0 h, eq-eqb _ _ e, line_end)
-
-  pub line_end_not : (get_or s i 0 ≡ 10 → ⊥) → line_end (drop i s) i ≡ Wrong (Grammar i)
-  line_end_not n = rw (drop-cons s i 0 h, ne_eqb _ _ n, line_end)
-
 -- past the end
 module _ (s : List ℕ) (i : ℕ) (h : length s ≤ i) where
-  pub comments_end : comments false (drop i s) i ≡ Got 0 i
-  comments_end = rw (drop_of_length-le s h)
-
-  pub expect_end : (ps : List ℕ) (k : ℕ) → k < length ps → expect (drop k ps) (drop i s) i ≡ Wrong (Grammar i)
+  pub expect_end : (ps : List ℕ) (k : ℕ) → k < length ps → expect (drop k ps) (drop i s) i ≡ Err (Grammar i)
   expect_end ps k l = rw (drop_of_length-le s h, drop-cons ps k 0 l)
-
-  pub number_end : (limit : ℕ) → number limit (drop i s) i ≡ Wrong (Grammar i)
-  number_end limit = rw (drop_of_length-le s h)
-
-  pub line_end_end : line_end (drop i s) i ≡ Got 0 i
-  line_end_end = rw (drop_of_length-le s h)
-
-pub expect_all : (s ps : List ℕ) (i k : ℕ) → length ps ≤ k → expect (drop k ps) (drop i s) i ≡ Got 0 i
-expect_all s ps i k l = rw (drop_of_length-le ps l)

@@ -12,18 +12,15 @@ use Rattle.base.proofs.Booleans.{and_left, and_right}
 use Rattle.dimacs.specs.Words.{Word, word, words_at, span, is_digit}
 use Rattle.dimacs.specs.Tokens.{Meaning, bad, nought, literal, meaning, token_by, token_of, decimal}
 use Rattle.dimacs.specs.Text.{Budget, budget, judge, judge_end}
-use Rattle.dimacs.specs.Header.{number, within_limit, and_then, header, header_rest, comments, expect, line_end, p_cnf}
+use Rattle.dimacs.specs.Header.{number, within_limit, and_then, header, header_rest, comments, expect, line_end, p_cnf, fitting}
 use Rattle.dimacs.specs.declared.Token.{Token}
 use Rattle.dimacs.specs.declared.Token.TheVariants.{End, Zero, Literal, Bad}
 use Rattle.state.specs.declared.Refusal.{Refusal}
 use Rattle.state.specs.declared.Refusal.TheVariants.{Grammar, Limit}
-use Rattle.dimacs.specs.declared.Piece.{Piece}
-use Rattle.dimacs.specs.declared.Piece.TheVariants.{Wrong, Got}
-use Rattle.dimacs.specs.declared.Header.{Header}
-use Rattle.dimacs.specs.declared.Header.TheVariants.{Fields}
-use Rattle.dimacs.specs.declared.Verdict.{Verdict}
-use Rattle.dimacs.specs.declared.Verdict.TheVariants.{Refused, Fits}
 use Rattle.dimacs.proofs.Scan.{Found, view, token_found}
+use Rattle.std.specs.Prelude.{Result, Ok, Err}
+use Rattle.dimacs.specs.declared.Header.{Header}
+use Rattle.dimacs.specs.declared.Digits.{Digits}
 
 -- the first word from `at` on: it means m, begins at `start`, and the words behind it are those from `next` on
 pub record Seen (text : List ℕ) (at : ℕ) (m : Meaning) (start next : ℕ) : Type 0 where
@@ -97,12 +94,12 @@ told_literal {text} {at} t b m start next (some (literal c k) s n f) q =
     }
 
 -- ---- the definition's step at each kind of token
-module _ (v : ℕ) (l : Budget) (end : ℕ) (ok : Verdict) {text : List ℕ} {at start next : ℕ} where
-  pub judge_bad : Seen text at bad start next → judge v l (words_at (drop at text) at) end ok ≡ Refused (Grammar start)
+module _ (v : ℕ) (l : Budget) (end : ℕ) (ok : Result Header Refusal) {text : List ℕ} {at start next : ℕ} where
+  pub judge_bad : Seen text at bad start next → judge v l (words_at (drop at text) at) end ok ≡ Err (Grammar start)
   unfolding judge
   judge_bad s = rw (s.words, s.means, judge)
 
-  pub judge_extra : Seen text at nought start next → l.clauses ≡ 0 → judge v l (words_at (drop at text) at) end ok ≡ Refused (Limit start)
+  pub judge_extra : Seen text at nought start next → l.clauses ≡ 0 → judge v l (words_at (drop at text) at) end ok ≡ Err (Limit start)
   unfolding judge
   judge_extra s e = rw (s.words, s.means, judge, le-ltb 0 l.clauses (omega (arith, e)))
 
@@ -128,7 +125,7 @@ module _ (v : ℕ) (l : Budget) (end : ℕ) (ok : Verdict) {text : List ℕ} {at
     unfolding judge
     judge_fits e = rw (s.seen.words, s.seen.means, judge, tests true e)
 
-    pub judge_unfit : (ltb 0 l.clauses && (leb magnitude v && ltb 0 l.literals)) ≡ false → judge v l (words_at (drop at text) at) end ok ≡ Refused (Limit start)
+    pub judge_unfit : (ltb 0 l.clauses && (leb magnitude v && ltb 0 l.literals)) ≡ false → judge v l (words_at (drop at text) at) end ok ≡ Err (Limit start)
     unfolding judge
     judge_unfit e = rw (s.seen.words, s.seen.means, judge, tests false e)
 
@@ -144,96 +141,75 @@ fits_left v clauses literals magnitude e = (fits_tests v clauses literals magnit
 pub fits_small : (v clauses literals magnitude : ℕ) → (ltb 0 clauses && (leb magnitude v && ltb 0 literals)) ≡ true → magnitude ≤ v
 fits_small v clauses literals magnitude e = (fits_tests v clauses literals magnitude e).0
 
-pub judge_end_lem : (v : ℕ) (l : Budget) (end : ℕ) (ok : Verdict) (text : List ℕ) (at : ℕ) → words_at (drop at text) at ≡ []
+pub judge_end_lem : (v : ℕ) (l : Budget) (end : ℕ) (ok : Result Header Refusal) (text : List ℕ) (at : ℕ) → words_at (drop at text) at ≡ []
     → judge v l (words_at (drop at text) at) end ok ≡ judge_end l end ok
 unfolding judge
 judge_end_lem v l end ok text at e = rw e
 
-pub end_unfinished : (l : Budget) (end : ℕ) (ok : Verdict) → l.unfinished ≡ true → judge_end l end ok ≡ Refused (Grammar end)
-end_unfinished l end ok e = rw (e, judge_end)
-
-pub end_fits : (l : Budget) (end : ℕ) (ok : Verdict) → l.unfinished ≡ false → l.clauses ≡ 0 → judge_end l end ok ≡ ok
-end_fits l end ok e z = rw (e, judge_end, z)
-
-pub end_few : (l : Budget) (end : ℕ) (ok : Verdict) → l.unfinished ≡ false → (l.clauses ≡ 0 → ⊥) → judge_end l end ok ≡ Refused (Limit end)
-end_few l end ok e n =
-    let q : l.clauses ≡ suc (l.clauses - 1) = omega (arith, n) in
-    rw (e, judge_end, q)
-
 -- ---- a header's V is at most 1,024
-after_got : (p : Piece) (k : ℕ → ℕ → Header) (v n at : ℕ) → and_then p k ≡ Fields v n at → (value : ℕ) × (next : ℕ) × (p ≡ Got value next) × (k value next ≡ Fields v n at)
-after_got (Wrong r) k v n at e = absurd (let z : ◌≡◌ {A = ℕ} 0 1 = cc in omega arith)
-after_got (Got value next) k v n at e = (value, next, refl, e)
+after_ok : {A : Type 0} (p : Result A Refusal) (k : A → Result Header Refusal) (v n at : ℕ) → and_then p k ≡ fitting v n at → (x : A) × (p ≡ Ok x) × (k x ≡ fitting v n at)
+after_ok (Err r) k v n at e = absurd (let z : ◌≡◌ {A = ℕ} 0 1 = cc in omega arith)
+after_ok (Ok x) k v n at e = (x, refl, e)
 
-within_le : (limit : ℕ) (ds : List ℕ) (at value next : ℕ) → within_limit limit ds at ≡ Got value next → value ≤ limit
-within_le limit ds at value next e = go (leb (decimal ds) limit) refl
+within_le : (limit : ℕ) (ds : List ℕ) (at : ℕ) (d : Digits) → within_limit limit ds at ≡ Ok d → d.value ≤ limit
+within_le limit ds at d e = go (leb (decimal ds) limit) refl
   where
-    go : (t : Bool) → leb (decimal ds) limit ≡ t → value ≤ limit
+    go : (t : Bool) → leb (decimal ds) limit ≡ t → d.value ≤ limit
     go true t =
-        let q : Got (decimal ds) (at + length ds) ≡ Got value next = rw (t, within_limit) at e in
-        let k : decimal ds ≡ value = cc in
-        omega (arith, leb-true (decimal ds) limit t, k)
+        let q = rw (t, within_limit) at e in
+        let k : record { value = decimal ds; next = at + length ds } ≡ d = cc in
+        let w : decimal ds ≡ d.value = ap (λ (x : Digits). x.value) k in
+        omega (arith, leb-true (decimal ds) limit t, w)
     go false t =
-        let q : Wrong (Limit at) ≡ Got value next = rw (t, within_limit) at e in
+        let q = rw (t, within_limit) at e in
         absurd (let z : ◌≡◌ {A = ℕ} 0 1 = cc in omega arith)
 
-number_le : (limit : ℕ) (s : List ℕ) (at value next : ℕ) → number limit s at ≡ Got value next → value ≤ limit
-number_le limit [] at value next e = absurd (let z : ◌≡◌ {A = ℕ} 0 1 = cc in omega arith)
-number_le limit (b ∷ s) at value next e = go (eqb b 48) refl (is_digit b) refl
+number_le : (limit : ℕ) (s : List ℕ) (at : ℕ) (d : Digits) → number limit s at ≡ Ok d → d.value ≤ limit
+number_le limit [] at d e = absurd (let z : ◌≡◌ {A = ℕ} 0 1 = cc in omega arith)
+number_le limit (b ∷ s) at d e = go (eqb b 48) refl (is_digit b) refl
   where
-    go : (t : Bool) → eqb b 48 ≡ t → (u : Bool) → is_digit b ≡ u → value ≤ limit
-    go true t u d =
-        let q : Got 0 (at + 1) ≡ Got value next = rw (t, number) at e in
-        let k : 0 ≡ value = cc in
-        omega (arith, k)
-    go false t true d = within_le limit (take (span is_digit (b ∷ s)) (b ∷ s)) at value next (rw (t, number, d) at e)
-    go false t false d =
-        let q : Wrong (Grammar at) ≡ Got value next = rw (t, number, d) at e in
+    go : (t : Bool) → eqb b 48 ≡ t → (u : Bool) → is_digit b ≡ u → d.value ≤ limit
+    go true t u _ =
+        let q = rw (t, number) at e in
+        let k : record { value = 0; next = at + 1 } ≡ d = cc in
+        let w : 0 ≡ d.value = ap (λ (x : Digits). x.value) k in
+        omega (arith, w)
+    go false t true u = within_le limit (take (span is_digit (b ∷ s)) (b ∷ s)) at d (rw (t, number, u) at e)
+    go false t false u =
+        let q = rw (t, number, u) at e in
         absurd (let z : ◌≡◌ {A = ℕ} 0 1 = cc in omega arith)
 
--- V comes through the rest of the header as it is
-rest_v : (w : ℕ) (text : List ℕ) (at v n body : ℕ) → header_rest w text at ≡ Fields v n body → w ≡ v
+-- the parts of a verdict that fits
+pub fitting_is : {v n body w m at : ℕ} → fitting v n body ≡ fitting w m at → (v ≡ w) × ((n ≡ m) × (body ≡ at))
+fitting_is {v} {n} {body} {w} {m} {at} e =
+    let k : ◌≡◌ {A = Header} (record { v = v; n = n; body = body }) (record { v = w; n = m; body = at }) = cc in
+    (ap (λ (x : Header). x.v) k, (ap (λ (x : Header). x.n) k, ap (λ (x : Header). x.body) k))
+
+-- V and N come through the rest of the header as they are, and N is at most 4,096
+rest_is : (w : ℕ) (text : List ℕ) (at v n body : ℕ) → header_rest w text at ≡ fitting v n body → (w ≡ v) × (n ≤ 4096)
 unfolding header_rest
-rest_v w text at v n body e =
-    let a = after_got (expect (32 ∷ []) (drop at text) at) _ v n body e in
-    let b = after_got (number 4096 (drop a.1 text) a.1) _ v n body a.3 in
-    let d = after_got (line_end (drop b.1 text) b.1) _ v n body b.3 in
-    let q : Fields w b.0 d.1 ≡ Fields v n body = d.3 in
-    cc
+rest_is w text at v n body e =
+    let a = after_ok (expect (32 ∷ []) (drop at text) at) _ v n body e in
+    let b = after_ok (number 4096 (drop a.0 text) a.0) _ v n body a.2 in
+    let d = after_ok (line_end (drop b.0.next text) b.0.next) _ v n body b.2 in
+    let q = fitting_is d.2 in
+    (q.0, subst (λ (i : ℕ). i ≤ 4096) q.1.0 (number_le 4096 (drop a.0 text) a.0 b.0 b.1))
 
-pub header_v : (text : List ℕ) (v n body : ℕ) → header text ≡ Fields v n body → v ≤ 1024
+pub header_small : (text : List ℕ) (v n body : ℕ) → header text ≡ fitting v n body → (v ≤ 1024) × (n ≤ 4096)
 unfolding header
-header_v text v n body e =
-    let a = after_got (comments false text 0) _ v n body e in
-    let b = after_got (expect p_cnf (drop a.1 text) a.1) _ v n body a.3 in
-    let d = after_got (number 1024 (drop b.1 text) b.1) _ v n body b.3 in
-    subst (λ (k : ℕ). k ≤ 1024) (rest_v d.0 text d.1 v n body d.3) (number_le 1024 (drop b.1 text) b.1 d.0 d.1 d.2)
-
--- a header's N is at most 4,096
-rest_n : (w : ℕ) (text : List ℕ) (at v n body : ℕ) → header_rest w text at ≡ Fields v n body → n ≤ 4096
-unfolding header_rest
-rest_n w text at v n body e =
-    let a = after_got (expect (32 ∷ []) (drop at text) at) _ v n body e in
-    let b = after_got (number 4096 (drop a.1 text) a.1) _ v n body a.3 in
-    let d = after_got (line_end (drop b.1 text) b.1) _ v n body b.3 in
-    let q : Fields w b.0 d.1 ≡ Fields v n body = d.3 in
-    let k : b.0 ≡ n = cc in
-    subst (λ (i : ℕ). i ≤ 4096) k (number_le 4096 (drop a.1 text) a.1 b.0 b.1 b.2)
-
-pub header_n : (text : List ℕ) (v n body : ℕ) → header text ≡ Fields v n body → n ≤ 4096
-unfolding header
-header_n text v n body e =
-    let a = after_got (comments false text 0) _ v n body e in
-    let b = after_got (expect p_cnf (drop a.1 text) a.1) _ v n body a.3 in
-    let d = after_got (number 1024 (drop b.1 text) b.1) _ v n body b.3 in
-    rest_n d.0 text d.1 v n body d.3
+header_small text v n body e =
+    let a = after_ok (comments false text 0) _ v n body e in
+    let b = after_ok (expect p_cnf (drop a.0 text) a.0) _ v n body a.2 in
+    let d = after_ok (number 1024 (drop b.0 text) b.0) _ v n body b.2 in
+    let q = rest_is d.0.value text d.0.next v n body d.2 in
+    (subst (λ (k : ℕ). k ≤ 1024) q.0 (number_le 1024 (drop b.0 text) b.0 d.0 d.1), q.1)
 
 -- ---- the judgement of the words is a refusal, or the verdict that it was handed
-pub judge_is : (v : ℕ) (l : Budget) (ws : List Word) (end : ℕ) (ok : Verdict) → (judge v l ws end ok ≡ ok) ⊎ ((r : Refusal) × (judge v l ws end ok ≡ Refused r))
+pub judge_is : (v : ℕ) (l : Budget) (ws : List Word) (end : ℕ) (ok : Result Header Refusal) → (judge v l ws end ok ≡ ok) ⊎ ((r : Refusal) × (judge v l ws end ok ≡ Err r))
 unfolding judge
 judge_is v l [] end ok = go l.unfinished refl l.clauses refl
   where
-    go : (t : Bool) → l.unfinished ≡ t → (k : ℕ) → l.clauses ≡ k → (judge_end l end ok ≡ ok) ⊎ ((r : Refusal) × (judge_end l end ok ≡ Refused r))
+    go : (t : Bool) → l.unfinished ≡ t → (k : ℕ) → l.clauses ≡ k → (judge_end l end ok ≡ ok) ⊎ ((r : Refusal) × (judge_end l end ok ≡ Err r))
     go true t k e = inr (Grammar end, rw (t, judge_end))
     go false t zero e = inl (rw (t, judge_end, e))
     go false t (suc k) e = inr (Limit end, rw (t, judge_end, e))
@@ -241,19 +217,19 @@ judge_is v l (w ∷ ws) end ok = go (meaning w.bytes) refl (ltb 0 l.clauses) ref
     (judge_is v (budget (l.clauses - 1) l.literals false) ws end ok) (judge_is v (budget l.clauses (l.literals - 1) true) ws end ok)
   where
     go : (m : Meaning) → meaning w.bytes ≡ m → (t : Bool) → ltb 0 l.clauses ≡ t
-        → (judge v (budget (l.clauses - 1) l.literals false) ws end ok ≡ ok) ⊎ ((r : Refusal) × (judge v (budget (l.clauses - 1) l.literals false) ws end ok ≡ Refused r))
-        → (judge v (budget l.clauses (l.literals - 1) true) ws end ok ≡ ok) ⊎ ((r : Refusal) × (judge v (budget l.clauses (l.literals - 1) true) ws end ok ≡ Refused r))
-        → (judge v l (w ∷ ws) end ok ≡ ok) ⊎ ((r : Refusal) × (judge v l (w ∷ ws) end ok ≡ Refused r))
+        → (judge v (budget (l.clauses - 1) l.literals false) ws end ok ≡ ok) ⊎ ((r : Refusal) × (judge v (budget (l.clauses - 1) l.literals false) ws end ok ≡ Err r))
+        → (judge v (budget l.clauses (l.literals - 1) true) ws end ok ≡ ok) ⊎ ((r : Refusal) × (judge v (budget l.clauses (l.literals - 1) true) ws end ok ≡ Err r))
+        → (judge v l (w ∷ ws) end ok ≡ ok) ⊎ ((r : Refusal) × (judge v l (w ∷ ws) end ok ≡ Err r))
     go bad m t e a b = inr (Grammar w.at, rw (m, judge))
     go nought m true e a b = rw (m, judge, e) a
     go nought m false e a b = inr (Limit w.at, rw (m, judge, e))
     go (literal c n) m t e a b = lit (ltb 0 l.clauses && (leb n v && ltb 0 l.literals)) refl
       where
-        lit : (u : Bool) → (ltb 0 l.clauses && (leb n v && ltb 0 l.literals)) ≡ u → (judge v l (w ∷ ws) end ok ≡ ok) ⊎ ((r : Refusal) × (judge v l (w ∷ ws) end ok ≡ Refused r))
+        lit : (u : Bool) → (ltb 0 l.clauses && (leb n v && ltb 0 l.literals)) ≡ u → (judge v l (w ∷ ws) end ok ≡ ok) ⊎ ((r : Refusal) × (judge v l (w ∷ ws) end ok ≡ Err r))
         lit true q = rw (m, judge, q) b
         lit false q = inr (Limit w.at, rw (m, judge, q))
 
 -- ---- a text is not both refused and accepted
 
-pub not_fits : (x : Verdict) (r : Refusal) (v n body : ℕ) → x ≡ Refused r → x ≡ Fits v n body → ⊥
+pub not_fits : (x : Result Header Refusal) (r : Refusal) (v n body : ℕ) → x ≡ Err r → x ≡ fitting v n body → ⊥
 not_fits x r v n body p q = let z : ◌≡◌ {A = ℕ} 0 1 = cc in omega arith

@@ -15,10 +15,12 @@ use Rattle.dimacs.specs.Words.{Word, words_at}
 use Rattle.dimacs.specs.Tokens.{nought, literal}
 use Rattle.dimacs.specs.Text.{budget, judge, judge_end, literal_of, body_of}
 use Rattle.dimacs.specs.Numbers.{word_numbers, clauses_kept}
-use Rattle.dimacs.specs.declared.Verdict.{Verdict}
-use Rattle.dimacs.specs.declared.Verdict.TheVariants.{Fits}
 use Rattle.dimacs.proofs.Judge.{Seen, SeenLiteral, judge_end_lem, judge_zero, judge_fits, judge_is, fits_left, fits_small}
 use Rattle.dimacs.proofs.Accepted.{accepted}
+use Rattle.std.specs.Prelude.{Result}
+use Rattle.dimacs.specs.declared.Header.{Header}
+use Rattle.state.specs.declared.Refusal.{Refusal}
+use Rattle.dimacs.specs.Header.{fitting}
 
 -- ---- the number of a token
 module _ {text : List ℕ} {at start next : ℕ} where
@@ -32,16 +34,13 @@ module _ {text : List ℕ} {at start next : ℕ} where
 
 -- ---- before a token: k numbers are kept, and what is left to the text is judged as the whole body is
 pub record Keeping (text : List ℕ) (v n body : ℕ) (ns₀ ns : List ℤ) (at clauses literals : ℕ) (unfinished : Bool) (k : ℕ) : Type 0 where
-  pub judged : judge v (budget clauses literals unfinished) (words_at (drop at text) at) (length text) (Fits v n body)
-      ≡ judge v (budget n 16384 false) (words_at (drop body text) body) (length text) (Fits v n body)
+  pub judged : judge v (budget clauses literals unfinished) (words_at (drop at text) at) (length text) (fitting v n body)
+      ≡ judge v (budget n 16384 false) (words_at (drop body text) body) (length text) (fitting v n body)
   pub small : (v ≤ 1024) × (n ≤ 4096)
   pub count : k + (clauses + literals) ≡ n + 16384
   pub room : 20480 ≤ length ns
   pub size : length ns ≡ length ns₀
   pub front : word_numbers (words_at (drop body text) body) ≡ take k ns ++ word_numbers (words_at (drop at text) at)
-
-pub keep_none : (text : List ℕ) (v n body : ℕ) (ns : List ℤ) → v ≤ 1024 → n ≤ 4096 → 20480 ≤ length ns → Keeping text v n body ns ns body n 16384 false 0
-keep_none text v n body ns hv hn h = record { judged = refl; small = (hv, hn); count = omega arith; room = h; size = refl; front = refl }
 
 module _ {text : List ℕ} {v n body : ℕ} {ns₀ ns : List ℤ} {at clauses literals : ℕ} {unfinished : Bool} {k : ℕ} (K : Keeping text v n body ns₀ ns at clauses literals unfinished k) where
   -- one number more
@@ -60,7 +59,7 @@ module _ {text : List ℕ} {v n body : ℕ} {ns₀ ns : List ℤ} {at clauses li
 
     pub keep_zero : Keeping text v n body ns₀ (set ns k (pos 0)) next (clauses - 1) literals false (k + 1)
     keep_zero = record {
-      judged = sym (judge_zero v (budget clauses literals unfinished) (length text) (Fits v n body) s some) ∙ K.judged;
+      judged = sym (judge_zero v (budget clauses literals unfinished) (length text) (fitting v n body) s some) ∙ K.judged;
       small = K.small;
       count = omega (arith, K.count, some);
       room = rw length-set K.room;
@@ -83,7 +82,7 @@ module _ {text : List ℕ} {v n body : ℕ} {ns₀ ns : List ℤ} {at clauses li
 
     pub keep_literal : Keeping text v n body ns₀ (set ns k (literal_of b m)) next clauses (literals - 1) true (k + 1)
     keep_literal = record {
-      judged = sym (judge_fits v (budget clauses literals unfinished) (length text) (Fits v n body) s (omega (arith, K.small.0)) fits) ∙ K.judged;
+      judged = sym (judge_fits v (budget clauses literals unfinished) (length text) (fitting v n body) s (omega (arith, K.small.0)) fits) ∙ K.judged;
       small = K.small;
       count = omega (arith, K.count, literal_left);
       room = rw length-set K.room;
@@ -92,24 +91,24 @@ module _ {text : List ℕ} {v n body : ℕ} {ns₀ ns : List ℤ} {at clauses li
     }
 
   -- the text's end: the clauses in the numbers are those of the text
-  pub keep_end : words_at (drop at text) at ≡ [] → {r : Verdict} → r ≡ judge_end (budget clauses literals unfinished) (length text) (Fits v n body)
-      → (r ≡ judge v (budget n 16384 false) (words_at (drop body text) body) (length text) (Fits v n body)) × (clauses_kept r ns ≡ body_of text r)
+  pub keep_end : words_at (drop at text) at ≡ [] → {r : Result Header Refusal} → r ≡ judge_end (budget clauses literals unfinished) (length text) (fitting v n body)
+      → (r ≡ judge v (budget n 16384 false) (words_at (drop body text) body) (length text) (fitting v n body)) × (clauses_kept r ns ≡ body_of text r)
   unfolding InClause word_numbers
   keep_end e {r} q = (
     is,
     ⊎_elim
-        (λ ok. subst (λ (x : Verdict). clauses_kept x ns ≡ body_of text x) (sym (is ∙ ok)) (spelled ok))
-        (λ no. subst (λ (x : Verdict). clauses_kept x ns ≡ body_of text x) (sym (is ∙ no.1)) refl)
-        (judge_is v (budget n 16384 false) (words_at (drop body text) body) (length text) (Fits v n body)),
+        (λ ok. subst (λ (x : Result Header Refusal). clauses_kept x ns ≡ body_of text x) (sym (is ∙ ok)) (spelled ok))
+        (λ no. subst (λ (x : Result Header Refusal). clauses_kept x ns ≡ body_of text x) (sym (is ∙ no.1)) refl)
+        (judge_is v (budget n 16384 false) (words_at (drop body text) body) (length text) (fitting v n body)),
   )
     where
-      is : r ≡ judge v (budget n 16384 false) (words_at (drop body text) body) (length text) (Fits v n body)
-      is = q ∙ sym (judge_end_lem v (budget clauses literals unfinished) (length text) (Fits v n body) text at e) ∙ K.judged
+      is : r ≡ judge v (budget n 16384 false) (words_at (drop body text) body) (length text) (fitting v n body)
+      is = q ∙ sym (judge_end_lem v (budget clauses literals unfinished) (length text) (fitting v n body) text at e) ∙ K.judged
 
       all : word_numbers (words_at (drop body text) body) ≡ take k ns
       all = K.front ∙ ap (λ (ws : List Word). take k ns ++ word_numbers ws) e ∙ append-nil (take k ns)
 
-      spelled : judge v (budget n 16384 false) (words_at (drop body text) body) (length text) (Fits v n body) ≡ Fits v n body → clauses_kept (Fits v n body) ns ≡ body_of text (Fits v n body)
+      spelled : judge v (budget n 16384 false) (words_at (drop body text) body) (length text) (fitting v n body) ≡ fitting v n body → clauses_kept (fitting v n body) ns ≡ body_of text (fitting v n body)
       spelled ok =
-          ap (clauses_kept (Fits v n body)) (sym (take-append-drop k ns) ∙ ap (λ (d : List ℤ). d ++ drop k ns) (sym all))
+          ap (clauses_kept (fitting v n body)) (sym (take-append-drop k ns) ∙ ap (λ (d : List ℤ). d ++ drop k ns) (sym all))
           ∙ (accepted v n body (length text) (words_at (drop body text) body) n 16384 false [] ok tt).kept (drop k ns)

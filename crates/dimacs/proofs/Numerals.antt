@@ -6,14 +6,14 @@ use Prim.Native.Nat.{ℕ, suc, ◌+◌, ◌-◌, ◌≤◌, ◌<◌, min}
 use native.Mathlib.Omega.{arith}
 use native.Mathlib.Numerals.{add-one}
 use native.Mathlib.Nat.{add-zero}
-use lib.ListN.{length, take, drop, get_or, drop_of_length-le}
+use lib.ListN.{length, take, drop, get_or}
 use lib.Seq.{drop-cons, drop-drop, get_or-drop, get_or-take, length-take-le}
 use lib.Dec.{eqb, leb}
 use borrow.Author.Tests.{eq-eqb, ne_eqb, eqb-true, eqb-false, leb-true}
 use Rattle.dimacs.specs.Words.{is_word_byte, is_digit, span, front}
-use Rattle.dimacs.specs.Tokens.{bad, nought, literal, numeral, unsigned, meaning, decimal, token_by}
+use Rattle.dimacs.specs.Tokens.{bad, literal, numeral, unsigned, meaning, decimal, token_by}
 use Rattle.dimacs.specs.declared.Token.{Token}
-use Rattle.dimacs.specs.declared.Token.TheVariants.{Zero, Literal, Bad}
+use Rattle.dimacs.specs.declared.Token.TheVariants.{Literal, Bad}
 use Rattle.dimacs.proofs.Runs.{span_le}
 use Rattle.dimacs.proofs.Scan.{word_end}
 
@@ -45,10 +45,6 @@ module _ (negative : Bool) where
 unsigned_plain : (w : List ℕ) → (get_or w 0 0 ≡ 48 → length w ≡ 1 → ⊥) → unsigned false w ≡ numeral false w
 unsigned_plain [] n = refl
 unsigned_plain (d ∷ ds) n = rw (pick (eqb d 48) (eqb (length ds) 0) (λ a b. n (eqb-true _ _ a) (ap suc (eqb-true _ _ b))), unsigned)
-
-unsigned_nought : (w : List ℕ) → get_or w 0 0 ≡ 48 → length w ≡ 1 → unsigned false w ≡ nought
-unsigned_nought [] e l = absurd (omega (arith, l))
-unsigned_nought (d ∷ ds) e l = rw (eq-eqb d 48 e, unsigned, eq-eqb (length ds) 0 (omega (arith, l)))
 
 -- `0` has no byte that is no digit
 nought_digits : (w : List ℕ) → get_or w 0 0 ≡ 48 → length w ≡ 1 → span is_digit w ≡ length w
@@ -106,9 +102,6 @@ abbrev pub numeral_at : List ℕ → ℕ → Bool → ℕ → Token
 numeral_at text at negative start = token_by (unsigned negative (front is_word_byte (drop at text))) start (at + span is_word_byte (drop at text))
 
 module _ (text : List ℕ) (at : ℕ) (negative : Bool) (start : ℕ) where
-  pub numeral_none : length text ≤ at → numeral_at text at negative start ≡ Bad start
-  numeral_none h = rw (drop_of_length-le text h, unsigned_bare negative [] refl)
-
   -- the digits are read up to `next`, and their value is known up to 65,535
   module _ (value next : ℕ) (v : value ≡ min (decimal (front is_digit (drop at text))) 65535) (e : next ≡ at + span is_digit (drop at text)) where
     behind : span is_word_byte (drop at text) ≡ span is_digit (drop at text) + span is_word_byte (drop next text)
@@ -147,9 +140,6 @@ module _ (text : List ℕ) (at : ℕ) (negative : Bool) (start : ℕ) where
 
       pub numeral_minus : negative ≡ true → get_or text at 0 ≡ 48 → numeral_at text at negative start ≡ Bad start
       numeral_minus b z = rw (b, numeral_nought true (front is_word_byte (drop at text)) (first ∙ z))
-
-      pub numeral_zero : negative ≡ false → get_or text at 0 ≡ 48 → next ≡ at + 1 → numeral_at text at negative start ≡ Zero start next
-      numeral_zero b z one = rw (b, unsigned_nought (front is_word_byte (drop at text)) (first ∙ z) (omega (arith, size, same)), next_is)
 
       pub numeral_leading : negative ≡ false → get_or text at 0 ≡ 48 → (next ≡ at + 1 → ⊥) → numeral_at text at negative start ≡ Bad start
       numeral_leading b z n =

@@ -1,13 +1,11 @@
 -- A whole text: judged from left to right up to the first violation; if there is none, its clauses as written. Assumes nothing.
-use Rattle.std.specs.Prelude.{ℕ, zero, suc, ◌+◌, ◌-◌, Bool, true, false, ◌&&◌, List, [], ◌∷◌, ◌++◌, length, drop, leb, ltb, ℤ, pos, neg_ℤ}
+use Rattle.std.specs.Prelude.{ℕ, zero, suc, ◌-◌, Bool, true, false, ◌&&◌, List, [], ◌∷◌, ◌++◌, length, drop, leb, ltb, ℤ, pos, neg_ℤ, Result, Ok, Err}
 use Rattle.dimacs.specs.Words.{Word, words_at}
 use Rattle.dimacs.specs.Tokens.{bad, nought, literal, meaning}
-use Rattle.dimacs.specs.Header.{header}
+use Rattle.dimacs.specs.Header.{header, fitting}
+use Rattle.state.specs.declared.Refusal.{Refusal}
 use Rattle.state.specs.declared.Refusal.TheVariants.{Grammar, Limit}
 use Rattle.dimacs.specs.declared.Header.{Header}
-use Rattle.dimacs.specs.declared.Header.TheVariants.{NoHeader, Fields}
-use Rattle.dimacs.specs.declared.Verdict.{Verdict}
-use Rattle.dimacs.specs.declared.Verdict.TheVariants.{Refused, Fits}
 
 -- what a text may still have: clauses and literals; and whether a clause has begun
 pub record Budget : Type 0 where
@@ -19,30 +17,30 @@ abbrev pub budget : ℕ → ℕ → Bool → Budget
 budget clauses literals unfinished = record { clauses = clauses; literals = literals; unfinished = unfinished }
 
 -- the text's end
-abbrev pub judge_end : Budget → ℕ → Verdict → Verdict
-judge_end l end ok = elim l.unfinished [ true ↦ Refused (Grammar end) | false ↦ elim l.clauses [ zero ↦ ok | suc _ ↦ Refused (Limit end) ] ]
+abbrev pub judge_end : Budget → ℕ → Result Header Refusal → Result Header Refusal
+judge_end l end ok = elim l.unfinished [ true ↦ Err (Grammar end) | false ↦ elim l.clauses [ zero ↦ ok | suc _ ↦ Err (Limit end) ] ]
 
 -- the words from left to right; `end` is the text's length, `ok` the verdict where nothing is wrong
-unfoldable pub judge : ℕ → Budget → List Word → ℕ → Verdict → Verdict
+unfoldable pub judge : ℕ → Budget → List Word → ℕ → Result Header Refusal → Result Header Refusal
 judge v l [] end ok = judge_end l end ok
 judge v l (w ∷ ws) end ok =
     elim (meaning w.bytes) [
-      | bad ↦ Refused (Grammar w.at)
+      | bad ↦ Err (Grammar w.at)
       | nought ↦ elim (ltb 0 l.clauses) [
         | true ↦ judge v (budget (l.clauses - 1) l.literals false) ws end ok
-        | false ↦ Refused (Limit w.at)
+        | false ↦ Err (Limit w.at)
       ]
       | literal _ n ↦ elim (ltb 0 l.clauses && (leb n v && ltb 0 l.literals)) [
         | true ↦ judge v (budget l.clauses (l.literals - 1) true) ws end ok
-        | false ↦ Refused (Limit w.at)
+        | false ↦ Err (Limit w.at)
       ]
     ]
 
-abbrev pub judge_body : List ℕ → Header → Verdict
-judge_body text (NoHeader r) = Refused r
-judge_body text (Fields v n at) = judge v (budget n 16384 false) (words_at (drop at text) at) (length text) (Fits v n at)
+abbrev pub judge_body : List ℕ → Result Header Refusal → Result Header Refusal
+judge_body text (Err r) = Err r
+judge_body text (Ok h) = judge h.v (budget h.n 16384 false) (words_at (drop h.body text) h.body) (length text) (fitting h.v h.n h.body)
 
-unfoldable pub judge_text : List ℕ → Verdict
+unfoldable pub judge_text : List ℕ → Result Header Refusal
 judge_text text = judge_body text (header text)
 
 -- a literal by its sign, which is `true` for negative, and its variable
@@ -61,9 +59,9 @@ clauses_of begun (w ∷ ws) =
     ]
 
 -- the text's clauses as written
-abbrev pub body_of : List ℕ → Verdict → List (List ℤ)
-body_of text (Refused r) = []
-body_of text (Fits v n at) = clauses_of [] (words_at (drop at text) at)
+abbrev pub body_of : List ℕ → Result Header Refusal → List (List ℤ)
+body_of text (Err r) = []
+body_of text (Ok h) = clauses_of [] (words_at (drop h.body text) h.body)
 
 abbrev pub text_clauses : List ℕ → List (List ℤ)
 text_clauses text = body_of text (judge_text text)

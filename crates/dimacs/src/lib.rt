@@ -2,10 +2,10 @@
 // definition in specs/ by one equation.
 #![tactic(auto)]
 
-ghost use Rattle.std.specs.Prelude.{◌≡◌, true, false, ◌&&◌, ◌+◌, ◌*◌, ◌-◌, ◌<◌, ◌≤◌, min, length, drop, leb, ltb, eqb};
+ghost use Rattle.std.specs.Prelude.{◌≡◌, true, false, ◌&&◌, ◌+◌, ◌*◌, ◌-◌, ◌<◌, ◌≤◌, min, length, drop, leb, ltb, eqb, Ok};
 ghost use Rattle.dimacs.specs.Words.{is_sep, is_word_byte, is_line_byte, is_digit, span, front, words_at};
 ghost use Rattle.dimacs.specs.Tokens.{decimal, unsigned, token_by, token_of};
-ghost use Rattle.dimacs.specs.Header.{comments, expect, number, line_end, header_rest, header};
+ghost use Rattle.dimacs.specs.Header.{comments, expect, number, line_end, header_rest, header, fitting};
 ghost use Rattle.dimacs.specs.Text.{judge, judge_end, judge_text, budget, literal_of, body_of, text_clauses};
 ghost use Rattle.dimacs.specs.Numbers.{clauses_kept, Judged};
 
@@ -29,45 +29,24 @@ enum Token {
     Bad(usize),
 }
 
-// A piece of the header: its value (0 where it has none) and the offset after it.
+// What a text's header says: its variables and its clauses. `body` is the offset after it.
 #[derive(Clone, Copy)]
-pub enum Piece {
-    Wrong(Refusal),
-    Got { value: u32, next: usize },
-}
-
-#[derive(Clone, Copy)]
-pub enum Header {
-    NoHeader(Refusal),
-    Fields { v: u32, n: u32, next: usize },
-}
-
-// The judgement of a text: refused, or what its header says.
-#[derive(Clone, Copy)]
-pub enum Verdict {
-    Refused(Refusal),
-    Fits { v: u32, n: u32, body: usize },
+pub struct Header {
+    pub v: u32,
+    pub n: u32,
+    pub body: usize,
 }
 
 fn is_separator(b: u8) -> bool
     ensures { result ≡ is_sep b }
 {
-    if b == b' ' {
-        return true;
-    }
-    if b == b'\t' {
-        return true;
-    }
-    if b == b'\r' {
-        return true;
-    }
-    b == b'\n'
+    matches!(b, b' ' | b'\t' | b'\r' | b'\n')
 }
 
 fn is_digit(b: u8) -> bool
     ensures { result ≡ is_digit b }
 {
-    if b < b'0' { false } else { b <= b'9' }
+    b.is_ascii_digit()
 }
 
 // ---- runs of bytes
@@ -75,14 +54,11 @@ fn is_digit(b: u8) -> bool
 fn separators_end(text: &[u8], at: usize) -> usize
     ensures { result ≡ at + span is_sep (drop at text.now) }
 {
-    let mut i = at;
-    while i < text.len() {
-        if !is_separator(text[i]) {
-            return i;
-        }
-        i += 1;
+    let mut end = at;
+    while end < text.len() && is_separator(text[end]) {
+        end += 1;
     }
-    i
+    end
 }
 
 // Whether an LF is among the bytes. The loop has no early exit, so that the compiler compares many bytes at once.
@@ -90,12 +66,10 @@ fn has_line_feed(block: &[u8]) -> bool
     ensures { result ≡ ltb (span is_line_byte block.now) (length block.now) }
 {
     let mut found = false;
-    let mut i = 0;
-    while i < block.len() {
-        if block[i] == b'\n' {
+    for b in block {
+        if *b == b'\n' {
             found = true;
         }
-        i += 1;
     }
     found
 }
@@ -105,16 +79,11 @@ fn blocks_end(text: &[u8], at: usize) -> usize
     requires { at ≤ length text.now }
     ensures { (result ≤ length text.now) × (result + span is_line_byte (drop result text.now) ≡ at + span is_line_byte (drop at text.now)) }
 {
-    let mut i = at;
-    loop {
-        if text.len() - i < 16 {
-            return i;
-        }
-        if has_line_feed(&text[i..i + 16]) {
-            return i;
-        }
-        i += 16;
+    let mut end = at;
+    while 16 <= text.len() - end && !has_line_feed(&text[end..end + 16]) {
+        end += 16;
     }
+    end
 }
 
 // Where the line's LF is, or the text's end.
@@ -122,24 +91,20 @@ fn line_feed_at(text: &[u8], at: usize) -> usize
     requires { at ≤ length text.now }
     ensures { result ≡ at + span is_line_byte (drop at text.now) }
 {
-    let mut i = blocks_end(text, at);
-    while i < text.len() {
-        if text[i] == b'\n' {
-            return i;
+    let start = blocks_end(text, at);
+    for (i, b) in text[start..].iter().enumerate() {
+        if *b == b'\n' {
+            return start + i;
         }
-        i += 1;
     }
-    i
+    text.len()
 }
 
 // Whether a word that reaches up to `at` ends there.
 fn ends_word(text: &[u8], at: usize) -> bool
     ensures { result ≡ eqb (span is_word_byte (drop at text.now)) 0 }
 {
-    if text.len() <= at {
-        return true;
-    }
-    is_separator(text[at])
+    text.len() <= at || is_separator(text[at])
 }
 
 // ---- numbers
@@ -149,9 +114,8 @@ fn with_digit(n: u32, b: u8) -> u32
     requires { n ≤ 65535 }
     ensures { result ≡ min (n * 10 + (b - 48)) 65535 }
 {
-    let d = if b < b'0' { 0 } else { (b - b'0') as u32 };
-    let m = n * 10 + d;
-    if m < 65535 { m } else { 65535 }
+    let digit = u32::from(b.saturating_sub(b'0'));
+    (n * 10 + digit).min(65535)
 }
 
 // Some digits from an offset on: their value, or 65,535 if it is larger, and the offset after them.
@@ -164,17 +128,13 @@ struct Digits {
 fn digits_at(text: &[u8], at: usize) -> Digits
     ensures { (result.value ≡ min (decimal (front is_digit (drop at text.now))) 65535) × (result.next ≡ at + span is_digit (drop at text.now)) }
 {
-    let mut i = at;
-    let mut n: u32 = 0;
-    while i < text.len() {
-        let b = text[i];
-        if !is_digit(b) {
-            return Digits { value: n, next: i };
-        }
-        n = with_digit(n, b);
-        i += 1;
+    let mut value: u32 = 0;
+    let mut next = at;
+    while next < text.len() && is_digit(text[next]) {
+        value = with_digit(value, text[next]);
+        next += 1;
     }
-    Digits { value: n, next: i }
+    Digits { value, next }
 }
 
 // ---- tokens
@@ -188,10 +148,7 @@ fn numeral_at(text: &[u8], at: usize, negative: bool, start: usize) -> Token
     }
     let d = digits_at(text, at);
     let next = d.next;
-    if next == at {
-        return Token::Bad(start);
-    }
-    if !ends_word(text, next) {
+    if next == at || !ends_word(text, next) {
         return Token::Bad(start);
     }
     if text[at] != b'0' {
@@ -202,14 +159,10 @@ fn numeral_at(text: &[u8], at: usize, negative: bool, start: usize) -> Token
             next,
         };
     }
-    if negative {
+    if negative || next != at + 1 {
         return Token::Bad(start);
     }
-    if next == at + 1 {
-        Token::Zero { start, next }
-    } else {
-        Token::Bad(start)
-    }
+    Token::Zero { start, next }
 }
 
 // The first token from `at` on.
@@ -258,152 +211,111 @@ fn token_from(text: &[u8], at: usize) -> Token
 // ---- the header
 
 // Past the comment lines.
-fn comments_end(text: &[u8]) -> Piece
+fn comments_end(text: &[u8]) -> Result<usize, Refusal>
     ensures { result ≡ comments false text.now 0 }
 {
     let mut at = 0;
-    while at < text.len() {
-        if text[at] != b'c' {
-            return Piece::Got { value: 0, next: at };
-        }
+    while at < text.len() && text[at] == b'c' {
         let lf = line_feed_at(text, at);
         if text.len() <= lf {
-            return Piece::Wrong(Refusal::Grammar(lf));
+            return Err(Refusal::Grammar(lf));
         }
         at = lf + 1;
     }
-    Piece::Got { value: 0, next: at }
+    Ok(at)
 }
 
 // Past the bytes `wanted`, which must stand there.
-fn expect_bytes(text: &[u8], at: usize, wanted: &[u8]) -> Piece
+fn expect_bytes(text: &[u8], at: usize, wanted: &[u8]) -> Result<usize, Refusal>
     ensures { result ≡ expect wanted.now (drop at text.now) at }
 {
-    let mut i = at;
-    let mut k = 0;
-    while k < wanted.len() {
-        if text.len() <= i {
-            return Piece::Wrong(Refusal::Grammar(i));
+    let mut next = at;
+    for b in wanted {
+        if text.len() <= next || text[next] != *b {
+            return Err(Refusal::Grammar(next));
         }
-        if text[i] != wanted[k] {
-            return Piece::Wrong(Refusal::Grammar(i));
-        }
-        i += 1;
-        k += 1;
+        next += 1;
     }
-    Piece::Got { value: 0, next: i }
+    Ok(next)
 }
 
 // Past a number of at most `limit`.
-fn number_at(text: &[u8], at: usize, limit: u32) -> Piece
+fn number_at(text: &[u8], at: usize, limit: u32) -> Result<Digits, Refusal>
     requires { limit < 65535 }
     ensures { result ≡ number limit (drop at text.now) at }
 {
-    if text.len() <= at {
-        return Piece::Wrong(Refusal::Grammar(at));
+    if text.len() <= at || !is_digit(text[at]) {
+        return Err(Refusal::Grammar(at));
     }
-    let b = text[at];
-    if b == b'0' {
-        return Piece::Got {
+    if text[at] == b'0' {
+        return Ok(Digits {
             value: 0,
             next: at + 1,
-        };
+        });
     }
-    if !is_digit(b) {
-        return Piece::Wrong(Refusal::Grammar(at));
+    let digits = digits_at(text, at);
+    if limit < digits.value {
+        return Err(Refusal::Limit(at));
     }
-    let d = digits_at(text, at);
-    let value = d.value;
-    let next = d.next;
-    if limit < value {
-        return Piece::Wrong(Refusal::Limit(at));
-    }
-    Piece::Got { value, next }
+    Ok(digits)
 }
 
 // Past the LF of the header, or at the text's end.
-fn line_end(text: &[u8], at: usize) -> Piece
+fn line_end(text: &[u8], at: usize) -> Result<usize, Refusal>
     ensures { result ≡ line_end (drop at text.now) at }
 {
     if text.len() <= at {
-        return Piece::Got { value: 0, next: at };
+        return Ok(at);
     }
-    if text[at] == b'\n' {
-        return Piece::Got {
-            value: 0,
-            next: at + 1,
-        };
+    if text[at] != b'\n' {
+        return Err(Refusal::Grammar(at));
     }
-    Piece::Wrong(Refusal::Grammar(at))
+    Ok(at + 1)
 }
 
 // The rest of the header, behind V.
-fn read_clause_count(text: &[u8], v: u32, at: usize) -> Header
+fn read_clause_count(text: &[u8], v: u32, at: usize) -> Result<Header, Refusal>
     ensures { result ≡ header_rest v text.now at }
 {
-    let space = match expect_bytes(text, at, b" ") {
-        Piece::Wrong(r) => return Header::NoHeader(r),
-        Piece::Got { value: _, next } => next,
-    };
-    match number_at(text, space, 4096) {
-        Piece::Wrong(r) => Header::NoHeader(r),
-        Piece::Got { value, next } => match line_end(text, next) {
-            Piece::Wrong(r) => Header::NoHeader(r),
-            Piece::Got {
-                value: _,
-                next: body,
-            } => Header::Fields {
-                v,
-                n: value,
-                next: body,
-            },
-        },
-    }
+    let space = expect_bytes(text, at, b" ")?;
+    let n = number_at(text, space, 4096)?;
+    let body = line_end(text, n.next)?;
+    Ok(Header {
+        v,
+        n: n.value,
+        body,
+    })
 }
 
-fn read_header(text: &[u8]) -> Header
+fn read_header(text: &[u8]) -> Result<Header, Refusal>
     ensures { result ≡ header text.now }
 {
-    let begin = match comments_end(text) {
-        Piece::Wrong(r) => return Header::NoHeader(r),
-        Piece::Got { value: _, next } => next,
-    };
-    let p_cnf = match expect_bytes(text, begin, b"p cnf ") {
-        Piece::Wrong(r) => return Header::NoHeader(r),
-        Piece::Got { value: _, next } => next,
-    };
-    match number_at(text, p_cnf, 1024) {
-        Piece::Wrong(r) => Header::NoHeader(r),
-        Piece::Got { value, next } => read_clause_count(text, value, next),
-    }
+    let begin = comments_end(text)?;
+    let p_cnf = expect_bytes(text, begin, b"p cnf ")?;
+    let v = number_at(text, p_cnf, 1024)?;
+    read_clause_count(text, v.value, v.next)
 }
 
 // ---- the whole text
 
 // The text's end: whether a clause has begun, and how many are missing.
-fn judge_end(clauses: u32, unfinished: bool, end: usize, ok: Verdict) -> Verdict
-    ensures { result ≡ judge_end (budget clauses 0 unfinished) end ok }
+fn judge_end(clauses: u32, unfinished: bool, end: usize, header: Header) -> Result<Header, Refusal>
+    ensures { result ≡ judge_end (budget clauses 0 unfinished) end (Ok header) }
 {
     if unfinished {
-        return Verdict::Refused(Refusal::Grammar(end));
+        return Err(Refusal::Grammar(end));
     }
-    if clauses == 0 {
-        return ok;
+    if clauses != 0 {
+        return Err(Refusal::Limit(end));
     }
-    Verdict::Refused(Refusal::Limit(end))
+    Ok(header)
 }
 
 // Whether a literal may stand: a clause and a literal are left, and its variable is at most v.
 fn literal_fits(v: u32, clauses: u32, literals: u32, magnitude: u32) -> bool
     ensures { result ≡ (ltb 0 clauses && (leb magnitude v && ltb 0 literals)) }
 {
-    if clauses == 0 {
-        return false;
-    }
-    if v < magnitude {
-        return false;
-    }
-    0 < literals
+    0 < clauses && magnitude <= v && 0 < literals
 }
 
 // A literal by its sign and its variable.
@@ -416,9 +328,15 @@ fn literal_of(negative: bool, magnitude: u32) -> i32
 }
 
 // The tokens from `body` on, against what is left to the text. Each is kept as a number: a literal, or 0 for a clause's end.
-fn judge_words(text: &[u8], v: u32, n: u32, body: usize, numbers: &mut [i32]) -> Verdict
+fn judge_words(
+    text: &[u8],
+    v: u32,
+    n: u32,
+    body: usize,
+    numbers: &mut [i32],
+) -> Result<Header, Refusal>
     requires { (v ≤ 1024) × ((n ≤ 4096) × (20480 ≤ length numbers.old)) }
-    ensures { (result ≡ judge v (budget n 16384 false) (words_at (drop body text.now) body) (length text.now) (Verdict.Fits v n body))
+    ensures { (result ≡ judge v (budget n 16384 false) (words_at (drop body text.now) body) (length text.now) (fitting v n body))
         × (clauses_kept result numbers.new ≡ body_of text.now result) }
 {
     let mut at = body;
@@ -428,14 +346,11 @@ fn judge_words(text: &[u8], v: u32, n: u32, body: usize, numbers: &mut [i32]) ->
     let mut k = 0;
     loop {
         match token_from(text, at) {
-            Token::End => {
-                let ok = Verdict::Fits { v, n, body };
-                return judge_end(clauses, unfinished, text.len(), ok);
-            }
-            Token::Bad(start) => return Verdict::Refused(Refusal::Grammar(start)),
+            Token::End => return judge_end(clauses, unfinished, text.len(), Header { v, n, body }),
+            Token::Bad(start) => return Err(Refusal::Grammar(start)),
             Token::Zero { start, next } => {
                 if clauses == 0 {
-                    return Verdict::Refused(Refusal::Limit(start));
+                    return Err(Refusal::Limit(start));
                 }
                 numbers[k] = 0;
                 k += 1;
@@ -450,7 +365,7 @@ fn judge_words(text: &[u8], v: u32, n: u32, body: usize, numbers: &mut [i32]) ->
                 next,
             } => {
                 if !literal_fits(v, clauses, literals, magnitude) {
-                    return Verdict::Refused(Refusal::Limit(start));
+                    return Err(Refusal::Limit(start));
                 }
                 numbers[k] = literal_of(negative, magnitude);
                 k += 1;
@@ -462,13 +377,12 @@ fn judge_words(text: &[u8], v: u32, n: u32, body: usize, numbers: &mut [i32]) ->
     }
 }
 
-// The judgement of a text, and the clauses of a text that fits in `numbers`, which a load has made long enough.
-pub fn judge_text(text: &[u8], numbers: &mut [i32]) -> Verdict
+// The judgement of a text, refused or what its header says, and the clauses of a text that fits in `numbers`, which a load has made
+// long enough.
+pub fn judge_text(text: &[u8], numbers: &mut [i32]) -> Result<Header, Refusal>
     requires { 20480 ≤ length numbers.old }
     ensures { Judged (judge_text text.now) (text_clauses text.now) result numbers.new }
 {
-    match read_header(text) {
-        Header::NoHeader(r) => Verdict::Refused(r),
-        Header::Fields { v, n, next } => judge_words(text, v, n, next, numbers),
-    }
+    let header = read_header(text)?;
+    judge_words(text, header.v, header.n, header.body, numbers)
 }

@@ -2,7 +2,7 @@
 use Prim.Native.Nat.{ℕ, suc, ◌+◌, ◌-◌, ◌≤◌, ◌<◌}
 use native.Mathlib.Omega.{arith}
 use native.Mathlib.Numerals.{add-one}
-use mathlib.Core.Path.{◌≡◌, refl, sym, ap, ◌∙◌}
+use mathlib.Core.Path.{◌≡◌, sym, ap, ◌∙◌}
 use mathlib.Core.List.{List, ◌∷◌, map}
 use lib.ListN.{length, get_or, drop, take, set, length-set}
 use lib.Seq.{sets, drop-cons}
@@ -31,20 +31,6 @@ pub record Appending (numbers₀ : List ℤ) (end : ℕ) (others : List ℤ) (si
   pub long : length numbers ≡ length numbers₀
   pub left : sets numbers (end + i) (rest numbering others size i) ≡ sets numbers₀ end (map (numbered_by numbering) (take size others))
 
-pub append_none : {numbers others : List ℤ} {end size : ℕ} {numbering : List ℕ} → Renumberable numbering others size end (length numbers) → Appending numbers end others size numbering numbers 0
-append_none {numbers} {others} {end} {size} {numbering} R = record {
-  ready = R;
-  within = omega arith;
-  long = refl;
-  left = (λ i. sets numbers (z i) (map (numbered_by numbering) (take (s i) others)));
-}
-  where
-    z : end + 0 ≡ end
-    z = omega arith
-
-    s : size - 0 ≡ size
-    s = omega arith
-
 module _ {numbers₀ others numbers : List ℤ} {end size i : ℕ} {numbering : List ℕ} (A : Appending numbers₀ end others size numbering numbers i) (lt : i < size) where
   rest_is : rest numbering others size i ≡ numbered_by numbering (get_or others i (pos 0)) ∷ rest numbering others size (i + 1)
   rest_is =
@@ -62,8 +48,3 @@ module _ {numbers₀ others numbers : List ℤ} {end size i : ℕ} {numbering : 
         let j : end + (i + 1) ≡ suc (end + i) = omega arith in
         (λ k. sets (set numbers (end + i) (e k)) (j k) (rest numbering others size (i + 1))) ∙ sym (ap (sets numbers (end + i)) rest_is) ∙ A.left;
   }
-
-pub append_all : {numbers₀ others numbers : List ℤ} {end size i : ℕ} {numbering : List ℕ} → Appending numbers₀ end others size numbering numbers i → size ≤ i → numbers ≡ sets numbers₀ end (map (numbered_by numbering) (take size others))
-append_all {numbers₀} {others} {numbers} {end} {size} {i} {numbering} A h =
-    let z : size - i ≡ 0 = omega arith in
-    sym (ap (λ (n : ℕ). sets numbers (end + i) (map (numbered_by numbering) (take n (drop i others)))) z) ∙ A.left

@@ -10,12 +10,13 @@ use Rattle.base.specs.Lists.{first, any_below}
 use Rattle.literal.specs.Ranged.{total}
 use Rattle.state.specs.Answers.{refusal_number, refusal_place}
 use Rattle.dimacs.specs.Words.{words_at}
-use Rattle.dimacs.specs.Header.{header, header_rest}
+use Rattle.dimacs.specs.Header.{header, header_rest, fitting}
 use Rattle.dimacs.specs.Text.{judge, judge_text, clauses_of}
-use Rattle.dimacs.specs.declared.Verdict.{Verdict}
-use Rattle.dimacs.specs.declared.Verdict.TheVariants.{Refused, Fits}
 use Rattle.join.specs.Links.{first_bad, link_in, unlinked, right_number, renumbered}
 use Rattle.join.specs.Join.{join_clauses, judge_join}
+use Rattle.std.specs.Prelude.{Result, Ok, Err}
+use Rattle.dimacs.specs.declared.Header.{Header}
+use Rattle.state.specs.declared.Refusal.{Refusal}
 
 pub data Case : Type 0 where
   -- the texts, the links, V and the clauses
@@ -24,12 +25,12 @@ pub data Case : Type 0 where
   refuses : String → String → List ℕ → ℕ → ℕ → Case
 
 -- the number and the place of a refusal, or nothing
-abbrev refused_by : Verdict → List ℕ
-refused_by (Refused r) = refusal_number r ∷ refusal_place r ∷ []
-refused_by (Fits v n body) = []
+abbrev refused_by : Result Header Refusal → List ℕ
+refused_by (Err r) = refusal_number r ∷ refusal_place r ∷ []
+refused_by (Ok h) = []
 
 abbrev pub Holds : Case → Type 0
-Holds (joins left right links v cs) = (judge_join (bytes left) (bytes right) links ≡ Fits v (length cs) 0) × (join_clauses (bytes left) (bytes right) links ≡ cs)
+Holds (joins left right links v cs) = (judge_join (bytes left) (bytes right) links ≡ fitting v (length cs) 0) × (join_clauses (bytes left) (bytes right) links ≡ cs)
 Holds (refuses left right links number place) = refused_by (judge_join (bytes left) (bytes right) links) ≡ number ∷ place ∷ []
 
 abbrev pub All : List Case → Type 0

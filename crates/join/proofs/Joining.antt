@@ -13,10 +13,10 @@ use Rattle.literal.specs.Literals.{sign_by}
 use Rattle.literal.specs.Ranged.{InClause, InClauses, total}
 use Rattle.literal.proofs.Ranged.{in_all, in_append, total_append}
 use Rattle.dimacs.specs.Numbers.{clauses_in}
-use Rattle.join.specs.Links.{pair_count, link_of, joined_variables, renumbered, renumbered_clauses}
+use Rattle.join.specs.Links.{pair_count, first_bad, link_of, joined_variables, renumbered, renumbered_clauses}
 use Rattle.join.specs.Join.{within_limits}
-use Rattle.join.specs.FunctionContracts.{Numbered, numbered_by, Renumberable, Kept, both_in}
-use Rattle.join.proofs.RightNumbers.{Linked, link_pair, number_within, unlinked_most, renumbered_in, renumbered_total}
+use Rattle.join.specs.FunctionContracts.{LinksPut, Numbered, numbered_by, Renumberable, Kept, both_in}
+use Rattle.join.proofs.RightNumbers.{Linked, links_right, link_pair, number_within, unlinked_most, renumbered_in, renumbered_total}
 use Rattle.join.proofs.Within.{limits}
 use Rattle.join.proofs.Counting.{size_in, numbers_of, numbers_are, numbers_length, numbers_append, clauses_back}
 
@@ -73,6 +73,15 @@ pub record Both (v n w m : ℕ) (links numbering : List ℕ) (numbers others : L
   pub numbered : Numbered v w links numbering
   pub ends : end ≡ size_in n numbers
   pub sized : size ≡ size_in m others
+
+-- by what the links, the right variables' numbers and the sizes were found to be
+pub both_are : {v n w m : ℕ} {links numbering numbering' : List ℕ} {numbers others : List ℤ} {bad last end size : ℕ} → Kept v n numbers → Kept w m others
+    → (bad ≡ first_bad v w links) × (pair_count links ≤ bad → LinksPut links numbering) → pair_count links ≤ bad
+    → ((ls : List ℕ) → LinksPut ls numbering → (last ≡ joined_variables v w ls) × Numbered v w ls numbering')
+    → end ≡ size_in n numbers → size ≡ size_in m others → Both v n w m links numbering' numbers others end size × (last ≡ joined_variables v w links)
+both_are {v} {n} {w} {m} {links} L R told past numbered ends sized =
+    let r = numbered links (told.1 past) in
+    (record { lefts = L; rights = R; linked = links_right v w links (omega (arith, told.0, past)); numbered = r.1; ends = ends; sized = sized }, r.0)
 
 module _ {v n w m : ℕ} {links numbering : List ℕ} {numbers others : List ℤ} {end size : ℕ} (B : Both v n w m links numbering numbers others end size) where
   abbrev cs : List (List ℤ)

@@ -1,16 +1,16 @@
 -- The loop that numbers the right variables that are not linked: those up to i have their numbers, the others what the links gave them. Assumes nothing.
-use Prim.Native.Nat.{ℕ, zero, suc, ◌+◌, ◌-◌, ◌≤◌, ◌<◌}
+use Prim.Native.Nat.{ℕ, zero, suc, ◌+◌, ◌≤◌, ◌<◌}
 use native.Mathlib.Omega.{arith}
 use native.Mathlib.Numerals.{add-one}
 use mathlib.Core.Path.{◌≡◌, refl, sym, ap, ◌∙◌}
-use mathlib.Core.Logic.{◌⊎◌, ⊎_elim}
+use mathlib.Core.Logic.{⊎_elim}
 use mathlib.Core.List.{List}
 use lib.ListN.{length, get_or, set, replicate, length-set, length-replicate}
 use Rattle.base.proofs.Lists.{get_d_zeros}
 use lib.Seq.{get_or-set_same, get_or-set_other}
 use Rattle.base.specs.Decide.{le_or}
-use Rattle.join.specs.Links.{link_of, unlinked, right_number, joined_variables}
-use Rattle.join.specs.FunctionContracts.{Unnumbered, LinksPut, Numbered}
+use Rattle.join.specs.Links.{link_of, unlinked, right_number}
+use Rattle.join.specs.FunctionContracts.{Unnumbered, LinksPut}
 use Rattle.join.proofs.RightNumbers.{unlinked_more, unlinked_same, number_linked, number_unlinked}
 
 -- a table of zeros
@@ -94,9 +94,3 @@ module _ {v w : ℕ} {numbering₀ numbering : List ℕ} {last i : ℕ} (L : Loo
 
           count : last + 1 ≡ v + unlinked links (i + 1)
           count = omega (arith, N.counts, ap (unlinked links) (add-one i), unlinked_more links i (ap (link_of links) (sym (add-one i)) ∙ free))
-
-pub loop_all : {v w : ℕ} {numbering₀ numbering : List ℕ} {last i : ℕ} → Loop v w numbering₀ numbering last i → w ≤ i → (links : List ℕ) → LinksPut links numbering₀ → (last ≡ joined_variables v w links) × Numbered v w links numbering
-loop_all {v} {w} {numbering₀} {numbering} {last} {i} L h links P =
-    let N = L.each links P in
-    let e : i ≡ w = omega (arith, L.within, h) in
-    (N.counts ∙ ap (λ (k : ℕ). v + unlinked links k) e, record { room = L.room; nought = N.nought; is = λ x p q. N.numbered x p (omega (arith, q, e)) })

@@ -9,18 +9,18 @@ ghost use Rattle.literal.specs.Ranged.{total};
 ghost use Rattle.dimacs.specs.Numbers.{clauses_in, Judged};
 ghost use Rattle.join.specs.Links.{pair_count, outside, first_bad, joined_variables};
 ghost use Rattle.dimacs.specs.Text.{judge_text};
-ghost use Rattle.dimacs.specs.declared.Verdict.TheVariants.{Fits};
+ghost use Rattle.dimacs.specs.Header.{fitting};
 ghost use Rattle.join.specs.Join.{join_clauses, judge_linked, judge_both, judge_join};
 ghost use Rattle.join.specs.FunctionContracts.{Unnumbered, LinksPut, Numbered, numbered_by, Renumberable, Kept, both_in, with_right};
 
-use dimacs::Verdict;
+use dimacs::Header;
 use state::Refusal;
 
 // A number of the table of links, 0 behind its end.
 fn number_at(pairs: &[u32], i: usize) -> u32
     ensures { result ≡ get_or pairs.now i 0 }
 {
-    if i < pairs.len() { pairs[i] } else { 0 }
+    pairs.get(i).copied().unwrap_or(0)
 }
 
 // Whether x is none of the variables 1 to v, or used before.
@@ -28,13 +28,7 @@ fn bad_side(x: u32, v: u32, used: &[bool]) -> bool
     requires { (v ≤ 1024) × (length used.now ≡ 1025) }
     ensures { result ≡ (outside v x || get_or used.now x false) }
 {
-    if x == 0 {
-        return true;
-    }
-    if v < x {
-        return true;
-    }
-    used[x as usize]
+    x == 0 || v < x || used[x as usize]
 }
 
 // Refusal 15: the first pair with a variable out of range or used before on its side; the number of pairs if there is none, and then each
@@ -45,22 +39,18 @@ fn link(pairs: &[u32], v: u32, w: u32, numbering: &mut [u32]) -> usize
 {
     let mut lefts = [false; 1025];
     let mut rights = [false; 1025];
-    let mut i = 0;
-    while 2 * i < pairs.len() {
+    let count = pairs.len().div_ceil(2);
+    for i in 0..count {
         let l = number_at(pairs, 2 * i);
-        if bad_side(l, v, &lefts) {
-            return i;
-        }
         let r = number_at(pairs, 2 * i + 1);
-        if bad_side(r, w, &rights) {
+        if bad_side(l, v, &lefts) || bad_side(r, w, &rights) {
             return i;
         }
         lefts[l as usize] = true;
         rights[r as usize] = true;
         numbering[r as usize] = l;
-        i += 1;
     }
-    i
+    count
 }
 
 // The right variables that are not linked get the numbers after the left's, in their order; how many variables the join then has.
@@ -68,15 +58,12 @@ fn number_rest(numbering: &mut [u32], v: u32, w: u32) -> u32
     requires { (v ≤ 1024) × ((w ≤ 1024) × (length numbering.old ≡ 1025)) }
     ensures { (links : List ℕ) → LinksPut links numbering.old → (result ≡ joined_variables v w links) × Numbered v w links numbering.new }
 {
-    let count = w as usize;
     let mut last = v;
-    let mut i = 0;
-    while i < count {
+    for i in 0..w as usize {
         if numbering[i + 1] == 0 {
             last += 1;
             numbering[i + 1] = last;
         }
-        i += 1;
     }
     last
 }
@@ -87,14 +74,15 @@ fn size_in(numbers: &[i32], n: usize) -> usize
     ensures { result ≡ total (clauses_in n numbers.now) + n }
 {
     let mut left = n;
-    let mut i = 0;
-    while 0 < left {
-        if numbers[i] == 0 {
+    for (i, x) in numbers.iter().enumerate() {
+        if left == 0 {
+            return i;
+        }
+        if *x == 0 {
             left -= 1;
         }
-        i += 1;
     }
-    i
+    numbers.len()
 }
 
 // A literal of the right text as one of the join, its sign kept; 0, which ends a clause, stays.
@@ -112,10 +100,8 @@ fn append(numbers: &mut [i32], end: usize, others: &[i32], size: usize, numberin
     requires { Renumberable numbering.now others.now size end (length numbers.old) }
     ensures { numbers.new ≡ sets numbers.old end (map (numbered_by numbering.now) (take size others.now)) }
 {
-    let mut i = 0;
-    while i < size {
-        numbers[end + i] = renumber(others[i], numbering);
-        i += 1;
+    for (i, x) in others[..size].iter().enumerate() {
+        numbers[end + i] = renumber(*x, numbering);
     }
 }
 
@@ -123,13 +109,7 @@ fn append(numbers: &mut [i32], end: usize, others: &[i32], size: usize, numberin
 fn within_limits(v: u32, n: u32, size: usize) -> bool
     ensures { result ≡ (leb v 1024 && (leb n 4096 && leb size 16384)) }
 {
-    if 1024 < v {
-        return false;
-    }
-    if 4096 < n {
-        return false;
-    }
-    size <= 16384
+    v <= 1024 && n <= 4096 && size <= 16384
 }
 
 // Two texts that fit, by the numbers that were kept of them: the links, then the limits; within them the right text's numbers go behind
@@ -142,56 +122,59 @@ fn judge_linked(
     w: u32,
     m: u32,
     pairs: &[u32],
-) -> Verdict
+) -> Result<Header, Refusal>
     requires { Kept v n numbers.old × Kept w m others.now }
     ensures { Judged (judge_linked v n w m pairs.now (both_in v n pairs.now m numbers.old others.now))
         (both_in v n pairs.now m numbers.old others.now) result numbers.new }
 {
     let mut numbering = [0u32; 1025];
     let bad = link(pairs, v, w, &mut numbering);
-    if bad < pairs.len() / 2 + pairs.len() % 2 {
-        return Verdict::Refused(Refusal::Link(bad));
+    if bad < pairs.len().div_ceil(2) {
+        return Err(Refusal::Link(bad));
     }
     let all = number_rest(&mut numbering, v, w);
     let end = size_in(numbers, n as usize);
     let size = size_in(others, m as usize);
     let count = n + m;
     if !within_limits(all, count, end + size - count as usize) {
-        return Verdict::Refused(Refusal::Limit(0));
+        return Err(Refusal::Limit(0));
     }
     append(numbers, end, others, size, &numbering);
-    Verdict::Fits {
+    Ok(Header {
         v: all,
         n: count,
         body: 0,
-    }
+    })
 }
 
 // A left text that fits, by the numbers that were kept of it, and the right text.
-fn judge_right(numbers: &mut [i32], v: u32, n: u32, right: &[u8], pairs: &[u32]) -> Verdict
+fn judge_right(
+    numbers: &mut [i32],
+    v: u32,
+    n: u32,
+    right: &[u8],
+    pairs: &[u32],
+) -> Result<Header, Refusal>
     requires { Kept v n numbers.old }
-    ensures { Judged (judge_both (Fits v n 0) (judge_text right.now) pairs.now (with_right v n numbers.old pairs.now right.now))
+    ensures { Judged (judge_both (fitting v n 0) (judge_text right.now) pairs.now (with_right v n numbers.old pairs.now right.now))
         (with_right v n numbers.old pairs.now right.now) result numbers.new }
 {
     let mut others = [0i32; 20480];
-    match dimacs::judge_text(right, &mut others) {
-        Verdict::Refused(r) => Verdict::Refused(r),
-        Verdict::Fits {
-            v: w,
-            n: m,
-            body: _,
-        } => judge_linked(numbers, v, n, &others, w, m, pairs),
-    }
+    let header = dimacs::judge_text(right, &mut others)?;
+    judge_linked(numbers, v, n, &others, header.v, header.n, pairs)
 }
 
 // The judgement of a join, and the clauses of one that fits in `numbers`, as `dimacs::judge_text` leaves those of a text. `pairs` has two
 // numbers for each link, a left variable and a right one.
-pub fn judge_join(left: &[u8], right: &[u8], pairs: &[u32], numbers: &mut [i32]) -> Verdict
+pub fn judge_join(
+    left: &[u8],
+    right: &[u8],
+    pairs: &[u32],
+    numbers: &mut [i32],
+) -> Result<Header, Refusal>
     requires { 20480 ≤ length numbers.old }
     ensures { Judged (judge_join left.now right.now pairs.now) (join_clauses left.now right.now pairs.now) result numbers.new }
 {
-    match dimacs::judge_text(left, numbers) {
-        Verdict::Refused(r) => Verdict::Refused(r),
-        Verdict::Fits { v, n, body: _ } => judge_right(numbers, v, n, right, pairs),
-    }
+    let header = dimacs::judge_text(left, numbers)?;
+    judge_right(numbers, header.v, header.n, right, pairs)
 }
