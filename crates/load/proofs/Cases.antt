@@ -19,10 +19,11 @@ use Rattle.tables.specs.Tables.{Tables, tables}
 use Rattle.tables.specs.Long.{long_ok, long?}
 use Rattle.tables.specs.Calls.{After}
 use Rattle.dimacs.specs.Words.{words_at}
-use Rattle.dimacs.specs.Header.{header, header_rest}
+use Rattle.dimacs.specs.Header.{header, header_rest, fitting}
 use Rattle.dimacs.specs.Text.{judge, judge_text, clauses_of}
-use Rattle.dimacs.specs.declared.Verdict.{Verdict}
-use Rattle.dimacs.specs.declared.Verdict.TheVariants.{Refused as No, Fits}
+use Rattle.std.specs.Prelude.{Result, Ok, Err}
+use Rattle.state.specs.declared.Refusal.{Refusal}
+use Rattle.dimacs.specs.declared.Header.{Header}
 use Rattle.load.specs.Load.{load_formula, load_call, laid, clause_records, literal_places, variable_records}
 
 -- ---- what a load starts from: tables that hold 7 everywhere, with one place more than stated, and a state with an open pass, fresh stamps and a programme of its own
@@ -195,9 +196,9 @@ refusals =
     ∷ []
 
 -- the judgement in numbers; a text that fits has none
-abbrev answer : Verdict → List ℕ
-answer (No r) = refusal_number r ∷ refusal_place r ∷ []
-answer (Fits v n body) = []
+abbrev answer : Result Header Refusal → List ℕ
+answer (Err r) = refusal_number r ∷ refusal_place r ∷ []
+answer (Ok h) = []
 
 abbrev answers : List Bad → List (List ℕ)
 answers [] = []
@@ -211,13 +212,13 @@ by_answer : (b : Bad) → answer (judge_text b.text) ≡ b.number ∷ b.place �
 unfolding load_call
 by_answer b e t st h = go (judge_text b.text) refl
   where
-    go : (x : Verdict) → judge_text b.text ≡ x → load_call b.text t st ≡ record { reply = reply 0 b.number (b.place ∷ []); state = st; tables = t }
-    go (No r) q =
+    go : (x : Result Header Refusal) → judge_text b.text ≡ x → load_call b.text t st ≡ record { reply = reply 0 b.number (b.place ∷ []); state = st; tables = t }
+    go (Err r) q =
         let a : refusal_number r ∷ refusal_place r ∷ [] ≡ b.number ∷ b.place ∷ [] = rw q at e in
         let n : refusal_number r ≡ b.number = cc in
         let p : refusal_place r ≡ b.place = cc in
         rw (h, load_formula, load_call, q, n, p)
-    go (Fits v n body) q =
+    go (Ok k) q =
         let a : [] ≡ b.number ∷ b.place ∷ [] = rw q at e in
         absurd (let z : ◌≡◌ {A = ℕ} 0 1 = cc in omega arith)
 
@@ -234,6 +235,6 @@ abbrev noughts : ℕ → List ℕ
 noughts zero = []
 noughts (suc n) = 48 ∷ 10 ∷ noughts n
 
-pub limits_fit : (judge_text (bytes "p cnf 1 1\n" ++ (ones 16384 ++ bytes "0")) ≡ Fits 1 1 10) × (judge_text (bytes "p cnf 1024 4096\n" ++ noughts 4096) ≡ Fits 1024 4096 16)
+pub limits_fit : (judge_text (bytes "p cnf 1 1\n" ++ (ones 16384 ++ bytes "0")) ≡ fitting 1 1 10) × (judge_text (bytes "p cnf 1024 4096\n" ++ noughts 4096) ≡ fitting 1024 4096 16)
 unfolding header header_rest judge_text judge words_at
 limits_fit = (refl, refl)

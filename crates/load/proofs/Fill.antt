@@ -19,13 +19,15 @@ use Rattle.tables.specs.Long.{Long, long?, long_ok}
 use Rattle.tables.specs.Calls.{answered, refuse}
 use Rattle.literal.proofs.Ranged.{in_all}
 use Rattle.dimacs.specs.Numbers.{clauses_kept, Judged}
-use Rattle.dimacs.specs.declared.Verdict.{Verdict}
-use Rattle.dimacs.specs.declared.Verdict.TheVariants.{Refused, Fits}
 use Rattle.dimacs.proofs.Accepted.{Within, text_within}
 use Rattle.join.proofs.Within.{join_within}
 use Rattle.load.specs.Load.{accept, load_by, load_formula, laid, filled, clause_records, literal_places, variable_records}
 use Rattle.load.specs.Laid.{cleared, Layable, LayableBy, either_verdict, either_clauses, LaidBy}
 use Rattle.load.specs.declared.Progress.{Progress}
+use Rattle.std.specs.Prelude.{Result, Ok, Err}
+use Rattle.dimacs.specs.declared.Header.{Header}
+use Rattle.state.specs.declared.Refusal.{Refusal}
+use Rattle.dimacs.specs.Header.{fitting}
 
 -- ---- zeros from k up to `end`, in a table of any numbers
 module _ {A : Type 0} (z : A) where
@@ -102,12 +104,12 @@ module _ {cs : List (List ℤ)} {c₀ : List ℕ} {l₀ : List ℤ} {c : List �
       λ i. answered Loaded (loaded_state v n (h.marks i)) (tables (pc i) (pl i) (ew i) times links)
 
 -- ---- a formula of the clauses cs by its verdict r, and the numbers that were kept of it
-module _ {verdict : Verdict} {cs : List (List ℤ)} {r : Verdict} {ns : List ℤ} (J : Judged verdict cs r ns) where
+module _ {verdict : Result Header Refusal} {cs : List (List ℤ)} {r : Result Header Refusal} {ns : List ℤ} (J : Judged verdict cs r ns) where
   -- clauses that are within the limits where they are let in can be laid
-  pub judged_layable : ((v n body : ℕ) → verdict ≡ Fits v n body → (v ≤ 1024) × ((n ≤ 4096) × Within v n 16384 cs)) → (c l : ℕ) → 12288 ≤ c → 16384 ≤ l → LayableBy r ns c l
+  pub judged_layable : ((v n body : ℕ) → verdict ≡ fitting v n body → (v ≤ 1024) × ((n ≤ 4096) × Within v n 16384 cs)) → (c l : ℕ) → 12288 ≤ c → 16384 ≤ l → LayableBy r ns c l
   judged_layable within c l hc hl = record { fits = fits }
     where
-      fits : (v n body : ℕ) → r ≡ Fits v n body → (v ≤ 1024) × Layable n ns c l
+      fits : (v n body : ℕ) → r ≡ fitting v n body → (v ≤ 1024) × Layable n ns c l
       fits v n body e =
           let W = within v n body (sym J.is ∙ e) in
           let k = J.kept v n body e in
@@ -116,16 +118,12 @@ module _ {verdict : Verdict} {cs : List (List ℤ)} {r : Verdict} {ns : List ℤ
   pub judged_loads : (t : Tables) (st : State) → load_by r (clauses_kept r ns) t st ≡ load_by verdict cs t st
   judged_loads t st = by r refl
     where
-      by : (x : Verdict) → r ≡ x → load_by x (clauses_kept x ns) t st ≡ load_by verdict cs t st
-      by (Refused q) e = ap (λ (y : Verdict). load_by y cs t st) (sym e ∙ J.is)
-      by (Fits v n body) e = ap (λ (ds : List (List ℤ)). accept v n ds t) (J.kept v n body e) ∙ ap (λ (y : Verdict). load_by y cs t st) (sym e ∙ J.is)
-
--- the tables by the verdict that was given
-pub by_verdict : {verdict given : Verdict} → verdict ≡ given → (ns : List ℤ) (t : Tables) (st : State) → load_by given (clauses_kept given ns) t st ≡ load_by verdict (clauses_kept verdict ns) t st
-by_verdict e ns t st = ap (λ (x : Verdict). load_by x (clauses_kept x ns) t st) (sym e)
+      by : (x : Result Header Refusal) → r ≡ x → load_by x (clauses_kept x ns) t st ≡ load_by verdict cs t st
+      by (Err q) e = ap (λ (y : Result Header Refusal). load_by y cs t st) (sym e ∙ J.is)
+      by (Ok h) e = ap (λ (ds : List (List ℤ)). accept h.v h.n ds t) (J.kept h.v h.n h.body e) ∙ ap (λ (y : Result Header Refusal). load_by y cs t st) (sym e ∙ J.is)
 
 -- a left text alone, or a join
-pub either_within : (joined : Bool) (left right links : List ℕ) (v n body : ℕ) → either_verdict joined left right links ≡ Fits v n body → (v ≤ 1024) × ((n ≤ 4096) × Within v n 16384 (either_clauses joined left right links))
+pub either_within : (joined : Bool) (left right links : List ℕ) (v n body : ℕ) → either_verdict joined left right links ≡ fitting v n body → (v ≤ 1024) × ((n ≤ 4096) × Within v n 16384 (either_clauses joined left right links))
 either_within true left right links = join_within left right links
 either_within false left right links = text_within left
 
@@ -134,7 +132,7 @@ unfolding long_ok
 long_agrees t h = agrees h (long? t)
 
 -- by the test of the tables' lengths
-module _ (verdict : Verdict) (cs : List (List ℤ)) (t : Tables) (st : State) {b : Bool} (tested : Decides b (Long t)) where
+module _ (verdict : Result Header Refusal) (cs : List (List ℤ)) (t : Tables) (st : State) {b : Bool} (tested : Decides b (Long t)) where
   pub formula_short : b ≡ false → refuse Shape st t ≡ load_formula verdict cs t st
   formula_short e = rw (sym (long_agrees t tested) ∙ e, load_formula)
 
@@ -142,7 +140,7 @@ module _ (verdict : Verdict) (cs : List (List ℤ)) (t : Tables) (st : State) {b
   formula_long e = rw (sym (long_agrees t tested) ∙ e, load_formula)
 
 -- on tables that are long enough
-pub formula_lent : (verdict : Verdict) (cs : List (List ℤ)) (t : Tables) (st : State) → Long t → load_formula verdict cs t st ≡ load_by verdict cs t st
+pub formula_lent : (verdict : Result Header Refusal) (cs : List (List ℤ)) (t : Tables) (st : State) → Long t → load_formula verdict cs t st ≡ load_by verdict cs t st
 formula_lent verdict cs t st L = sym (formula_long verdict cs t st (says_yes L) refl)
 
 -- what laying asks of the tables

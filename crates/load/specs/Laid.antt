@@ -1,11 +1,12 @@
 -- What the functions inside a load promise. Assumes nothing: these are definitions.
-use Rattle.std.specs.Prelude.{◌≡◌, Bool, true, false, ◌||◌, List, ◌++◌, ℕ, ◌+◌, ◌*◌, ◌-◌, ◌<◌, ◌≤◌, eqb, length, take, drop, set, replicate, ℤ}
+use Rattle.std.specs.Prelude.{◌≡◌, Bool, true, false, ◌||◌, List, ◌++◌, ℕ, ◌+◌, ◌*◌, ◌-◌, ◌<◌, ◌≤◌, eqb, length, take, drop, set, replicate, ℤ, Result}
 use Rattle.literal.specs.Clauses.{distinct, tautology}
 use Rattle.literal.specs.Ranged.{InClause, InClauses, total}
 use Rattle.dimacs.specs.Numbers.{first_clause, clauses_in}
 use Rattle.dimacs.specs.Text.{judge_text, text_clauses}
-use Rattle.dimacs.specs.declared.Verdict.{Verdict}
-use Rattle.dimacs.specs.declared.Verdict.TheVariants.{Fits}
+use Rattle.dimacs.specs.Header.{fitting}
+use Rattle.dimacs.specs.declared.Header.{Header}
+use Rattle.state.specs.declared.Refusal.{Refusal}
 use Rattle.join.specs.Join.{judge_join, join_clauses}
 use Rattle.load.specs.Load.{clause_records, literal_places, any_empty}
 use Rattle.load.specs.declared.Written.{Written}
@@ -58,15 +59,15 @@ pub record Layable (n : ℕ) (numbers : List ℤ) (clauses literals : ℕ) : Typ
   pub literal_room : 16384 ≤ literals
 
 -- the verdict and the clauses of a left text alone, or of a join
-abbrev pub either_verdict : Bool → List ℕ → List ℕ → List ℕ → Verdict
+abbrev pub either_verdict : Bool → List ℕ → List ℕ → List ℕ → Result Header Refusal
 either_verdict joined left right links = elim joined [ true ↦ judge_join left right links | false ↦ judge_text left ]
 
 abbrev pub either_clauses : Bool → List ℕ → List ℕ → List ℕ → List (List ℤ)
 either_clauses joined left right links = elim joined [ true ↦ join_clauses left right links | false ↦ text_clauses left ]
 
 -- the clauses of a formula that this verdict lets in
-pub record LayableBy (verdict : Verdict) (numbers : List ℤ) (clauses literals : ℕ) : Type 0 where
-  pub fits : (v n body : ℕ) → verdict ≡ Fits v n body → (v ≤ 1024) × Layable n numbers clauses literals
+pub record LayableBy (verdict : Result Header Refusal) (numbers : List ℤ) (clauses literals : ℕ) : Type 0 where
+  pub fits : (v n body : ℕ) → verdict ≡ fitting v n body → (v ≤ 1024) × Layable n numbers clauses literals
 
 -- the clauses cs are laid at the front of the tables; what lies beyond the stated sizes stays
 pub record LaidBy (cs : List (List ℤ)) (c₀ : List ℕ) (l₀ : List ℤ) (c : List ℕ) (l : List ℤ) (p : Progress) : Type 0 where

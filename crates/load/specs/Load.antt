@@ -1,10 +1,11 @@
 -- Document 01: "A load removes repeated literals, stores a clause with v and −v as dropped, and sets the mark for an empty clause, which stands. .. A load lays the kept literals from place 0 without gaps, a dropped clause taking none. ..
 -- a load sets to 0 whatever it does not fill, stamp records apart. .. After a load, each class is the variable itself and each value 0. .. The mark and a load close any pass" and spend the stamps.
 -- Assumes nothing: these are definitions.
-use Rattle.std.specs.Prelude.{ℕ, zero, suc, ◌+◌, ◌-◌, Bool, true, false, ◌||◌, List, [], ◌∷◌, ◌++◌, length, drop, replicate, eqb, ℤ, pos}
+use Rattle.std.specs.Prelude.{ℕ, zero, suc, ◌+◌, ◌-◌, Bool, true, false, ◌||◌, List, [], ◌∷◌, ◌++◌, length, drop, replicate, eqb, ℤ, pos, Result, Ok, Err}
 use Rattle.literal.specs.Clauses.{distinct, tautology}
 use Rattle.state.specs.States.{loaded_state}
 use Rattle.state.specs.declared.State.{State}
+use Rattle.state.specs.declared.Refusal.{Refusal}
 use Rattle.state.specs.declared.Refusal.TheVariants.{Shape}
 use Rattle.state.specs.declared.Answer.TheVariants.{Loaded}
 use Rattle.tables.specs.Tables.{Tables, tables}
@@ -13,8 +14,7 @@ use Rattle.tables.specs.Calls.{After, answered, refuse}
 use Rattle.window.specs.Window.{Places, emptied, AfterWindow, after_window, refuse_with}
 use Rattle.window.specs.Rule.{long_window_ok}
 use Rattle.dimacs.specs.Text.{judge_text, text_clauses}
-use Rattle.dimacs.specs.declared.Verdict.{Verdict}
-use Rattle.dimacs.specs.declared.Verdict.TheVariants.{Refused, Fits}
+use Rattle.dimacs.specs.declared.Header.{Header}
 use Rattle.join.specs.Join.{judge_join, join_clauses}
 
 -- what is kept of a clause
@@ -54,12 +54,12 @@ laid v cs t =
 abbrev pub accept : ℕ → ℕ → List (List ℤ) → Tables → After
 accept v n cs t = answered Loaded (loaded_state v n (any_empty cs)) (laid v cs t)
 
-abbrev pub load_by : Verdict → List (List ℤ) → Tables → State → After
-load_by (Refused r) cs t st = refuse r st t
-load_by (Fits v n _) cs t st = accept v n cs t
+abbrev pub load_by : Result Header Refusal → List (List ℤ) → Tables → State → After
+load_by (Err r) cs t st = refuse r st t
+load_by (Ok h) cs t st = accept h.v h.n cs t
 
 -- a formula of the clauses cs by its verdict: a table that is shorter than stated gets 1 before that
-abbrev pub load_formula : Verdict → List (List ℤ) → Tables → State → After
+abbrev pub load_formula : Result Header Refusal → List (List ℤ) → Tables → State → After
 load_formula verdict cs t st = elim (long_ok t) [ true ↦ load_by verdict cs t st | false ↦ refuse Shape st t ]
 
 -- the call on the tables: the text is judged, and its clauses are laid

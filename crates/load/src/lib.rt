@@ -18,7 +18,7 @@ ghost use Rattle.window.specs.Rule.{LongWindow};
 ghost use Rattle.load.specs.Load.{variable_records, filled, accept, load_by, load_formula, load_call, emptying, with_window, load_with, join_with};
 ghost use Rattle.load.specs.Laid.{written, kept_size, flag, put_clause_record, next_clause, cleared, Collectable, ClauseEnd, Layable, LayableBy, either_verdict, either_clauses, LaidBy};
 
-use dimacs::Verdict;
+use dimacs::Header;
 use state::{Answer, Outcome, Refusal, State};
 use window::{Window, Windowed};
 
@@ -188,7 +188,7 @@ fn lay(
 
 // A formula that was judged, by the numbers that were kept of it, into tables that are long enough; or its refusal, which changes nothing.
 fn lay_judged(
-    verdict: Verdict,
+    verdict: Result<Header, Refusal>,
     numbers: &[i32],
     clauses: &mut [u32],
     literals: &mut [i32],
@@ -200,16 +200,22 @@ fn lay_judged(
         ≡ load_by verdict (clauses_kept verdict numbers.now) (lent clauses.old literals.old variables.old times links) st }
 {
     match verdict {
-        Verdict::Refused(r) => Outcome {
+        Err(r) => Outcome {
             answer: Answer::Refused(r),
             state: st,
         },
-        Verdict::Fits { v, n, body: _ } => lay(numbers, v, n, clauses, literals, variables, st),
+        Ok(h) => lay(numbers, h.v, h.n, clauses, literals, variables, st),
     }
 }
 
 // The judgement of the left text alone, or of the join of both, and the clauses of a formula that fits in `numbers`.
-fn judge(left: &[u8], right: &[u8], pairs: &[u32], joined: bool, numbers: &mut [i32]) -> Verdict
+fn judge(
+    left: &[u8],
+    right: &[u8],
+    pairs: &[u32],
+    joined: bool,
+    numbers: &mut [i32],
+) -> Result<Header, Refusal>
     requires { 20480 ≤ length numbers.old }
     ensures { Judged (either_verdict joined left.now right.now pairs.now) (either_clauses joined left.now right.now pairs.now) result numbers.new }
 {
