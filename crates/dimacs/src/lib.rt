@@ -120,9 +120,9 @@ fn with_digit(n: u32, b: u8) -> u32
 
 // Some digits from an offset on: their value, or 65,535 if it is larger, and the offset after them.
 #[derive(Clone, Copy)]
-struct Digits {
-    value: u32,
-    next: usize,
+pub struct Digits {
+    pub value: u32,
+    pub next: usize,
 }
 
 fn digits_at(text: &[u8], at: usize) -> Digits

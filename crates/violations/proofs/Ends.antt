@@ -10,11 +10,13 @@ use Rattle.base.proofs.Booleans.{clash}
 use Rattle.dimacs.specs.Words.{Word}
 use Rattle.dimacs.specs.Tokens.{Meaning, bad, nought, literal, meaning}
 use Rattle.dimacs.specs.Text.{judge_end}
-use Rattle.dimacs.specs.declared.Verdict.{Verdict}
-use Rattle.dimacs.specs.declared.Verdict.TheVariants.{Refused}
 use Rattle.state.specs.declared.Refusal.TheVariants.{Grammar, Limit}
 use Rattle.violations.specs.Body.{noughts, word_at, Unfinished, EndViolation, unfinished, too_few}
 use Rattle.violations.proofs.Words.{begun_after, past_words}
+use Rattle.std.specs.Prelude.{Result, Ok, Err}
+use Rattle.dimacs.specs.declared.Header.{Header}
+use Rattle.state.specs.declared.Refusal.{Refusal}
+use Rattle.dimacs.specs.Header.{got as got_number, fitting}
 
 -- ---- a clause that has begun behind the words
 Begun : Bool → List Word → Type 0
@@ -69,10 +71,10 @@ unfinished_begun begun (w ∷ ws) (suc i) c k h m e = go (meaning w.bytes) refl 
     go (literal _ _) x ih = rw (x, begun_after) (ih true)
 
 -- ---- the judgement at the end, where no word is a violation
-pub data Ended (n : ℕ) (ws : List Word) (end : ℕ) (ok x : Verdict) : Type 0 where
+pub data Ended (n : ℕ) (ws : List Word) (end : ℕ) (ok x : Result Header Refusal) : Type 0 where
   fine : x ≡ ok → ((number : ℕ) → EndViolation n ws number → ⊥) → Ended n ws end ok x
-  grammar : x ≡ Refused (Grammar end) → EndViolation n ws 2 → Ended n ws end ok x
-  limit : x ≡ Refused (Limit end) → EndViolation n ws 3 → (EndViolation n ws 2 → ⊥) → Ended n ws end ok x
+  grammar : x ≡ Err (Grammar end) → EndViolation n ws 2 → Ended n ws end ok x
+  limit : x ≡ Err (Limit end) → EndViolation n ws 3 → (EndViolation n ws 2 → ⊥) → Ended n ws end ok x
 
 module _ (n : ℕ) (ws : List Word) (closed : begun_after false ws ≡ false) where
   not_unfinished : (number : ℕ) → EndViolation n ws number → number ≡ 3
@@ -83,7 +85,7 @@ module _ (n : ℕ) (ws : List Word) (closed : begun_after false ws ≡ false) wh
   enough e number (unfinished u) = clash (unfinished_begun false ws u.index u.negative u.magnitude u.inside u.means u.unended) closed
   enough e number (too_few h) = omega arith
 
-pub ended : (n most end : ℕ) (ws : List Word) (ok : Verdict) → Ended n ws end ok (past_words n most false ws end ok)
+pub ended : (n most end : ℕ) (ws : List Word) (ok : Result Header Refusal) → Ended n ws end ok (past_words n most false ws end ok)
 unfolding Begun
 ended n most end ws ok = go (begun_after false ws) refl (n - noughts ws) refl
   where

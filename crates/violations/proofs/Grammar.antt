@@ -11,13 +11,15 @@ use lib.Dec.{eqb}
 use borrow.Author.Tests.{eqb-true, eqb-false}
 use Rattle.base.proofs.Booleans.{clash}
 use Rattle.dimacs.specs.Words.{is_digit, span}
-use Rattle.dimacs.specs.Header.{comments, expect, line_end, p_cnf}
-use Rattle.dimacs.specs.declared.Piece.TheVariants.{Wrong, Got}
+use Rattle.dimacs.specs.Header.{comments, expect, line_end, p_cnf, got as got_number, fitting}
 use Rattle.state.specs.declared.Refusal.TheVariants.{Grammar}
 use Rattle.violations.proofs.Pieces.{numeral_of, digits_at, behind, NViolation, no_n, large_n, no_end, VViolation, no_v, large_v, no_space, of_n, PieceViolation, in_comment, no_start, of_v}
 use Rattle.violations.specs.Grammar.{Line, EachLine, commented, Digits, Numeral, EndsLine, RightHeader, FirstWrong}
 use Rattle.violations.proofs.Headers.{Read, wrong, got, comments_read, expect_read, line_end_read}
 use Rattle.violations.proofs.Wrong.{right_or_wrong, wrong_once, wrong_next, wrong_here, wrong_end, wrong_same, wrong_first, wrong_nothing}
+use Rattle.std.specs.Prelude.{Result, Ok, Err}
+use Rattle.dimacs.specs.declared.Header.{Header}
+use Rattle.state.specs.declared.Refusal.{Refusal}
 
 -- ---- what may follow, piece by piece: M is what may follow the piece
 abbrev NumberThen : (List ℕ → Type 0) → List ℕ → Type 0
@@ -97,36 +99,36 @@ module _ (M : List ℕ → Type 0) (t : List ℕ) (some : M t) where
       let e : b ∷ u ≡ p ∷ (ps ++ x.0) = x.1 in
       (cc, (x.0, cc, x.2))
 
-  expect_wrong : (ps s : List ℕ) (at o : ℕ) → expect ps s at ≡ Wrong (Grammar o) → WrongAt (BytesThen ps M) s at o
+  expect_wrong : (ps s : List ℕ) (at o : ℕ) → expect ps s at ≡ Err (Grammar o) → WrongAt (BytesThen ps M) s at o
   expect_wrong [] s at o e = absurd (let z : ◌≡◌ {A = ℕ} 0 1 = cc in omega arith)
   expect_wrong (p ∷ ps) [] at o e =
       let q : at ≡ o = cc in
       (0, omega arith, wrong_nothing (BytesThen (p ∷ ps) M) ((p ∷ ps) ++ t) (t, refl, some) (λ x. let y : [] ≡ p ∷ (ps ++ x.0) = x.1 in let z : ◌≡◌ {A = ℕ} 0 1 = cc in omega arith))
   expect_wrong (p ∷ ps) (b ∷ s) at o e = go (eqb b p) refl (expect_wrong ps s (suc at) o)
     where
-      go : (u : Bool) → eqb b p ≡ u → (expect ps s (suc at) ≡ Wrong (Grammar o) → WrongAt (BytesThen ps M) s (suc at) o) → WrongAt (BytesThen (p ∷ ps) M) (b ∷ s) at o
+      go : (u : Bool) → eqb b p ≡ u → (expect ps s (suc at) ≡ Err (Grammar o) → WrongAt (BytesThen ps M) s (suc at) o) → WrongAt (BytesThen (p ∷ ps) M) (b ∷ s) at o
       go true q ih =
           let d : b ≡ p = eqb-true b p q in
           wrong_further (BytesThen (p ∷ ps) M) (BytesThen ps M) b (λ u x. subst (λ (c : ℕ). BytesThen (p ∷ ps) M (c ∷ u)) (sym d) (bytes_into p ps u x)) (λ u x. (bytes_back b p ps u x).1) s at o
           (ih (rw (q, expect) at e))
       go false q ih =
-          let y : Wrong (Grammar at) ≡ Wrong (Grammar o) = rw (q, expect) at e in
+          let y = rw (q, expect) at e in
           let d : at ≡ o = cc in
           (0, omega arith, wrong_first (BytesThen (p ∷ ps) M) b s ((p ∷ ps) ++ t) (t, refl, some) (λ u x. eqb-false b p q (bytes_back b p ps u x).0))
 
-  expect_reaches : (ps s : List ℕ) (at next : ℕ) → expect ps s at ≡ Got 0 next → Reaches (BytesThen ps M) s at M next
+  expect_reaches : (ps s : List ℕ) (at next : ℕ) → expect ps s at ≡ Ok next → Reaches (BytesThen ps M) s at M next
   expect_reaches [] s at next e =
       stays (BytesThen [] M) M (λ u m. (u, refl, m)) s (λ x. subst M (sym x.1) x.2) (λ b u v _ x. subst M (sym x.1) x.2) at next (cc)
   expect_reaches (p ∷ ps) [] at next e = absurd (let z : ◌≡◌ {A = ℕ} 0 1 = cc in omega arith)
   expect_reaches (p ∷ ps) (b ∷ s) at next e = go (eqb b p) refl (expect_reaches ps s (suc at) next)
     where
-      go : (u : Bool) → eqb b p ≡ u → (expect ps s (suc at) ≡ Got 0 next → Reaches (BytesThen ps M) s (suc at) M next) → Reaches (BytesThen (p ∷ ps) M) (b ∷ s) at M next
+      go : (u : Bool) → eqb b p ≡ u → (expect ps s (suc at) ≡ Ok next → Reaches (BytesThen ps M) s (suc at) M next) → Reaches (BytesThen (p ∷ ps) M) (b ∷ s) at M next
       go true q ih =
           let d : b ≡ p = eqb-true b p q in
           reaches_further (BytesThen (p ∷ ps) M) (BytesThen ps M) b (λ u x. subst (λ (c : ℕ). BytesThen (p ∷ ps) M (c ∷ u)) (sym d) (bytes_into p ps u x)) (λ u x. (bytes_back b p ps u x).1) s at M next
           (ih (rw (q, expect) at e))
       go false q ih =
-          let y : Wrong (Grammar at) ≡ Got 0 next = rw (q, expect) at e in
+          let y = rw (q, expect) at e in
           absurd (let z : ◌≡◌ {A = ℕ} 0 1 = cc in omega arith)
 
 -- ---- a number, where no digit may follow it
@@ -310,15 +312,15 @@ inside_end : (l r : List ℕ) → [] ≡ l ++ (10 ∷ r) → ⊥
 inside_end [] r e = let z : ◌≡◌ {A = ℕ} 0 1 = cc in omega arith
 inside_end (c ∷ l) r e = let z : ◌≡◌ {A = ℕ} 0 1 = cc in omega arith
 
-comments_wrong : (inside : Bool) (s : List ℕ) (at o : ℕ) → comments inside s at ≡ Wrong (Grammar o) → WrongAt (FromComment inside) s at o
+comments_wrong : (inside : Bool) (s : List ℕ) (at o : ℕ) → comments inside s at ≡ Err (Grammar o) → WrongAt (FromComment inside) s at o
 comments_wrong true [] at o e =
     let q : at ≡ o = cc in
     (0, omega arith, wrong_nothing (FromComment true) _ (over_into _ some_line) (λ x. inside_end x.0 x.1 x.3))
 comments_wrong false [] at o e = absurd (let z : ◌≡◌ {A = ℕ} 0 1 = cc in omega arith)
 comments_wrong true (b ∷ s) at o e = go (eqb b 10) refl (comments_wrong false s (suc at) o) (comments_wrong true s (suc at) o)
   where
-    go : (t : Bool) → eqb b 10 ≡ t → (comments false s (suc at) ≡ Wrong (Grammar o) → WrongAt FromLine s (suc at) o)
-        → (comments true s (suc at) ≡ Wrong (Grammar o) → WrongAt (FromComment true) s (suc at) o) → WrongAt (FromComment true) (b ∷ s) at o
+    go : (t : Bool) → eqb b 10 ≡ t → (comments false s (suc at) ≡ Err (Grammar o) → WrongAt FromLine s (suc at) o)
+        → (comments true s (suc at) ≡ Err (Grammar o) → WrongAt (FromComment true) s (suc at) o) → WrongAt (FromComment true) (b ∷ s) at o
     go true t f g =
         let q : b ≡ 10 = eqb-true b 10 t in
         wrong_further (FromComment true) FromLine b (λ u x. subst (λ (c : ℕ). FromComment true (c ∷ u)) (sym q) (over_into u x))
@@ -328,21 +330,21 @@ comments_wrong true (b ∷ s) at o e = go (eqb b 10) refl (comments_wrong false 
         wrong_further (FromComment true) (FromComment true) b (inside_into b q) (λ u x. inside_back b q u x.0 x.1 x.2 x.3 x.4) s at o (g (rw (t, comments) at e))
 comments_wrong false (b ∷ s) at o e = go (eqb b 99) refl (comments_wrong true s (suc at) o)
   where
-    go : (t : Bool) → eqb b 99 ≡ t → (comments true s (suc at) ≡ Wrong (Grammar o) → WrongAt (FromComment true) s (suc at) o) → WrongAt FromLine (b ∷ s) at o
+    go : (t : Bool) → eqb b 99 ≡ t → (comments true s (suc at) ≡ Err (Grammar o) → WrongAt (FromComment true) s (suc at) o) → WrongAt FromLine (b ∷ s) at o
     go true t f =
         let q : b ≡ 99 = eqb-true b 99 t in
         wrong_further FromLine (FromComment true) b (λ u x. subst (λ (c : ℕ). FromLine (c ∷ u)) (sym q) (comment_into u x))
         (λ u x. comment_back u x.0 x.1 x.2 (subst (λ (c : ℕ). c ∷ u ≡ commented x.0 x.1) q x.3) x.4) s at o (f (rw (t, comments) at e))
-    go false t f = absurd (let y : Got 0 at ≡ Wrong (Grammar o) = rw (t, comments) at e in let z : ◌≡◌ {A = ℕ} 0 1 = cc in omega arith)
+    go false t f = absurd (let y = rw (t, comments) at e in let z : ◌≡◌ {A = ℕ} 0 1 = cc in omega arith)
 
-comments_reach : (inside : Bool) (s : List ℕ) (at next : ℕ) → comments inside s at ≡ Got 0 next → Reaches (FromComment inside) s at FromP next
+comments_reach : (inside : Bool) (s : List ℕ) (at next : ℕ) → comments inside s at ≡ Ok next → Reaches (FromComment inside) s at FromP next
 comments_reach true [] at next e = absurd (let z : ◌≡◌ {A = ℕ} 0 1 = cc in omega arith)
 comments_reach false [] at next e =
     stays FromLine FromP line_into [] (λ x. line_end_lem x.0 x.1 x.3 x.4) (λ b u v d. absurd (let z : ◌≡◌ {A = ℕ} 0 1 = cc in omega arith)) at next (cc)
 comments_reach true (b ∷ s) at next e = go (eqb b 10) refl (comments_reach false s (suc at) next) (comments_reach true s (suc at) next)
   where
-    go : (t : Bool) → eqb b 10 ≡ t → (comments false s (suc at) ≡ Got 0 next → Reaches FromLine s (suc at) FromP next)
-        → (comments true s (suc at) ≡ Got 0 next → Reaches (FromComment true) s (suc at) FromP next) → Reaches (FromComment true) (b ∷ s) at FromP next
+    go : (t : Bool) → eqb b 10 ≡ t → (comments false s (suc at) ≡ Ok next → Reaches FromLine s (suc at) FromP next)
+        → (comments true s (suc at) ≡ Ok next → Reaches (FromComment true) s (suc at) FromP next) → Reaches (FromComment true) (b ∷ s) at FromP next
     go true t f g =
         let q : b ≡ 10 = eqb-true b 10 t in
         reaches_further (FromComment true) FromLine b (λ u x. subst (λ (c : ℕ). FromComment true (c ∷ u)) (sym q) (over_into u x))
@@ -352,37 +354,37 @@ comments_reach true (b ∷ s) at next e = go (eqb b 10) refl (comments_reach fal
         reaches_further (FromComment true) (FromComment true) b (inside_into b q) (λ u x. inside_back b q u x.0 x.1 x.2 x.3 x.4) s at FromP next (g (rw (t, comments) at e))
 comments_reach false (b ∷ s) at next e = go (eqb b 99) refl (comments_reach true s (suc at) next)
   where
-    go : (t : Bool) → eqb b 99 ≡ t → (comments true s (suc at) ≡ Got 0 next → Reaches (FromComment true) s (suc at) FromP next) → Reaches FromLine (b ∷ s) at FromP next
+    go : (t : Bool) → eqb b 99 ≡ t → (comments true s (suc at) ≡ Ok next → Reaches (FromComment true) s (suc at) FromP next) → Reaches FromLine (b ∷ s) at FromP next
     go true t f =
         let q : b ≡ 99 = eqb-true b 99 t in
         reaches_further FromLine (FromComment true) b (λ u x. subst (λ (c : ℕ). FromLine (c ∷ u)) (sym q) (comment_into u x))
         (λ u x. comment_back u x.0 x.1 x.2 (subst (λ (c : ℕ). c ∷ u ≡ commented x.0 x.1) q x.3) x.4) s at FromP next (f (rw (t, comments) at e))
     go false t f =
-        let y : Got 0 at ≡ Got 0 next = rw (t, comments) at e in
+        let y = rw (t, comments) at e in
         stays FromLine FromP line_into (b ∷ s) (λ x. line_end_lem x.0 x.1 x.3 x.4)
         (λ c u v d x. let w : b ≡ c = cc in line_back c v (λ z. eqb-false b 99 t (w ∙ z)) x.0 x.1 x.3 x.4) at next (cc)
 
 -- ---- the line's end
-line_end_wrong : (s : List ℕ) (at o : ℕ) → line_end s at ≡ Wrong (Grammar o) → WrongAt EndsLine s at o
+line_end_wrong : (s : List ℕ) (at o : ℕ) → line_end s at ≡ Err (Grammar o) → WrongAt EndsLine s at o
 unfolding EndsLine
 line_end_wrong [] at o e = absurd (let z : ◌≡◌ {A = ℕ} 0 1 = cc in omega arith)
 line_end_wrong (b ∷ s) at o e = go (eqb b 10) refl
   where
     go : (t : Bool) → eqb b 10 ≡ t → WrongAt EndsLine (b ∷ s) at o
-    go true t = absurd (let y : Got 0 (at + 1) ≡ Wrong (Grammar o) = rw (t, line_end) at e in let z : ◌≡◌ {A = ℕ} 0 1 = cc in omega arith)
+    go true t = absurd (let y = rw (t, line_end) at e in let z : ◌≡◌ {A = ℕ} 0 1 = cc in omega arith)
     go false t =
-        let y : Wrong (Grammar at) ≡ Wrong (Grammar o) = rw (t, line_end) at e in
+        let y = rw (t, line_end) at e in
         let q : at ≡ o = cc in
         (0, omega arith, wrong_first EndsLine b s [] some_end (λ u x. eqb-false b 10 t x))
 
-line_end_right : (s : List ℕ) (at next : ℕ) → line_end s at ≡ Got 0 next → EndsLine s
+line_end_right : (s : List ℕ) (at next : ℕ) → line_end s at ≡ Ok next → EndsLine s
 unfolding EndsLine
 line_end_right [] at next e = tt
 line_end_right (b ∷ s) at next e = go (eqb b 10) refl
   where
     go : (t : Bool) → eqb b 10 ≡ t → EndsLine (b ∷ s)
     go true t = eqb-true b 10 t
-    go false t = absurd (let y : Wrong (Grammar at) ≡ Got 0 next = rw (t, line_end) at e in let z : ◌≡◌ {A = ℕ} 0 1 = cc in omega arith)
+    go false t = absurd (let y = rw (t, line_end) at e in let z : ◌≡◌ {A = ℕ} 0 1 = cc in omega arith)
 
 -- ---- the pieces one after the other, at offsets of the text
 module _ (text : List ℕ) where
@@ -455,7 +457,7 @@ module _ (text : List ℕ) where
   header_grammar : ((o : ℕ) × PieceViolation text 2 o) ⊎ FromLine text
   header_grammar = go (comments_read false text 0)
     where
-      start : (line : ℕ) → comments false text 0 ≡ Got 0 line → Read line (expect p_cnf (drop line text) line) → ((o : ℕ) × PieceViolation text 2 o) ⊎ FromLine text
+      start : (line : ℕ) → comments false text 0 ≡ Ok line → Read line (expect p_cnf (drop line text) line) → ((o : ℕ) × PieceViolation text 2 o) ⊎ FromLine text
       start line c (wrong o l e) = inl (o, no_start line o c e)
       start line c (got at l e) = ⊎_elim
           (λ x. inl (x.0, of_v line at 2 x.0 c e x.1))

@@ -9,15 +9,17 @@ use lib.Dec.{eqb}
 use borrow.Author.Tests.{eqb-true, eq-eqb}
 use Rattle.dimacs.specs.Words.{is_digit}
 use Rattle.dimacs.specs.Tokens.{decimal}
-use Rattle.dimacs.specs.Header.{comments, expect, number, line_end, and_then, p_cnf, header, header_rest}
-use Rattle.dimacs.specs.declared.Piece.{Piece}
-use Rattle.dimacs.specs.declared.Piece.TheVariants.{Wrong, Got}
-use Rattle.dimacs.specs.declared.Header.TheVariants.{NoHeader, Fields}
+use Rattle.dimacs.specs.Header.{comments, expect, number, line_end, and_then, p_cnf, header, header_rest, got as got_number, fitting}
 use Rattle.state.specs.declared.Refusal.TheVariants.{Grammar, Limit}
 use Rattle.violations.specs.Grammar.{commented, EndsLine, NoDigit, Headed}
 use Rattle.violations.proofs.Pieces.{numeral_of, digits_at, behind}
 use Rattle.violations.proofs.Headers.{Read, wrong, got, comments_read, expect_read, line_end_read, Number, none, large, value, number_read}
 use Rattle.violations.proofs.Limits.{lines_length, lines_length_lem, bytes_read, bytes_were, number_read as numeral_read, number_was, behind_bytes, numeral_some, v_found, v_at, v_line, v_start, v_behind, v_place}
+use Rattle.std.specs.Prelude.{Result, Ok, Err}
+use Rattle.dimacs.specs.declared.Header.{Header}
+use Rattle.dimacs.specs.declared.Digits.{Digits}
+use Rattle.dimacs.proofs.Judge.{fitting_is}
+use Rattle.state.specs.declared.Refusal.{Refusal}
 
 -- ---- the line's end
 end_no_digit : (s : List ℕ) → EndsLine s → NoDigit s
@@ -25,86 +27,85 @@ unfolding EndsLine NoDigit
 end_no_digit [] e = tt
 end_no_digit (b ∷ s) e = subst (λ (c : ℕ). is_digit c ≡ false) (sym e) refl
 
-end_read : (s : List ℕ) (at body : ℕ) → EndsLine s → body + length (drop 1 s) ≡ at + length s → line_end s at ≡ Got 0 body
+end_read : (s : List ℕ) (at body : ℕ) → EndsLine s → body + length (drop 1 s) ≡ at + length s → line_end s at ≡ Ok body
 unfolding EndsLine
-end_read [] at body e q = let p : at ≡ body = omega arith in ap (Got 0) p
-end_read (b ∷ s) at body e q = let p : at + 1 ≡ body = omega arith in rw (eq-eqb b 10 e, line_end) (ap (Got 0) p)
+end_read [] at body e q = let p : at ≡ body = omega arith in ap (λ (i : ℕ). Ok i) p
+end_read (b ∷ s) at body e q = let p : at + 1 ≡ body = omega arith in rw (eq-eqb b 10 e, line_end) (ap (λ (i : ℕ). Ok i) p)
 
-end_was : (s : List ℕ) (at body : ℕ) → line_end s at ≡ Got 0 body → EndsLine s × (body + length (drop 1 s) ≡ at + length s)
+end_was : (s : List ℕ) (at body : ℕ) → line_end s at ≡ Ok body → EndsLine s × (body + length (drop 1 s) ≡ at + length s)
 unfolding EndsLine
 end_was [] at body e = let q : at ≡ body = cc in (tt, omega arith)
 end_was (b ∷ s) at body e = go (eqb b 10) refl
   where
     go : (t : Bool) → eqb b 10 ≡ t → EndsLine (b ∷ s) × (body + length (drop 1 (b ∷ s)) ≡ at + length (b ∷ s))
     go true t =
-        let y : Got 0 (at + 1) ≡ Got 0 body = rw (t, line_end) at e in
+        let y = rw (t, line_end) at e in
         let q : at + 1 ≡ body = cc in
         (eqb-true b 10 t, omega arith)
-    go false t = absurd (let y : Wrong (Grammar at) ≡ Got 0 body = rw (t, line_end) at e in let z : ◌≡◌ {A = ℕ} 0 1 = cc in omega arith)
+    go false t = absurd (let y = rw (t, line_end) at e in let z : ◌≡◌ {A = ℕ} 0 1 = cc in omega arith)
 
 -- ---- a number within its limit
-number_got : (limit : ℕ) (s ds : List ℕ) (at : ℕ) → numeral_of s ≡ ds → 0 < length ds → decimal ds ≤ limit → number limit s at ≡ Got (decimal ds) (at + length ds)
+number_got : (limit : ℕ) (s ds : List ℕ) (at : ℕ) → numeral_of s ≡ ds → 0 < length ds → decimal ds ≤ limit → number limit s at ≡ got_number (decimal ds) (at + length ds)
 number_got limit s ds at e h small = go (number limit s at) (number_read limit s at)
   where
-    go : (p : Piece) → Number limit s at p → p ≡ Got (decimal ds) (at + length ds)
+    go : (p : Result Digits Refusal) → Number limit s at p → p ≡ got_number (decimal ds) (at + length ds)
     go p (none q z) = absurd (let y : length ds ≡ 0 = ap length (sym e ∙ z) in omega arith)
     go p (large q some over) = absurd (let y : decimal (numeral_of s) ≡ decimal ds = ap decimal e in omega arith)
-    go p (value q some within) = q ∙ ap (λ (u : List ℕ). Got (decimal u) (at + length u)) e
+    go p (value q some within) = q ∙ ap (λ (u : List ℕ). got_number (decimal u) (at + length u)) e
 
 -- ---- what the pieces read
 record Pieces (text : List ℕ) (v n body : ℕ) : Type 0 where
   line : ℕ
   at : ℕ
   next : ℕ
-  lines : comments false text 0 ≡ Got 0 line
-  start : expect p_cnf (drop line text) line ≡ Got 0 at
+  lines : comments false text 0 ≡ Ok line
+  start : expect p_cnf (drop line text) line ≡ Ok at
   some_v : 0 < length (digits_at text at)
   is_v : decimal (digits_at text at) ≡ v
   limit_v : v ≤ 1024
-  space : expect (32 ∷ []) (drop (behind text at) text) (behind text at) ≡ Got 0 next
+  space : expect (32 ∷ []) (drop (behind text at) text) (behind text at) ≡ Ok next
   some_n : 0 < length (digits_at text next)
   is_n : decimal (digits_at text next) ≡ n
   limit_n : n ≤ 4096
-  end : line_end (drop (behind text next) text) (behind text next) ≡ Got 0 body
+  end : line_end (drop (behind text next) text) (behind text next) ≡ Ok body
 
-pieces_fields : (text : List ℕ) (v n body : ℕ) → Pieces text v n body → header text ≡ Fields v n body
+pieces_fields : (text : List ℕ) (v n body : ℕ) → Pieces text v n body → header text ≡ fitting v n body
 unfolding header header_rest
 pieces_fields text v n body P =
-    let a : number 1024 (drop P.at text) P.at ≡ Got v (behind text P.at) =
-    number_got 1024 (drop P.at text) (digits_at text P.at) P.at refl P.some_v (omega (arith, P.is_v, P.limit_v)) ∙ ap (λ (i : ℕ). Got i (behind text P.at)) P.is_v in
-    let b : number 4096 (drop P.next text) P.next ≡ Got n (behind text P.next) =
-    number_got 4096 (drop P.next text) (digits_at text P.next) P.next refl P.some_n (omega (arith, P.is_n, P.limit_n)) ∙ ap (λ (i : ℕ). Got i (behind text P.next)) P.is_n in
+    let a : number 1024 (drop P.at text) P.at ≡ got_number v (behind text P.at) =
+    number_got 1024 (drop P.at text) (digits_at text P.at) P.at refl P.some_v (omega (arith, P.is_v, P.limit_v)) ∙ ap (λ (i : ℕ). got_number i (behind text P.at)) P.is_v in
+    let b : number 4096 (drop P.next text) P.next ≡ got_number n (behind text P.next) =
+    number_got 4096 (drop P.next text) (digits_at text P.next) P.next refl P.some_n (omega (arith, P.is_n, P.limit_n)) ∙ ap (λ (i : ℕ). got_number i (behind text P.next)) P.is_n in
     rw (P.lines, P.start, a, P.space, b, P.end)
 
 module _ (text : List ℕ) (v n body : ℕ) where
-  n_fields : (w at : ℕ) → and_then (number 4096 (drop at text) at) (λ m at. and_then (line_end (drop at text) at) (λ _ at. Fields w m at)) ≡ Fields v n body
-      → (w ≡ v) × (0 < length (digits_at text at)) × (decimal (digits_at text at) ≡ n) × (n ≤ 4096) × (line_end (drop (behind text at) text) (behind text at) ≡ Got 0 body)
+  n_fields : (w at : ℕ) → and_then (number 4096 (drop at text) at) (λ m. and_then (line_end (drop m.next text) m.next) (λ at. fitting w m.value at)) ≡ fitting v n body
+      → (w ≡ v) × (0 < length (digits_at text at)) × (decimal (digits_at text at) ≡ n) × (n ≤ 4096) × (line_end (drop (behind text at) text) (behind text at) ≡ Ok body)
   n_fields w at e = go (number 4096 (drop at text) at) (number_read 4096 (drop at text) at) e
     where
-      line : (m : ℕ) (p : Piece) → line_end (drop (behind text at) text) (behind text at) ≡ p → Read (behind text at) p → and_then p (λ _ at. Fields w m at) ≡ Fields v n body
-          → (w ≡ v) × (m ≡ n) × (line_end (drop (behind text at) text) (behind text at) ≡ Got 0 body)
-      line m p q (wrong o l r) e = absurd (let y : NoHeader (Grammar o) ≡ Fields v n body = rw r at e in let z : ◌≡◌ {A = ℕ} 0 1 = cc in omega arith)
+      line : (m : ℕ) (p : Result ℕ Refusal) → line_end (drop (behind text at) text) (behind text at) ≡ p → Read (behind text at) p → and_then p (λ at. fitting w m at) ≡ fitting v n body
+          → (w ≡ v) × (m ≡ n) × (line_end (drop (behind text at) text) (behind text at) ≡ Ok body)
+      line m p q (wrong o l r) e = absurd (let y = rw r at e in let z : ◌≡◌ {A = ℕ} 0 1 = cc in omega arith)
       line m p q (got o l r) e =
-          let y : Fields w m o ≡ Fields v n body = rw r at e in
-          let z : o ≡ body = cc in
-          (cc, cc, q ∙ r ∙ ap (Got 0) z)
+          let y = fitting_is (rw r at e) in
+          (y.0, y.1.0, q ∙ r ∙ ap (λ (i : ℕ). Ok i) y.1.1)
 
-      go : (p : Piece) → Number 4096 (drop at text) at p → and_then p (λ m at. and_then (line_end (drop at text) at) (λ _ at. Fields w m at)) ≡ Fields v n body
-          → (w ≡ v) × (0 < length (digits_at text at)) × (decimal (digits_at text at) ≡ n) × (n ≤ 4096) × (line_end (drop (behind text at) text) (behind text at) ≡ Got 0 body)
-      go p (none q z) e = absurd (let y : NoHeader (Grammar at) ≡ Fields v n body = rw q at e in let z : ◌≡◌ {A = ℕ} 0 1 = cc in omega arith)
-      go p (large q some over) e = absurd (let y : NoHeader (Limit at) ≡ Fields v n body = rw q at e in let z : ◌≡◌ {A = ℕ} 0 1 = cc in omega arith)
+      go : (p : Result Digits Refusal) → Number 4096 (drop at text) at p → and_then p (λ m. and_then (line_end (drop m.next text) m.next) (λ at. fitting w m.value at)) ≡ fitting v n body
+          → (w ≡ v) × (0 < length (digits_at text at)) × (decimal (digits_at text at) ≡ n) × (n ≤ 4096) × (line_end (drop (behind text at) text) (behind text at) ≡ Ok body)
+      go p (none q z) e = absurd (let y = rw q at e in let z : ◌≡◌ {A = ℕ} 0 1 = cc in omega arith)
+      go p (large q some over) e = absurd (let y = rw q at e in let z : ◌≡◌ {A = ℕ} 0 1 = cc in omega arith)
       go p (value q some small) e =
           let x = line (decimal (digits_at text at)) (line_end (drop (behind text at) text) (behind text at)) refl (line_end_read (drop (behind text at) text) (behind text at)) (rw q at e) in
           (x.0, some, x.1, omega (arith, x.1), x.2)
 
-  fields_pieces : header text ≡ Fields v n body → Pieces text v n body
+  fields_pieces : header text ≡ fitting v n body → Pieces text v n body
   unfolding header header_rest
   fields_pieces e = first (comments false text 0) refl (comments_read false text 0) e
     where
-      space : (line at : ℕ) → comments false text 0 ≡ Got 0 line → expect p_cnf (drop line text) line ≡ Got 0 at → 0 < length (digits_at text at) → (w : ℕ) → decimal (digits_at text at) ≡ w → w ≤ 1024
-          → (p : Piece) → expect (32 ∷ []) (drop (behind text at) text) (behind text at) ≡ p → Read (behind text at) p
-          → and_then p (λ _ at. and_then (number 4096 (drop at text) at) (λ m at. and_then (line_end (drop at text) at) (λ _ at. Fields w m at))) ≡ Fields v n body → Pieces text v n body
-      space line at c s some w d small p q (wrong o l r) e = absurd (let y : NoHeader (Grammar o) ≡ Fields v n body = rw r at e in let z : ◌≡◌ {A = ℕ} 0 1 = cc in omega arith)
+      space : (line at : ℕ) → comments false text 0 ≡ Ok line → expect p_cnf (drop line text) line ≡ Ok at → 0 < length (digits_at text at) → (w : ℕ) → decimal (digits_at text at) ≡ w → w ≤ 1024
+          → (p : Result ℕ Refusal) → expect (32 ∷ []) (drop (behind text at) text) (behind text at) ≡ p → Read (behind text at) p
+          → and_then p (λ at. and_then (number 4096 (drop at text) at) (λ m. and_then (line_end (drop m.next text) m.next) (λ at. fitting w m.value at))) ≡ fitting v n body → Pieces text v n body
+      space line at c s some w d small p q (wrong o l r) e = absurd (let y = rw r at e in let z : ◌≡◌ {A = ℕ} 0 1 = cc in omega arith)
       space line at c s some w d small p q (got next l r) e =
           let x = n_fields w next (rw r at e) in
           record {
@@ -123,22 +124,22 @@ module _ (text : List ℕ) (v n body : ℕ) where
             end = x.4;
           }
 
-      value_v : (line at : ℕ) → comments false text 0 ≡ Got 0 line → expect p_cnf (drop line text) line ≡ Got 0 at → (p : Piece) → Number 1024 (drop at text) at p
-          → and_then p (λ v at. header_rest v text at) ≡ Fields v n body → Pieces text v n body
-      value_v line at c s p (none q z) e = absurd (let y : NoHeader (Grammar at) ≡ Fields v n body = rw q at e in let z : ◌≡◌ {A = ℕ} 0 1 = cc in omega arith)
-      value_v line at c s p (large q some over) e = absurd (let y : NoHeader (Limit at) ≡ Fields v n body = rw q at e in let z : ◌≡◌ {A = ℕ} 0 1 = cc in omega arith)
+      value_v : (line at : ℕ) → comments false text 0 ≡ Ok line → expect p_cnf (drop line text) line ≡ Ok at → (p : Result Digits Refusal) → Number 1024 (drop at text) at p
+          → and_then p (λ v. header_rest v.value text v.next) ≡ fitting v n body → Pieces text v n body
+      value_v line at c s p (none q z) e = absurd (let y = rw q at e in let z : ◌≡◌ {A = ℕ} 0 1 = cc in omega arith)
+      value_v line at c s p (large q some over) e = absurd (let y = rw q at e in let z : ◌≡◌ {A = ℕ} 0 1 = cc in omega arith)
       value_v line at c s p (value q some small) e =
           space line at c s some (decimal (digits_at text at)) refl small (expect (32 ∷ []) (drop (behind text at) text) (behind text at)) refl
           (expect_read (32 ∷ []) (drop (behind text at) text) (behind text at)) (rw q at e)
 
-      start : (line : ℕ) → comments false text 0 ≡ Got 0 line → (p : Piece) → expect p_cnf (drop line text) line ≡ p → Read line p
-          → and_then p (λ _ at. and_then (number 1024 (drop at text) at) (λ v at. header_rest v text at)) ≡ Fields v n body → Pieces text v n body
-      start line c p q (wrong o l r) e = absurd (let y : NoHeader (Grammar o) ≡ Fields v n body = rw r at e in let z : ◌≡◌ {A = ℕ} 0 1 = cc in omega arith)
+      start : (line : ℕ) → comments false text 0 ≡ Ok line → (p : Result ℕ Refusal) → expect p_cnf (drop line text) line ≡ p → Read line p
+          → and_then p (λ at. and_then (number 1024 (drop at text) at) (λ v. header_rest v.value text v.next)) ≡ fitting v n body → Pieces text v n body
+      start line c p q (wrong o l r) e = absurd (let y = rw r at e in let z : ◌≡◌ {A = ℕ} 0 1 = cc in omega arith)
       start line c p q (got at l r) e = value_v line at c (q ∙ r) (number 1024 (drop at text) at) (number_read 1024 (drop at text) at) (rw r at e)
 
-      first : (p : Piece) → comments false text 0 ≡ p → Read 0 p
-          → and_then p (λ _ at. and_then (expect p_cnf (drop at text) at) (λ _ at. and_then (number 1024 (drop at text) at) (λ v at. header_rest v text at))) ≡ Fields v n body → Pieces text v n body
-      first p q (wrong o l r) e = absurd (let y : NoHeader (Grammar o) ≡ Fields v n body = rw r at e in let z : ◌≡◌ {A = ℕ} 0 1 = cc in omega arith)
+      first : (p : Result ℕ Refusal) → comments false text 0 ≡ p → Read 0 p
+          → and_then p (λ at. and_then (expect p_cnf (drop at text) at) (λ at. and_then (number 1024 (drop at text) at) (λ v. header_rest v.value text v.next))) ≡ fitting v n body → Pieces text v n body
+      first p q (wrong o l r) e = absurd (let y = rw r at e in let z : ◌≡◌ {A = ℕ} 0 1 = cc in omega arith)
       first p q (got line l r) e = start line (q ∙ r) (expect p_cnf (drop line text) line) refl (expect_read p_cnf (drop line text) line) (rw r at e)
 
 -- ---- the pieces and the grammar
@@ -188,7 +189,7 @@ headed_pieces text v n body H =
     let b : behind text at ≡ at + length R.v = ap (λ (u : List ℕ). at + length u) d in
     let s : drop (behind text at) text ≡ 32 ∷ y = ap (λ (i : ℕ). drop i text) b ∙ behind_bytes text R.v (32 ∷ y) at here in
     let next : ℕ = behind text at + 1 in
-    let g : expect (32 ∷ []) (drop (behind text at) text) (behind text at) ≡ Got 0 next = ap (λ (u : List ℕ). expect (32 ∷ []) u (behind text at)) s ∙ bytes_read (32 ∷ []) y (behind text at) in
+    let g : expect (32 ∷ []) (drop (behind text at) text) (behind text at) ≡ Ok next = ap (λ (u : List ℕ). expect (32 ∷ []) u (behind text at)) s ∙ bytes_read (32 ∷ []) y (behind text at) in
     let there : drop next text ≡ y = behind_bytes text (32 ∷ []) y (behind text at) s in
     let m : digits_at text next ≡ R.n = ap numeral_of there ∙ numeral_read R.n R.rest R.numeral_n (end_no_digit R.rest R.ended) in
     let c : behind text next ≡ next + length R.n = ap (λ (u : List ℕ). next + length u) m in
@@ -223,8 +224,8 @@ headed_pieces text v n body H =
     }
 
 -- the header is right exactly if it is read so
-pub headed_fields : (text : List ℕ) (v n body : ℕ) → Headed text v n body → header text ≡ Fields v n body
+pub headed_fields : (text : List ℕ) (v n body : ℕ) → Headed text v n body → header text ≡ fitting v n body
 headed_fields text v n body H = pieces_fields text v n body (headed_pieces text v n body H)
 
-pub fields_headed : (text : List ℕ) (v n body : ℕ) → header text ≡ Fields v n body → Headed text v n body
+pub fields_headed : (text : List ℕ) (v n body : ℕ) → header text ≡ fitting v n body → Headed text v n body
 fields_headed text v n body e = pieces_headed text v n body (fields_pieces text v n body e)

@@ -11,14 +11,16 @@ use lib.Dec.{eqb}
 use borrow.Author.Tests.{eqb-true, eqb-false, eq-eqb, ne_eqb}
 use Rattle.dimacs.specs.Words.{is_digit, span}
 use Rattle.dimacs.specs.Tokens.{decimal}
-use Rattle.dimacs.specs.Header.{comments, expect, p_cnf, header}
-use Rattle.dimacs.specs.declared.Piece.TheVariants.{Wrong, Got}
+use Rattle.dimacs.specs.Header.{comments, expect, p_cnf, header, got as got_number, fitting}
 use Rattle.state.specs.Answers.{refusal_number, refusal_place}
 use Rattle.state.specs.declared.Refusal.TheVariants.{Grammar}
 use Rattle.violations.specs.Grammar.{Line, EachLine, commented, Digits, Numeral, NoDigit, VStands, NStands, HeaderViolation, wrong_byte, large_v, large_n}
 use Rattle.violations.proofs.Pieces.{numeral_of, digits_at, behind, NViolation, no_n, large_n as over-n, no_end, VViolation, no_v, large_v as over-v, no_space, of_n, PieceViolation, in_comment, no_start, of_v}
 use Rattle.violations.proofs.Headers.{Header-read, refused, right, header_read}
 use Rattle.violations.proofs.Grammar.{piece_wrong, wrong_piece}
+use Rattle.std.specs.Prelude.{Result, Ok, Err}
+use Rattle.dimacs.specs.declared.Header.{Header}
+use Rattle.state.specs.declared.Refusal.{Refusal}
 
 -- ---- comment lines
 -- how many bytes they are
@@ -44,25 +46,25 @@ inside_read (b ∷ l) s at n =
     let q : suc at + length l + 1 ≡ at + suc (length l) + 1 = omega arith in
     ap (λ (t : Bool). comments (not t) (l ++ (10 ∷ s)) (suc at)) (ne_eqb b 10 n.0) ∙ inside_read l s (suc at) n.1 ∙ ap (comments false s) q
 
-lines_read : (ls : List (List ℕ)) (b : ℕ) (s : List ℕ) (at : ℕ) → EachLine ls → (b ≡ 99 → ⊥) → comments false (commented ls (b ∷ s)) at ≡ Got 0 (at + lines_length ls)
+lines_read : (ls : List (List ℕ)) (b : ℕ) (s : List ℕ) (at : ℕ) → EachLine ls → (b ≡ 99 → ⊥) → comments false (commented ls (b ∷ s)) at ≡ Ok (at + lines_length ls)
 unfolding EachLine commented
-lines_read [] b s at n f = let q : at ≡ at + 0 = omega arith in rw (ne_eqb b 99 f, comments) (ap (Got 0) q)
+lines_read [] b s at n f = let q : at ≡ at + 0 = omega arith in rw (ne_eqb b 99 f, comments) (ap (λ (i : ℕ). Ok i) q)
 lines_read (l ∷ ls) b s at n f =
     let q : suc at + length l + 1 + lines_length ls ≡ at + lines_length (l ∷ ls) = omega (arith, length-append l (10 ∷ commented ls [])) in
-    inside_read l (commented ls (b ∷ s)) (suc at) n.0 ∙ lines_read ls b s (suc at + length l + 1) n.1 f ∙ ap (Got 0) q
+    inside_read l (commented ls (b ∷ s)) (suc at) n.0 ∙ lines_read ls b s (suc at + length l + 1) n.1 f ∙ ap (λ (i : ℕ). Ok i) q
 
 -- the lines that were read
 abbrev Lines : Bool → List ℕ → ℕ → ℕ → Type 0
 Lines true s at next = (l : List ℕ) × (ls : List (List ℕ)) × (r : List ℕ) × Line l × EachLine ls × (s ≡ l ++ (10 ∷ commented ls r)) × (next ≡ at + length l + 1 + lines_length ls)
 Lines false s at next = (ls : List (List ℕ)) × (r : List ℕ) × EachLine ls × (s ≡ commented ls r) × (next ≡ at + lines_length ls)
 
-lines_were : (inside : Bool) (s : List ℕ) (at next : ℕ) → comments inside s at ≡ Got 0 next → Lines inside s at next
+lines_were : (inside : Bool) (s : List ℕ) (at next : ℕ) → comments inside s at ≡ Ok next → Lines inside s at next
 unfolding Line EachLine commented
 lines_were true [] at next e = absurd (let z : ◌≡◌ {A = ℕ} 0 1 = cc in omega arith)
 lines_were false [] at next e = let q : at ≡ next = cc in ([], [], tt, refl, omega arith)
 lines_were true (b ∷ s) at next e = go (eqb b 10) refl (lines_were false s (suc at) next) (lines_were true s (suc at) next)
   where
-    go : (t : Bool) → eqb b 10 ≡ t → (comments false s (suc at) ≡ Got 0 next → Lines false s (suc at) next) → (comments true s (suc at) ≡ Got 0 next → Lines true s (suc at) next) → Lines true (b ∷ s) at next
+    go : (t : Bool) → eqb b 10 ≡ t → (comments false s (suc at) ≡ Ok next → Lines false s (suc at) next) → (comments true s (suc at) ≡ Ok next → Lines true s (suc at) next) → Lines true (b ∷ s) at next
     go true t f g =
         let x = f (rw (t, comments) at e) in
         let q : b ≡ 10 = eqb-true b 10 t in
@@ -72,7 +74,7 @@ lines_were true (b ∷ s) at next e = go (eqb b 10) refl (lines_were false s (su
         (b ∷ x.0, x.1, x.2, (eqb-false b 10 t, x.3), x.4, ap (λ (u : List ℕ). b ∷ u) x.5, omega (arith, x.6))
 lines_were false (b ∷ s) at next e = go (eqb b 99) refl (lines_were true s (suc at) next)
   where
-    go : (t : Bool) → eqb b 99 ≡ t → (comments true s (suc at) ≡ Got 0 next → Lines true s (suc at) next) → Lines false (b ∷ s) at next
+    go : (t : Bool) → eqb b 99 ≡ t → (comments true s (suc at) ≡ Ok next → Lines true s (suc at) next) → Lines false (b ∷ s) at next
     go true t f =
         let x = f (rw (t, comments) at e) in
         let q : b ≡ 99 = eqb-true b 99 t in (
@@ -83,28 +85,28 @@ lines_were false (b ∷ s) at next e = go (eqb b 99) refl (lines_were true s (su
           omega (arith, x.6, length-append x.0 (10 ∷ commented x.1 [])),
         )
     go false t f =
-        let y : Got 0 at ≡ Got 0 next = rw (t, comments) at e in
+        let y = rw (t, comments) at e in
         let q : at ≡ next = cc in
         ([], b ∷ s, tt, refl, omega arith)
 
 -- ---- fixed bytes
-pub bytes_read : (ps s : List ℕ) (at : ℕ) → expect ps (ps ++ s) at ≡ Got 0 (at + length ps)
-bytes_read [] s at = let q : at ≡ at + 0 = omega arith in ap (Got 0) q
+pub bytes_read : (ps s : List ℕ) (at : ℕ) → expect ps (ps ++ s) at ≡ Ok (at + length ps)
+bytes_read [] s at = let q : at ≡ at + 0 = omega arith in ap (λ (i : ℕ). Ok i) q
 bytes_read (p ∷ ps) s at =
     let q : suc at + length ps ≡ at + suc (length ps) = omega arith in
-    rw (eq-eqb p p refl, expect) (bytes_read ps s (suc at) ∙ ap (Got 0) q)
+    rw (eq-eqb p p refl, expect) (bytes_read ps s (suc at) ∙ ap (λ (i : ℕ). Ok i) q)
 
-pub bytes_were : (ps s : List ℕ) (at next : ℕ) → expect ps s at ≡ Got 0 next → (r : List ℕ) × (s ≡ ps ++ r) × (next ≡ at + length ps)
+pub bytes_were : (ps s : List ℕ) (at next : ℕ) → expect ps s at ≡ Ok next → (r : List ℕ) × (s ≡ ps ++ r) × (next ≡ at + length ps)
 bytes_were [] s at next e = let q : at ≡ next = cc in (s, refl, omega arith)
 bytes_were (p ∷ ps) [] at next e = absurd (let z : ◌≡◌ {A = ℕ} 0 1 = cc in omega arith)
 bytes_were (p ∷ ps) (b ∷ s) at next e = go (eqb b p) refl (bytes_were ps s (suc at) next)
   where
-    go : (t : Bool) → eqb b p ≡ t → (expect ps s (suc at) ≡ Got 0 next → (r : List ℕ) × (s ≡ ps ++ r) × (next ≡ suc at + length ps)) → (r : List ℕ) × (b ∷ s ≡ (p ∷ ps) ++ r) × (next ≡ at + length (p ∷ ps))
+    go : (t : Bool) → eqb b p ≡ t → (expect ps s (suc at) ≡ Ok next → (r : List ℕ) × (s ≡ ps ++ r) × (next ≡ suc at + length ps)) → (r : List ℕ) × (b ∷ s ≡ (p ∷ ps) ++ r) × (next ≡ at + length (p ∷ ps))
     go true t ih =
         let x = ih (rw (t, expect) at e) in
         let q : b ≡ p = eqb-true b p t in
         (x.0, ap (λ (c : ℕ). c ∷ s) q ∙ ap (λ (u : List ℕ). p ∷ u) x.1, omega (arith, x.2))
-    go false t ih = absurd (let y : Wrong (Grammar at) ≡ Got 0 next = rw (t, expect) at e in let z : ◌≡◌ {A = ℕ} 0 1 = cc in omega arith)
+    go false t ih = absurd (let y = rw (t, expect) at e in let z : ◌≡◌ {A = ℕ} 0 1 = cc in omega arith)
 
 -- ---- numbers
 run_read : (ds r : List ℕ) → Digits ds → NoDigit r → span is_digit (ds ++ r) ≡ length ds
@@ -165,15 +167,15 @@ module _ (text : List ℕ) (ls : List (List ℕ)) (lined : EachLine ls) (x : Lis
   unfoldable pub v_at : ℕ
   v_at = lines_length ls + 6
 
-  pub v_line : comments false text 0 ≡ Got 0 (lines_length ls)
+  pub v_line : comments false text 0 ≡ Ok (lines_length ls)
   v_line =
       let q : 0 + lines_length ls ≡ lines_length ls = omega arith in
-      ap (λ (s : List ℕ). comments false s 0) written ∙ lines_read ls 112 _ 0 lined (λ z. omega arith) ∙ ap (Got 0) q
+      ap (λ (s : List ℕ). comments false s 0) written ∙ lines_read ls 112 _ 0 lined (λ z. omega arith) ∙ ap (λ (i : ℕ). Ok i) q
 
   v_front : drop (lines_length ls) text ≡ p_cnf ++ x
   v_front = ap (drop (lines_length ls)) written ∙ lines_drop ls (p_cnf ++ x)
 
-  pub v_start : expect p_cnf (drop (lines_length ls) text) (lines_length ls) ≡ Got 0 v_at
+  pub v_start : expect p_cnf (drop (lines_length ls) text) (lines_length ls) ≡ Ok v_at
   unfolding v_at
   v_start = ap (λ (s : List ℕ). expect p_cnf s (lines_length ls)) v_front ∙ bytes_read p_cnf x (lines_length ls)
 
@@ -211,7 +213,7 @@ n_stands text ds offset N h =
     let b : behind text at ≡ at + length N.v = ap (λ (u : List ℕ). at + length u) d in
     let s : drop (behind text at) text ≡ 32 ∷ y = ap (λ (i : ℕ). drop i text) b ∙ behind_bytes text N.v (32 ∷ y) at here in
     let next : ℕ = behind text at + 1 in
-    let g : expect (32 ∷ []) (drop (behind text at) text) (behind text at) ≡ Got 0 next = ap (λ (u : List ℕ). expect (32 ∷ []) u (behind text at)) s ∙ bytes_read (32 ∷ []) y (behind text at) in
+    let g : expect (32 ∷ []) (drop (behind text at) text) (behind text at) ≡ Ok next = ap (λ (u : List ℕ). expect (32 ∷ []) u (behind text at)) s ∙ bytes_read (32 ∷ []) y (behind text at) in
     let n : digits_at text next ≡ ds = ap numeral_of (behind_bytes text (32 ∷ []) y (behind text at) s) ∙ number_read ds N.rest N.numeral N.whole in
     let q : next ≡ offset =
     omega (
@@ -239,7 +241,7 @@ pub record VFound (text : List ℕ) (at : ℕ) : Type 0 where
   pub written : text ≡ commented lines (p_cnf ++ drop at text)
   pub place : at ≡ length (commented lines p_cnf)
 
-pub v_found : (text : List ℕ) (line at : ℕ) → comments false text 0 ≡ Got 0 line → expect p_cnf (drop line text) line ≡ Got 0 at → VFound text at
+pub v_found : (text : List ℕ) (line at : ℕ) → comments false text 0 ≡ Ok line → expect p_cnf (drop line text) line ≡ Ok at → VFound text at
 v_found text line at c e =
     let x = lines_were false text 0 line c in
     let y = bytes_were p_cnf (drop line text) line at e in

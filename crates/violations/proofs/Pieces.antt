@@ -7,9 +7,11 @@ use lib.ListN.{length, take, drop}
 use lib.Dec.{eqb}
 use Rattle.dimacs.specs.Words.{is_digit, span}
 use Rattle.dimacs.specs.Tokens.{decimal}
-use Rattle.dimacs.specs.Header.{comments, expect, line_end, p_cnf}
+use Rattle.dimacs.specs.Header.{comments, expect, line_end, p_cnf, got as got_number, fitting}
 use Rattle.state.specs.declared.Refusal.TheVariants.{Grammar}
-use Rattle.dimacs.specs.declared.Piece.TheVariants.{Wrong, Got}
+use Rattle.std.specs.Prelude.{Result, Ok, Err}
+use Rattle.dimacs.specs.declared.Header.{Header}
+use Rattle.state.specs.declared.Refusal.{Refusal}
 
 -- the digits of the number at the front: `0`, which is whole by itself, or a run of digits; none where there is no number
 abbrev pub numeral_of : List ℕ → List ℕ
@@ -31,7 +33,7 @@ pub data NViolation (text : List ℕ) (at : ℕ) : ℕ → ℕ → Type 0 where
   -- 3: "N .. its token"
   large_n : 4096 < decimal (digits_at text at) → NViolation text at 3 at
   -- 2: "in the header the first wrong byte": behind N neither an LF nor the text's end
-  no_end : (offset : ℕ) → 0 < length (digits_at text at) → line_end (drop (behind text at) text) (behind text at) ≡ Wrong (Grammar offset) → NViolation text at 2 offset
+  no_end : (offset : ℕ) → 0 < length (digits_at text at) → line_end (drop (behind text at) text) (behind text at) ≡ Err (Grammar offset) → NViolation text at 2 offset
 
 -- of V, which begins at the offset `at`, and what follows
 pub data VViolation (text : List ℕ) (at : ℕ) : ℕ → ℕ → Type 0 where
@@ -40,16 +42,16 @@ pub data VViolation (text : List ℕ) (at : ℕ) : ℕ → ℕ → Type 0 where
   -- 3: "V .. its token"
   large_v : 1024 < decimal (digits_at text at) → VViolation text at 3 at
   -- 2: "in the header the first wrong byte": behind V no space
-  no_space : (offset : ℕ) → 0 < length (digits_at text at) → expect (32 ∷ []) (drop (behind text at) text) (behind text at) ≡ Wrong (Grammar offset)
+  no_space : (offset : ℕ) → 0 < length (digits_at text at) → expect (32 ∷ []) (drop (behind text at) text) (behind text at) ≡ Err (Grammar offset)
       → VViolation text at 2 offset
   -- behind V and a space, those of N
-  of_n : (number offset next : ℕ) → 0 < length (digits_at text at) → expect (32 ∷ []) (drop (behind text at) text) (behind text at) ≡ Got 0 next → NViolation text next number offset
+  of_n : (number offset next : ℕ) → 0 < length (digits_at text at) → expect (32 ∷ []) (drop (behind text at) text) (behind text at) ≡ Ok next → NViolation text next number offset
       → VViolation text at number offset
 
 pub data PieceViolation (text : List ℕ) : ℕ → ℕ → Type 0 where
   -- 2: "text length for an unfinished .. header": the text ends inside a comment line
-  in_comment : (offset : ℕ) → comments false text 0 ≡ Wrong (Grammar offset) → PieceViolation text 2 offset
+  in_comment : (offset : ℕ) → comments false text 0 ≡ Err (Grammar offset) → PieceViolation text 2 offset
   -- 2: "in the header the first wrong byte": of `p cnf ` behind the comment lines
-  no_start : (line offset : ℕ) → comments false text 0 ≡ Got 0 line → expect p_cnf (drop line text) line ≡ Wrong (Grammar offset) → PieceViolation text 2 offset
+  no_start : (line offset : ℕ) → comments false text 0 ≡ Ok line → expect p_cnf (drop line text) line ≡ Err (Grammar offset) → PieceViolation text 2 offset
   -- behind `p cnf `, those of V
-  of_v : (line at number offset : ℕ) → comments false text 0 ≡ Got 0 line → expect p_cnf (drop line text) line ≡ Got 0 at → VViolation text at number offset → PieceViolation text number offset
+  of_v : (line at number offset : ℕ) → comments false text 0 ≡ Ok line → expect p_cnf (drop line text) line ≡ Ok at → VViolation text at number offset → PieceViolation text number offset

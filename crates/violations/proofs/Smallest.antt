@@ -12,12 +12,8 @@ use mathlib.Core.List.{List, [], ◌∷◌}
 use mathlib.Core.Logic.{◌⊎◌, ⊎_elim, inl, inr}
 use lib.ListN.{length}
 use Rattle.dimacs.specs.Words.{Word}
-use Rattle.dimacs.specs.Header.{header}
+use Rattle.dimacs.specs.Header.{header, got as got_number, fitting}
 use Rattle.dimacs.specs.Text.{judge_body, judge_text, text_clauses}
-use Rattle.dimacs.specs.declared.Header.{Header}
-use Rattle.dimacs.specs.declared.Header.TheVariants.{NoHeader, Fields}
-use Rattle.dimacs.specs.declared.Verdict.{Verdict}
-use Rattle.dimacs.specs.declared.Verdict.TheVariants.{Refused, Fits}
 use Rattle.dimacs.proofs.Judge.{not_fits}
 use Rattle.state.specs.Answers.{Reply, reply, refusal_number, refusal_place}
 use Rattle.state.specs.declared.State.{State}
@@ -37,19 +33,22 @@ use Rattle.violations.proofs.Ends.{Ended, fine, grammar, limit, ended}
 use Rattle.violations.proofs.Headers.{Header-read, refused, right}
 use Rattle.violations.proofs.Limits.{header_judged}
 use Rattle.violations.proofs.Headed.{headed_fields, fields_headed}
+use Rattle.std.specs.Prelude.{Result, Ok, Err}
+use Rattle.dimacs.specs.declared.Header.{Header}
+use Rattle.dimacs.proofs.Judge.{fitting_is}
 
 -- ---- which violations a text can have
-only_header : (text : List ℕ) (r : Refusal) → header text ≡ NoHeader r → (number offset : ℕ) → Violation text number offset → HeaderViolation text number offset
+only_header : (text : List ℕ) (r : Refusal) → header text ≡ Err r → (number offset : ℕ) → Violation text number offset → HeaderViolation text number offset
 only_header text r e number offset (in_header k o x) = x
-only_header text r e number offset (at_word v n body k o f x) = absurd (let y : NoHeader r ≡ Fields v n body = sym e ∙ headed_fields text v n body f in let z : ◌≡◌ {A = ℕ} 0 1 = cc in omega arith)
-only_header text r e number offset (at_end v n body k f x) = absurd (let y : NoHeader r ≡ Fields v n body = sym e ∙ headed_fields text v n body f in let z : ◌≡◌ {A = ℕ} 0 1 = cc in omega arith)
+only_header text r e number offset (at_word v n body k o f x) = absurd (let y = sym e ∙ headed_fields text v n body f in let z : ◌≡◌ {A = ℕ} 0 1 = cc in omega arith)
+only_header text r e number offset (at_end v n body k f x) = absurd (let y = sym e ∙ headed_fields text v n body f in let z : ◌≡◌ {A = ℕ} 0 1 = cc in omega arith)
 
 -- ---- the judgement of a text: the violation that wins, or none
-data Answered (text : List ℕ) (x : Verdict) : Type 0 where
-  no : (r : Refusal) → x ≡ Refused r → Wins (Violation text) (refusal_number r) (refusal_place r) → Answered text x
-  yes : (v n body : ℕ) → x ≡ Fits v n body → ((number offset : ℕ) → Violation text number offset → ⊥) → Answered text x
+data Answered (text : List ℕ) (x : Result Header Refusal) : Type 0 where
+  no : (r : Refusal) → x ≡ Err r → Wins (Violation text) (refusal_number r) (refusal_place r) → Answered text x
+  yes : (v n body : ℕ) → x ≡ fitting v n body → ((number offset : ℕ) → Violation text number offset → ⊥) → Answered text x
 
-module _ (text : List ℕ) (v n body : ℕ) (e : header text ≡ Fields v n body) (headed : (number offset : ℕ) → HeaderViolation text number offset → ⊥) where
+module _ (text : List ℕ) (v n body : ℕ) (e : header text ≡ fitting v n body) (headed : (number offset : ℕ) → HeaderViolation text number offset → ⊥) where
   ws : List Word
   ws = body_words text body
 
@@ -58,16 +57,11 @@ module _ (text : List ℕ) (v n body : ℕ) (e : header text ≡ Fields v n body
   unfolding ws
   only_body number offset (in_header k o x) = absurd (headed k o x)
   only_body number offset (at_word v' n' body' k o f x) =
-      let y : Fields v n body ≡ Fields v' n' body' = sym e ∙ headed_fields text v' n' body' f in
-      let a : v' ≡ v = cc in
-      let b : n' ≡ n = cc in
-      let c : body' ≡ body = cc in
-      inl (subst₃ (λ (i j l : ℕ). WordViolation i j 16384 (body_words text l) k o) a b c x)
+      let y = fitting_is (sym (headed_fields text v' n' body' f) ∙ e) in
+      inl (subst₃ (λ (i j l : ℕ). WordViolation i j 16384 (body_words text l) k o) y.0 y.1.0 y.1.1 x)
   only_body number offset (at_end v' n' body' k f x) =
-      let y : Fields v n body ≡ Fields v' n' body' = sym e ∙ headed_fields text v' n' body' f in
-      let b : n' ≡ n = cc in
-      let c : body' ≡ body = cc in
-      inr (refl, subst₂ (λ (j l : ℕ). EndViolation j (body_words text l) k) b c x)
+      let y = fitting_is (sym (headed_fields text v' n' body' f) ∙ e) in
+      inr (refl, subst₂ (λ (j l : ℕ). EndViolation j (body_words text l) k) y.1.0 y.1.1 x)
 
   -- a violation at a word wins over those at the text's length
   wins_word : (number offset : ℕ) → Wins (WordViolation v n 16384 ws) number offset → Wins (Violation text) number offset
@@ -81,7 +75,7 @@ module _ (text : List ℕ) (v n body : ℕ) (e : header text ≡ Fields v n body
       }
 
   -- no word is one
-  answered_end : (x : Verdict) → ((number offset : ℕ) → WordViolation v n 16384 ws number offset → ⊥) → Ended n ws (length text) (Fits v n body) x → Answered text x
+  answered_end : (x : Result Header Refusal) → ((number offset : ℕ) → WordViolation v n 16384 ws number offset → ⊥) → Ended n ws (length text) (fitting v n body) x → Answered text x
   unfolding ws
   answered_end x none (fine q f) = yes v n body q (λ k place y. ⊎_elim (λ z. none k place z) (λ z. f k z.1) (only_body k place y))
   answered_end x none (grammar q y) = no (Grammar (length text)) q (record {
@@ -95,12 +89,12 @@ module _ (text : List ℕ) (v n body : ℕ) (e : header text ≡ Fields v n body
     two = λ z. ⊎_elim (λ w. absurd (none 2 (length text) w)) (λ w. absurd (f w.1)) (only_body 2 (length text) z);
   })
 
-  answered_body : (x : Verdict) → Judged (WordViolation v n 16384 ws) (past_words n 16384 false ws (length text) (Fits v n body)) x → Answered text x
+  answered_body : (x : Result Header Refusal) → Judged (WordViolation v n 16384 ws) (past_words n 16384 false ws (length text) (fitting v n body)) x → Answered text x
   answered_body x (stops r q W) = no r q (wins_word (refusal_number r) (refusal_place r) W)
-  answered_body x (passes q none) = subst (Answered text) (sym q) (answered_end _ none (ended n 16384 (length text) ws (Fits v n body)))
+  answered_body x (passes q none) = subst (Answered text) (sym q) (answered_end _ none (ended n 16384 (length text) ws (fitting v n body)))
 
 -- a refused header has no body
-answered_header : (text : List ℕ) (r : Refusal) → header text ≡ NoHeader r → Wins (HeaderViolation text) (refusal_number r) (refusal_place r) → Answered text (Refused r)
+answered_header : (text : List ℕ) (r : Refusal) → header text ≡ Err r → Wins (HeaderViolation text) (refusal_number r) (refusal_place r) → Answered text (Err r)
 answered_header text r e W = no r refl (record {
   violated = in_header (refusal_number r) (refusal_place r) W.violated;
   smallest = λ k place x. W.smallest k place (only_header text r e k place x);
@@ -112,10 +106,10 @@ unfolding judge_text ws
 answered text = go (header_judged text)
   where
     go : Header-read (HeaderViolation text) (header text) → Answered text (judge_text text)
-    go (refused r e W) = subst (λ (h : Header). Answered text (judge_body text h)) (sym e) (answered_header text r e W)
+    go (refused r e W) = subst (λ (h : Result Header Refusal). Answered text (judge_body text h)) (sym e) (answered_header text r e W)
     go (right v n body e none) =
-        subst (λ (h : Header). Answered text (judge_body text h)) (sym e)
-        (answered_body text v n body e none _ (judged_words v n 16384 body (length text) false (body_words text body) (Fits v n body) (body_rising text body)))
+        subst (λ (h : Result Header Refusal). Answered text (judge_body text h)) (sym e)
+        (answered_body text v n body e none _ (judged_words v n 16384 body (length text) false (body_words text body) (fitting v n body) (body_rising text body)))
 
 -- ---- a violation has number 2 or 3, so one number and one offset win
 word_number : (v n most : ℕ) (ws : List Word) (number offset : ℕ) → WordViolation v n most ws number offset → (number ≡ 2) ⊎ (number ≡ 3)
@@ -153,47 +147,47 @@ wins_once text k o k' o' W W' = (⊎_elim ours (λ e. ⊎_elim (theirs e) (λ e'
 -- ---- the theorems about the judgement
 module _ (text : List ℕ) where
   -- a text that is refused is refused with the violation that wins
-  pub refused_wins : (r : Refusal) → judge_text text ≡ Refused r → Wins (Violation text) (refusal_number r) (refusal_place r)
+  pub refused_wins : (r : Refusal) → judge_text text ≡ Err r → Wins (Violation text) (refusal_number r) (refusal_place r)
   refused_wins r e = go (judge_text text) e (answered text)
     where
-      go : (x : Verdict) → x ≡ Refused r → Answered text x → Wins (Violation text) (refusal_number r) (refusal_place r)
+      go : (x : Result Header Refusal) → x ≡ Err r → Answered text x → Wins (Violation text) (refusal_number r) (refusal_place r)
       go x q (no s p W) =
-          let y : Refused s ≡ Refused r = sym p ∙ q in
+          let y = sym p ∙ q in
           let z : s ≡ r = cc in
           subst (λ (i : Refusal). Wins (Violation text) (refusal_number i) (refusal_place i)) z W
       go x q (yes v n body p f) = absurd (not_fits x r v n body q p)
 
   -- the violation that wins is the one that the text is refused with
-  pub wins_refused : (number offset : ℕ) → Wins (Violation text) number offset → (r : Refusal) × (judge_text text ≡ Refused r) × (refusal_number r ≡ number) × (refusal_place r ≡ offset)
+  pub wins_refused : (number offset : ℕ) → Wins (Violation text) number offset → (r : Refusal) × (judge_text text ≡ Err r) × (refusal_number r ≡ number) × (refusal_place r ≡ offset)
   wins_refused number offset W = go (judge_text text) refl (answered text)
     where
-      go : (x : Verdict) → judge_text text ≡ x → Answered text x → (r : Refusal) × (judge_text text ≡ Refused r) × (refusal_number r ≡ number) × (refusal_place r ≡ offset)
+      go : (x : Result Header Refusal) → judge_text text ≡ x → Answered text x → (r : Refusal) × (judge_text text ≡ Err r) × (refusal_number r ≡ number) × (refusal_place r ≡ offset)
       go x q (no r p W') =
           let same = wins_once text (refusal_number r) (refusal_place r) number offset W' W in
           (r, q ∙ p, same.0, same.1)
       go x q (yes v n body p f) = absurd (f number offset W.violated)
 
   -- a text with a violation is refused
-  pub violated_refused : (number offset : ℕ) → Violation text number offset → (r : Refusal) × (judge_text text ≡ Refused r)
+  pub violated_refused : (number offset : ℕ) → Violation text number offset → (r : Refusal) × (judge_text text ≡ Err r)
   violated_refused number offset y = go (judge_text text) refl (answered text)
     where
-      go : (x : Verdict) → judge_text text ≡ x → Answered text x → (r : Refusal) × (judge_text text ≡ Refused r)
+      go : (x : Result Header Refusal) → judge_text text ≡ x → Answered text x → (r : Refusal) × (judge_text text ≡ Err r)
       go x q (no r p W) = (r, q ∙ p)
       go x q (yes v n body p f) = absurd (f number offset y)
 
   -- a text that fits has no violation
-  pub fits_unviolated : (v n body : ℕ) → judge_text text ≡ Fits v n body → (number offset : ℕ) → Violation text number offset → ⊥
+  pub fits_unviolated : (v n body : ℕ) → judge_text text ≡ fitting v n body → (number offset : ℕ) → Violation text number offset → ⊥
   fits_unviolated v n body e = go (judge_text text) e (answered text)
     where
-      go : (x : Verdict) → x ≡ Fits v n body → Answered text x → (number offset : ℕ) → Violation text number offset → ⊥
+      go : (x : Result Header Refusal) → x ≡ fitting v n body → Answered text x → (number offset : ℕ) → Violation text number offset → ⊥
       go x q (no r p W) = absurd (not_fits x r v n body p q)
       go x q (yes _ _ _ p f) = f
 
   -- a text without a violation fits
-  pub unviolated_fits : ((number offset : ℕ) → Violation text number offset → ⊥) → (v : ℕ) × (n : ℕ) × (body : ℕ) × (judge_text text ≡ Fits v n body)
+  pub unviolated_fits : ((number offset : ℕ) → Violation text number offset → ⊥) → (v : ℕ) × (n : ℕ) × (body : ℕ) × (judge_text text ≡ fitting v n body)
   unviolated_fits none = go (judge_text text) refl (answered text)
     where
-      go : (x : Verdict) → judge_text text ≡ x → Answered text x → (v : ℕ) × (n : ℕ) × (body : ℕ) × (judge_text text ≡ Fits v n body)
+      go : (x : Result Header Refusal) → judge_text text ≡ x → Answered text x → (v : ℕ) × (n : ℕ) × (body : ℕ) × (judge_text text ≡ fitting v n body)
       go x q (no r p W) = absurd (none (refusal_number r) (refusal_place r) W.violated)
       go x q (yes v n body p f) = (v, n, body, q ∙ p)
 
@@ -203,10 +197,10 @@ module _ (text : List ℕ) (t : Tables) (long : Long t) (st : State) where
   unfolding load_call
   called = formula_lent (judge_text text) (text_clauses text) t st long
 
-  replied_no : (r : Refusal) → judge_text text ≡ Refused r → (load_call text t st).reply ≡ reply 0 (refusal_number r) (refusal_place r ∷ [])
+  replied_no : (r : Refusal) → judge_text text ≡ Err r → (load_call text t st).reply ≡ reply 0 (refusal_number r) (refusal_place r ∷ [])
   replied_no r e = ap (λ (a : After). a.reply) (called ∙ ap (λ x. load_by x (text_clauses text) t st) e)
 
-  replied_yes : (v n body : ℕ) → judge_text text ≡ Fits v n body → (load_call text t st).reply ≡ reply 1 0 []
+  replied_yes : (v n body : ℕ) → judge_text text ≡ fitting v n body → (load_call text t st).reply ≡ reply 1 0 []
   replied_yes v n body e = ap (λ (a : After). a.reply) (called ∙ ap (λ x. load_by x (text_clauses text) t st) e)
 
   -- the violation that wins is answered, by number and offset, and nothing changes
@@ -219,7 +213,7 @@ module _ (text : List ℕ) (t : Tables) (long : Long t) (st : State) where
   pub load_refused : (number offset : ℕ) → (load_call text t st).reply ≡ reply 0 number (offset ∷ []) → Wins (Violation text) number offset
   load_refused number offset e = go (judge_text text) refl (answered text)
     where
-      go : (x : Verdict) → judge_text text ≡ x → Answered text x → Wins (Violation text) number offset
+      go : (x : Result Header Refusal) → judge_text text ≡ x → Answered text x → Wins (Violation text) number offset
       go x q (no r p W) =
           let y : reply 0 (refusal_number r) (refusal_place r ∷ []) ≡ reply 0 number (offset ∷ []) = sym (replied_no r (q ∙ p)) ∙ e in
           let a : refusal_number r ≡ number = ap (λ (z : Reply). z.number) y in

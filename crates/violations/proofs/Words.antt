@@ -12,14 +12,15 @@ use borrow.Author.Tests.{lt-ltb, ltb-true, ltb-false, leb-true, leb-false}
 use Rattle.dimacs.specs.Words.{Word}
 use Rattle.dimacs.specs.Tokens.{Meaning, bad, nought, literal, meaning}
 use Rattle.dimacs.specs.Text.{budget, judge, judge_end}
-use Rattle.dimacs.specs.declared.Verdict.{Verdict}
-use Rattle.dimacs.specs.declared.Verdict.TheVariants.{Refused}
 use Rattle.state.specs.Answers.{refusal_number, refusal_place}
 use Rattle.state.specs.declared.Refusal.{Refusal}
 use Rattle.state.specs.declared.Refusal.TheVariants.{Grammar, Limit}
 use Rattle.violations.specs.Body.{noughts, literals, WordViolation, broken, beyond, too_many, after_last}
 use Rattle.violations.specs.Violations.{Wins}
 use Rattle.violations.proofs.Rising.{Rising, rising_above}
+use Rattle.std.specs.Prelude.{Result, Ok, Err}
+use Rattle.dimacs.specs.declared.Header.{Header}
+use Rattle.dimacs.specs.Header.{got as got_number, fitting}
 
 -- ---- the counts with one word more in front
 noughts_more : (w : Word) (ws : List Word) → noughts (w ∷ ws) ≡ noughts (w ∷ []) + noughts ws
@@ -99,12 +100,12 @@ begun_after begun [] = begun
 begun_after begun (w ∷ ws) = elim (meaning w.bytes) [ bad ↦ begun_after begun ws | nought ↦ begun_after false ws | literal _ _ ↦ begun_after true ws ]
 
 -- the judgement of the words is x: it stops at the violation that wins, or passes all words and ends as `past` says
-pub data Judged (Violated : ℕ → ℕ → Type 0) (past x : Verdict) : Type 0 where
-  stops : (r : Refusal) → x ≡ Refused r → Wins Violated (refusal_number r) (refusal_place r) → Judged Violated past x
+pub data Judged (Violated : ℕ → ℕ → Type 0) (past x : Result Header Refusal) : Type 0 where
+  stops : (r : Refusal) → x ≡ Err r → Wins Violated (refusal_number r) (refusal_place r) → Judged Violated past x
   passes : x ≡ past → ((number offset : ℕ) → Violated number offset → ⊥) → Judged Violated past x
 
 -- what the words ws leave of n clauses and `most` literals
-abbrev pub past_words : ℕ → ℕ → Bool → List Word → ℕ → Verdict → Verdict
+abbrev pub past_words : ℕ → ℕ → Bool → List Word → ℕ → Result Header Refusal → Result Header Refusal
 past_words n most begun ws end ok = judge_end (budget (n - noughts ws) (most - literals ws) (begun_after begun ws)) end ok
 
 -- a word of grammar 2 wins over all that follows
@@ -136,7 +137,7 @@ module _ (v n most n' most' : ℕ) (w : Word) (ws : List Word) (en : n ≡ nough
     two = λ x. W.two (one_less v n most n' most' w ws en em p 2 offset x);
   }
 
-  judged_more : (past past' x x' : Verdict) → x ≡ x' → past' ≡ past → Judged (WordViolation v n' most' ws) past' x' → Judged (WordViolation v n most (w ∷ ws)) past x
+  judged_more : (past past' x x' : Result Header Refusal) → x ≡ x' → past' ≡ past → Judged (WordViolation v n' most' ws) past' x' → Judged (WordViolation v n most (w ∷ ws)) past x
   judged_more past past' x x' ex ep (stops r e W) = stops r (ex ∙ e) (wins_more _ _ W)
   judged_more past past' x x' ex ep (passes e none) = passes (ex ∙ e ∙ ep) (λ k at y. none k at (one_less v n most n' most' w ws en em p k at y))
 
@@ -157,7 +158,7 @@ fit v clauses most m e =
     (ltb-true 0 clauses c, (leb-true m v (and_left (leb m v) (ltb 0 most) q), ltb-true 0 most (and_right (leb m v) (ltb 0 most) q)))
 
 -- a `0` that ends a clause
-module _ (v n most end : ℕ) (begun : Bool) (w : Word) (ws : List Word) (ok : Verdict) (m : meaning w.bytes ≡ nought) (some : 0 < n) where
+module _ (v n most end : ℕ) (begun : Bool) (w : Word) (ws : List Word) (ok : Result Header Refusal) (m : meaning w.bytes ≡ nought) (some : 0 < n) where
   passed_nought : (en : n ≡ noughts (w ∷ []) + (n - 1)) (em : most ≡ literals (w ∷ []) + most) → Passed v n most (n - 1) most w ws en em
   passed_nought en em = record {
     token = λ e. let z : ◌≡◌ {A = ℕ} 0 1 = cc in omega arith;
@@ -184,7 +185,7 @@ module _ (v n most end : ℕ) (begun : Bool) (w : Word) (ws : List Word) (ok : V
       (judge v (budget n most begun) (w ∷ ws) end ok) (judge v (budget (n - 1) most false) ws end ok) (rw (m, judge, lt-ltb 0 n some)) past_nought a
 
 -- a literal that fits
-module _ (v n most end : ℕ) (begun : Bool) (w : Word) (ws : List Word) (ok : Verdict) (c : Bool) (k : ℕ) (m : meaning w.bytes ≡ literal c k) where
+module _ (v n most end : ℕ) (begun : Bool) (w : Word) (ws : List Word) (ok : Result Header Refusal) (c : Bool) (k : ℕ) (m : meaning w.bytes ≡ literal c k) where
   passed_literal : (0 < n) × ((k ≤ v) × (0 < most)) → (en : n ≡ noughts (w ∷ []) + n) (em : most ≡ literals (w ∷ []) + (most - 1)) → Passed v n most n (most - 1) w ws en em
   passed_literal f en em = record {
     token = λ e. let z : ◌≡◌ {A = ℕ} 0 1 = cc in omega arith;
@@ -220,7 +221,7 @@ module _ (v n most end : ℕ) (begun : Bool) (w : Word) (ws : List Word) (ok : V
       (⊎_elim (λ lt. beyond 0 c k (omega arith) m lt) (λ z. too_many 0 c k (omega arith) m (omega (arith, z))))
       (unfit v n most k e)
 
-pub judged_words : (v n most from end : ℕ) (begun : Bool) (ws : List Word) (ok : Verdict) → Rising from end ws
+pub judged_words : (v n most from end : ℕ) (begun : Bool) (ws : List Word) (ok : Result Header Refusal) → Rising from end ws
     → Judged (WordViolation v n most ws) (past_words n most begun ws end ok) (judge v (budget n most begun) ws end ok)
 unfolding judge noughts literals begun_after Rising
 judged_words v n most from end begun [] ok r =
