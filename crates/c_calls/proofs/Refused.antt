@@ -17,8 +17,6 @@ use Rattle.tables.specs.Tables.{Tables}
 use Rattle.tables.specs.Long.{long_ok}
 use Rattle.tables.specs.Calls.{After, refuse}
 use Rattle.dimacs.specs.Text.{judge_text, text_clauses}
-use Rattle.dimacs.specs.declared.Verdict.{Verdict}
-use Rattle.dimacs.specs.declared.Verdict.TheVariants.{Refused, Fits}
 use Rattle.join.specs.Join.{judge_join, join_clauses}
 use Rattle.load.specs.Load.{load_by, load_formula, load_call, join_call}
 use Rattle.propagate.specs.Propagate.{propagate_call}
@@ -34,6 +32,10 @@ use Rattle.c_numbers.specs.StateNumbers.{state_of}
 use Rattle.c_numbers.specs.CCalls.{ready, put_answer_by, put_answer, refuse_unread, AfterC, after_c, put_state_by, told, call_c}
 use Rattle.c_numbers.proofs.Answered.{unread_behind}
 use Rattle.c_numbers.proofs.StateBack.{Placed}
+use Rattle.std.specs.Prelude.{Result, Ok, Err}
+use Rattle.dimacs.specs.declared.Header.{Header}
+use Rattle.state.specs.declared.Refusal.{Refusal}
+use Rattle.dimacs.specs.Header.{got, fitting}
 
 -- the call was made, and the programme has its places if it had them, or the state and the tables are as they were
 abbrev pub Kept : Tables → State → After → Type 0
@@ -51,13 +53,13 @@ way_keeps t st a (inl made) = inl (made.0, λ placed. ap (λ (p : Programme). le
 way_keeps t st a (inr kept) = inr kept
 
 -- a formula by its verdict, into the tables alone: a load or a join
-formula_keeps : (verdict : Verdict) (cs : List (List ℤ)) → Keeps (load_formula verdict cs)
+formula_keeps : (verdict : Result Header Refusal) (cs : List (List ℤ)) → Keeps (load_formula verdict cs)
 unfolding constant_programme programme_of
 formula_keeps verdict cs t st = by (long_ok t)
   where
-    judged : (v : Verdict) → Kept t st (load_by v cs t st)
-    judged (Refused r) = inr (refl, refl)
-    judged (Fits v n size) = inl (refl, λ placed. refl)
+    judged : (v : Result Header Refusal) → Kept t st (load_by v cs t st)
+    judged (Err r) = inr (refl, refl)
+    judged (Ok h) = inl (refl, λ placed. refl)
 
     by : (b : Bool) → Kept t st (elim b as (λ x. After) [ true ↦ load_by verdict cs t st | false ↦ refuse Shape st t ])
     by true = judged verdict

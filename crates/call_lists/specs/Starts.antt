@@ -4,12 +4,15 @@ use Rattle.state.specs.declared.State.{State}
 use Rattle.tables.specs.Tables.{Tables}
 use Rattle.tables.specs.Calls.{After}
 use Rattle.dimacs.specs.Text.{judge_text, text_clauses}
-use Rattle.dimacs.specs.declared.Verdict.{Verdict}
 use Rattle.window.specs.Window.{Places, AfterWindow}
 use Rattle.load.specs.Load.{load_call, join_call, load_with, join_with}
 use Rattle.write.specs.Write.{write_text}
 use Rattle.join.specs.Join.{join_clauses, judge_join}
 use Rattle.call_lists.specs.Lists.{Step, Trail, steps_on}
+use Rattle.std.specs.Prelude.{Result, Ok, Err}
+use Rattle.dimacs.specs.declared.Header.{Header}
+use Rattle.state.specs.declared.Refusal.{Refusal}
+use Rattle.dimacs.specs.Header.{got, fitting}
 
 -- a load of a text; a join of a left and a right text by links
 pub data Start : Type 0 where
@@ -30,7 +33,7 @@ abbrev pub formula_of : Start → List (List ℤ)
 formula_of (load text) = text_clauses text
 formula_of (join left right links) = join_clauses left right links
 
-abbrev pub verdict_on : Start → Verdict
+abbrev pub verdict_on : Start → Result Header Refusal
 verdict_on (load text) = judge_text text
 verdict_on (join left right links) = judge_join left right links
 

@@ -15,8 +15,6 @@ use Rattle.tables.specs.Tables.{Tables}
 use Rattle.tables.specs.Long.{Long}
 use Rattle.tables.specs.Calls.{After}
 use Rattle.dimacs.specs.Text.{judge_text}
-use Rattle.dimacs.specs.declared.Verdict.{Verdict}
-use Rattle.dimacs.specs.declared.Verdict.TheVariants.{Refused, Fits}
 use Rattle.write.specs.Write.{AfterWrite, after_write, write_text, write_into}
 use Rattle.simplify.specs.Texts.{empty_tables, simplify_in, simplify_text, result_of}
 use Rattle.equivalence.specs.Returns.{longest, Returns, wrote, short}
@@ -25,6 +23,9 @@ use Rattle.equivalence.proofs.Ending.{end_from, refused_text, end_shape, accepte
 use Rattle.equivalence.proofs.Texts.{empty_long}
 use Rattle.equivalence.proofs.Refusing.{OfText, grammar, limit, refused_of_text}
 use Rattle.equivalence.proofs.Lengths.{written_length}
+use Rattle.std.specs.Prelude.{Result, Ok, Err}
+use Rattle.dimacs.specs.declared.Header.{Header}
+use Rattle.dimacs.specs.Header.{got, fitting}
 
 -- a text that is refused
 refusal_returns : (r : Refusal) (out : List ℕ) → OfText r → Returns (length out) (result_of (after_write (answer.Refused r) out).reply)
@@ -48,11 +49,11 @@ in_returns t L text count out = go (judge_text text) refl
     Answer : AfterWrite → Type 0
     Answer a = Returns (length out) (result_of a.reply)
 
-    go : (x : Verdict) → judge_text text ≡ x → Answer (simplify_in t text count out)
-    go (Refused r) e = subst Answer (sym (refused_text t L text count r e out)) (refusal_returns r out (refused_of_text text r e))
-    go (Fits v n body) e =
+    go : (x : Result Header Refusal) → judge_text text ≡ x → Answer (simplify_in t text count out)
+    go (Err r) e = subst Answer (sym (refused_text t L text count r e out)) (refusal_returns r out (refused_of_text text r e))
+    go (Ok h) e =
         let a : After = end_from t text count in
-        subst Answer (sym (accepted_text t L text count v n body e out)) (into_returns (write_text a.tables a.state) out (written_length a.tables a.state (end_shape t L text count v n body e)))
+        subst Answer (sym (accepted_text t L text count h.v h.n h.body e out)) (into_returns (write_text a.tables a.state) out (written_length a.tables a.state (end_shape t L text count h.v h.n h.body e)))
 
 pub answers : (text : List ℕ) (count : ℕ) (out : List ℕ) → Returns (length out) (result_of (simplify_text text count out).reply)
 unfolding simplify_text

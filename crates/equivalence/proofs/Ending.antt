@@ -19,8 +19,6 @@ use Rattle.tables.specs.Calls.{After, refuse}
 use Rattle.shape.specs.Shape.{Shape}
 use Rattle.shape.specs.Decision.{shape_ok, shape_agrees}
 use Rattle.dimacs.specs.Text.{judge_text, text_clauses}
-use Rattle.dimacs.specs.declared.Verdict.{Verdict}
-use Rattle.dimacs.specs.declared.Verdict.TheVariants.{Refused, Fits}
 use Rattle.load.specs.Load.{load_by, load_call}
 use Rattle.write.specs.Write.{after_write, write_text, write_into}
 use Rattle.write.proofs.Text.{call_written}
@@ -35,6 +33,9 @@ use Rattle.simplify.proofs.Simplified.{refused_load}
 use Rattle.refinement.proofs.Starting.{started_as, start_held, load_started}
 use Rattle.refinement.proofs.Demand3.{demand_3, steps_held}
 use Rattle.refinement.proofs.Running.{run_calls, run_keeps}
+use Rattle.std.specs.Prelude.{Result, Ok, Err}
+use Rattle.dimacs.specs.declared.Header.{Header}
+use Rattle.dimacs.specs.Header.{got, fitting}
 
 -- what the load leaves
 abbrev loaded_from : Tables → List ℕ → After
@@ -53,15 +54,15 @@ module _ (t : Tables) (L : Long t) (text : List ℕ) (count : ℕ) where
 
   -- ---- a text that is refused
 
-  pub refused_text : (r : Refusal) → judge_text text ≡ Refused r → (out : List ℕ) → simplify_in t text count out ≡ after_write (answer.Refused r) out
+  pub refused_text : (r : Refusal) → judge_text text ≡ Err r → (out : List ℕ) → simplify_in t text count out ≡ after_write (answer.Refused r) out
   unfolding load_call
   refused_text r e out =
-      let loads : loaded ≡ refuse r empty_state t = formula_lent (judge_text text) (text_clauses text) t empty_state L ∙ ap (λ (x : Verdict). load_by x (text_clauses text) t empty_state) e in
+      let loads : loaded ≡ refuse r empty_state t = formula_lent (judge_text text) (text_clauses text) t empty_state L ∙ ap (λ (x : Result Header Refusal). load_by x (text_clauses text) t empty_state) e in
       sym (refused_load (record { answer = answer.Refused r; state = empty_state }) t loaded count out (sym loads) (λ z. omega (arith, number_bounds r, z)))
 
   -- ---- a text that is accepted
 
-  module _ (v n body : ℕ) (accepted : judge_text text ≡ Fits v n body) where
+  module _ (v n body : ℕ) (accepted : judge_text text ≡ fitting v n body) where
     pub end_stands : (τ : Assignment) → Stands end.tables end.state τ ↔ Satisfies τ (text_clauses text)
     unfolding steps_on
     end_stands τ = go loaded.state.mark

@@ -20,8 +20,6 @@ use Rattle.tables.specs.Tables.{Tables}
 use Rattle.tables.specs.Long.{Long}
 use Rattle.tables.specs.Calls.{After}
 use Rattle.dimacs.specs.Text.{judge_text, text_clauses}
-use Rattle.dimacs.specs.declared.Verdict.{Verdict}
-use Rattle.dimacs.specs.declared.Verdict.TheVariants.{Refused, Fits}
 use Rattle.printing.specs.Printing.{text_of, refused_line}
 use Rattle.literal.specs.Ranged.{InClauses, total}
 use Rattle.write.specs.Writable.{Writable}
@@ -35,6 +33,10 @@ use Rattle.equivalence.specs.Equivalent.{Equivalent}
 use Rattle.equivalence.specs.Returns.{RefusalLine}
 use Rattle.equivalence.proofs.Standing.{written_stands}
 use Rattle.equivalence.proofs.Ending.{end_from, refused_text, end_stands, end_shape, end_variables, accepted_text}
+use Rattle.std.specs.Prelude.{Result, Ok, Err}
+use Rattle.dimacs.specs.declared.Header.{Header}
+use Rattle.state.specs.declared.Refusal.{Refusal}
+use Rattle.dimacs.specs.Header.{got, fitting}
 
 -- ---- reading it back
 
@@ -43,7 +45,7 @@ module _ {input text : List ℕ} (E : Equivalent input text) (clauses : length E
   writable = record { variables = (text_within input E.variables E.number E.body E.accepted).0; clauses = clauses; literals = literals; each = E.ranged }
 
   -- the text is accepted
-  pub equivalent_judged : judge_text text ≡ Fits E.variables (length E.clauses) (body_at E.variables (length E.clauses))
+  pub equivalent_judged : judge_text text ≡ fitting E.variables (length E.clauses) (body_at E.variables (length E.clauses))
   equivalent_judged = ap judge_text E.spelt ∙ judged E.variables E.clauses writable
 
   -- and its clauses have the satisfying assignments of the input's
@@ -71,7 +73,7 @@ into_written text out k = go (leb (length text) (length out))
     go false e = absurd (let z : ◌≡◌ {A = ℕ} 0 1 = cc in omega arith)
 
 module _ (t : Tables) (L : Long t) (text : List ℕ) (count : ℕ) where
-  end_equivalent : (v n body : ℕ) → judge_text text ≡ Fits v n body → Equivalent text (write_text (end_from t text count).tables (end_from t text count).state)
+  end_equivalent : (v n body : ℕ) → judge_text text ≡ fitting v n body → Equivalent text (write_text (end_from t text count).tables (end_from t text count).state)
   unfolding write_text
   end_equivalent v n body e =
       let a : After = end_from t text count in
@@ -93,14 +95,14 @@ module _ (t : Tables) (L : Long t) (text : List ℕ) (count : ℕ) where
       left : AfterWrite
       left = simplify_in t text count out
 
-      go : (x : Verdict) → judge_text text ≡ x → result_of left.reply ≡ pos k → Equivalent text (take k left.out)
-      go (Refused r) e q =
+      go : (x : Result Header Refusal) → judge_text text ≡ x → result_of left.reply ≡ pos k → Equivalent text (take k left.out)
+      go (Err r) e q =
           absurd (refused_result (refusal_number r) (refusal_place r) k (number_bounds r).0 (ap (λ (a : AfterWrite). result_of a.reply) (sym (refused_text t L text count r e out)) ∙ q))
-      go (Fits v n body) e q =
+      go (Ok h) e q =
           let a : After = end_from t text count in
-          let w = accepted_text t L text count v n body e out in
+          let w = accepted_text t L text count h.v h.n h.body e out in
           let whole : take k left.out ≡ write_text a.tables a.state = ap (λ (x : AfterWrite). take k x.out) w ∙ into_written (write_text a.tables a.state) out k (ap (λ (x : AfterWrite). result_of x.reply) (sym w) ∙ q) in
-          subst (Equivalent text) (sym whole) (end_equivalent v n body e)
+          subst (Equivalent text) (sym whole) (end_equivalent h.v h.n h.body e)
 
 -- the tables of the stated sizes that the call begins with
 pub empty_long : Long empty_tables

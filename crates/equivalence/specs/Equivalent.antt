@@ -2,16 +2,19 @@
 use Rattle.std.specs.Prelude.{ℕ, ◌≡◌, ◌↔◌, List, ℤ}
 use Rattle.literal.specs.Assignments.{Assignment, Satisfies}
 use Rattle.dimacs.specs.Text.{judge_text, text_clauses}
-use Rattle.dimacs.specs.declared.Verdict.TheVariants.{Fits}
 use Rattle.printing.specs.Printing.{text_of}
 use Rattle.literal.specs.Ranged.{InClauses}
+use Rattle.std.specs.Prelude.{Result, Ok, Err}
+use Rattle.dimacs.specs.declared.Header.{Header}
+use Rattle.state.specs.declared.Refusal.{Refusal}
+use Rattle.dimacs.specs.Header.{got, fitting}
 
 -- the input is accepted with V variables; the text is `p cnf V N` and N clauses of literals 1 to V and complements, and an assignment satisfies the input's clauses exactly if it satisfies these
 pub record Equivalent (input text : List ℕ) : Type 0 where
   pub variables : ℕ
   pub number : ℕ
   pub body : ℕ
-  pub accepted : judge_text input ≡ Fits variables number body
+  pub accepted : judge_text input ≡ fitting variables number body
   pub clauses : List (List ℤ)
   pub spelt : text ≡ text_of variables clauses
   pub ranged : InClauses variables clauses
@@ -21,5 +24,5 @@ pub record Equivalent (input text : List ℕ) : Type 0 where
 pub record TextFor (v : ℕ) (cs : List (List ℤ)) (text : List ℕ) : Type 0 where
   pub number : ℕ
   pub body : ℕ
-  pub accepted : judge_text text ≡ Fits v number body
+  pub accepted : judge_text text ≡ fitting v number body
   pub same : (τ : Assignment) → Satisfies τ (text_clauses text) ↔ Satisfies τ cs

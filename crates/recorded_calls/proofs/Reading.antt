@@ -25,8 +25,6 @@ use Rattle.visits.proofs.Entered.{entered_formed, entered_cursor}
 use Rattle.visits.proofs.Advancing.{advance_cases}
 use Rattle.visits.proofs.Visiting.{SameStamps, stamps_same, Shrinks, visits_beside}
 use Rattle.dimacs.specs.Text.{judge_text, text_clauses}
-use Rattle.dimacs.specs.declared.Verdict.{Verdict}
-use Rattle.dimacs.specs.declared.Verdict.TheVariants as verdict
 use Rattle.load.specs.Load.{laid, load_by, load_call, join_call}
 use Rattle.join.specs.Join.{join_clauses, judge_join}
 use Rattle.call_lists.specs.Starts.{Start, load, join, start_on}
@@ -46,6 +44,10 @@ use Rattle.sweep.specs.Sweep as sweeping
 use Rattle.set_programme.specs.SetProgramme.{set_call}
 use Rattle.set_programme.proofs.Setting.{set_tables}
 use Rattle.sweep_visits.proofs.Visiting.{sweep_shrinks}
+use Rattle.std.specs.Prelude.{Result, Ok, Err}
+use Rattle.dimacs.specs.declared.Header.{Header}
+use Rattle.state.specs.declared.Refusal.{Refusal}
+use Rattle.dimacs.specs.Header.{got, fitting}
 
 abbrev pub Reads : Tables → After → Type 0
 Reads t a = SameStamps t a.tables
@@ -55,10 +57,10 @@ advance_reads pass a b rule shrinks steps k t st =
     let S = (visits_beside rule shrinks (min steps (st.n - k)) k t).stamps in
     advance_cases pass a b rule steps k t st (Reads t) (λ counts lt. S) (λ counts done. S)
 
-by_reads : (b : Bool) (x : Verdict) (cs : List (List ℤ)) (t : Tables) (st : State) → Reads t (elim b as (λ y. After) [ true ↦ load_by x cs t st | false ↦ refuse Shape st t ])
+by_reads : (b : Bool) (x : Result Header Refusal) (cs : List (List ℤ)) (t : Tables) (st : State) → Reads t (elim b as (λ y. After) [ true ↦ load_by x cs t st | false ↦ refuse Shape st t ])
 unfolding laid
-by_reads true (verdict.Refused r) cs t st = stamps_same t
-by_reads true (verdict.Fits v n body) cs t st = record { times = refl; links = refl }
+by_reads true (Err r) cs t st = stamps_same t
+by_reads true (Ok h) cs t st = record { times = refl; links = refl }
 by_reads false x cs t st = stamps_same t
 
 pub start_reads : (s : Start) (t : Tables) (st : State) → Reads t (start_on s t st)

@@ -12,17 +12,17 @@ use lib.IntN.{ℤ, pos, negsuc, nat_abs}
 use borrow.Author.Tests.{not-true, ne_eqb, le-leb, lt-ltb, ltb-true, ltb-false}
 use Rattle.dimacs.specs.Words.{is_sep, is_word_byte, is_digit, span, Word, word, words_at}
 use Rattle.dimacs.specs.Tokens.{literal, decimal, decimal_from, unsigned, meaning}
-use Rattle.dimacs.specs.Header.{number, within_limit, and_then, header, header_rest}
+use Rattle.dimacs.specs.Header.{number, within_limit, and_then, header, header_rest, got, fitting}
 use Rattle.dimacs.specs.Text.{budget, judge, judge_text, literal_of, clauses_of, text_clauses}
-use Rattle.dimacs.specs.declared.Piece.TheVariants.{Got}
-use Rattle.dimacs.specs.declared.Header.TheVariants.{Fields}
-use Rattle.dimacs.specs.declared.Verdict.{Verdict}
-use Rattle.dimacs.specs.declared.Verdict.TheVariants.{Fits}
 use Rattle.dimacs.proofs.Scan.{words_front, words_sep}
 use Rattle.dimacs.proofs.Numerals.{unsigned_is, meaning_plain, digit_word}
 use Rattle.printing.specs.Printing.{digits_by, digits, literal_text, clause_text, clauses_text, text_of}
 use Rattle.literal.specs.Ranged.{InClause, InClauses, total}
 use Rattle.write.specs.Writable.{Writable}
+use Rattle.std.specs.Prelude.{Result, Ok, Err}
+use Rattle.dimacs.specs.declared.Header.{Header}
+use Rattle.dimacs.specs.declared.Digits.{Digits}
+use Rattle.state.specs.declared.Refusal.{Refusal}
 
 -- ---- each byte of a list
 Each : (ℕ → Bool) → List ℕ → Type 0
@@ -96,10 +96,10 @@ unfolding digits
 digits_are n = digits_by_lem n n (omega arith)
 
 -- a number in the header, with a byte behind it that is no digit
-within_read : (limit at : ℕ) (ds : List ℕ) → decimal ds ≤ limit → within_limit limit ds at ≡ Got (decimal ds) (at + length ds)
+within_read : (limit at : ℕ) (ds : List ℕ) → decimal ds ≤ limit → within_limit limit ds at ≡ got (decimal ds) (at + length ds)
 within_read limit at ds h = rw (le-leb (decimal ds) limit h, within_limit)
 
-numeral_read : (limit n b at : ℕ) (s ds : List ℕ) → 0 < n → n ≤ limit → is_digit b ≡ false → Numeral n ds → number limit (ds ++ (b ∷ s)) at ≡ Got n (at + length ds)
+numeral_read : (limit n b at : ℕ) (s ds : List ℕ) → 0 < n → n ≤ limit → is_digit b ≡ false → Numeral n ds → number limit (ds ++ (b ∷ s)) at ≡ got n (at + length ds)
 unfolding Each
 numeral_read limit n b at s [] z h e r = absurd (let q : 0 < 0 = r.some in omega arith)
 numeral_read limit n b at s (d ∷ ds) z h e r =
@@ -107,9 +107,9 @@ numeral_read limit n b at s (d ∷ ds) z h e r =
     let front : take (span is_digit text) text ≡ d ∷ ds =
     ap (λ (k : ℕ). take k text) (span_run is_digit (d ∷ ds) b s r.each e) ∙ take_at (d ∷ ds) (b ∷ s) (length (d ∷ ds)) refl in
     let tests : number limit text at ≡ within_limit limit (take (span is_digit text) text) at = rw (ne_eqb d 48 (r.lead z), number, r.each.0) in
-    tests ∙ ap (λ (k : List ℕ). within_limit limit k at) front ∙ within_read limit at (d ∷ ds) (omega (arith, r.value)) ∙ ap (λ (k : ℕ). Got k (at + length (d ∷ ds))) r.value
+    tests ∙ ap (λ (k : List ℕ). within_limit limit k at) front ∙ within_read limit at (d ∷ ds) (omega (arith, r.value)) ∙ ap (λ (k : ℕ). got k (at + length (d ∷ ds))) r.value
 
-number_read : (limit n b at : ℕ) (s : List ℕ) → n ≤ limit → is_digit b ≡ false → number limit (digits n ++ (b ∷ s)) at ≡ Got n (at + length (digits n))
+number_read : (limit n b at : ℕ) (s : List ℕ) → n ≤ limit → is_digit b ≡ false → number limit (digits n ++ (b ∷ s)) at ≡ got n (at + length (digits n))
 unfolding digits
 number_read limit zero b at s h e = refl
 number_read limit (suc n) b at s h e = numeral_read limit (suc n) b at s (digits (suc n)) (omega arith) h e (digits_are (suc n))
@@ -194,7 +194,7 @@ clause_words v (l ∷ ls) s at h =
     ∙ word_read w 32 (clause_text ls ++ s) at p.some p.each refl
     ∙ ap (λ (ws : List Word). word at w ∷ ws) (clause_words v ls s (suc (at + length w)) h.1.1)
 
-module _ (v end : ℕ) (ok : Verdict) where
+module _ (v end : ℕ) (ok : Result Header Refusal) where
   judge_literal_word : (l : ℤ) (w : List ℕ) (at k r : ℕ) (u : Bool) (ws : List Word) → Spelt l w → nat_abs l ≤ v → 0 < r
       → judge v (budget (suc k) r u) (word at w ∷ ws) end ok ≡ judge v (budget (suc k) (r - 1) true) ws end ok
   unfolding judge
@@ -227,7 +227,7 @@ clause_read v begun (l ∷ ls) ws at h =
     ∙ ap (λ (c : List ℤ). c ∷ clauses_of [] ws) (append_assoc begun (l ∷ []) ls)
 
 -- ---- all clauses
-body_fits : (v end : ℕ) (ok : Verdict) (cs : List (List ℤ)) (at r : ℕ) → InClauses v cs → total cs ≤ r
+body_fits : (v end : ℕ) (ok : Result Header Refusal) (cs : List (List ℤ)) (at r : ℕ) → InClauses v cs → total cs ≤ r
     → judge v (budget (length cs) r false) (words_at (clauses_text cs) at) end ok ≡ ok
 unfolding judge clauses_text InClauses total words_at
 body_fits v end ok [] at r h le = refl
@@ -248,7 +248,7 @@ body_read v (c ∷ cs) at h =
 behind : (text xs s : List ℕ) (at : ℕ) → drop at text ≡ xs ++ s → drop (at + length xs) text ≡ s
 behind text xs s at e = sym (drop-drop (length xs) at text) ∙ ap (drop (length xs)) e ∙ drop_at xs s (length xs) refl
 
-rest_read : (v n at : ℕ) (text s : List ℕ) → n ≤ 4096 → drop at text ≡ 32 ∷ (digits n ++ (10 ∷ s)) → header_rest v text at ≡ Fields v n (suc at + length (digits n) + 1)
+rest_read : (v n at : ℕ) (text s : List ℕ) → n ≤ 4096 → drop at text ≡ 32 ∷ (digits n ++ (10 ∷ s)) → header_rest v text at ≡ fitting v n (suc at + length (digits n) + 1)
 unfolding header_rest
 rest_read v n at text s h e =
     let e1 : drop (suc at) text ≡ digits n ++ (10 ∷ s) = rw (← add-one at) (behind text (32 ∷ []) (digits n ++ (10 ∷ s)) at e) in
@@ -259,14 +259,14 @@ rest_read v n at text s h e =
 unfoldable pub body_at : ℕ → ℕ → ℕ
 body_at v n = suc (6 + length (digits v)) + length (digits n) + 1
 
-header_read : (v : ℕ) (cs : List (List ℤ)) → v ≤ 1024 → length cs ≤ 4096 → header (text_of v cs) ≡ Fields v (length cs) (body_at v (length cs))
+header_read : (v : ℕ) (cs : List (List ℤ)) → v ≤ 1024 → length cs ≤ 4096 → header (text_of v cs) ≡ fitting v (length cs) (body_at v (length cs))
 unfolding header text_of body_at
 header_read v cs hv hn =
     let s : List ℕ = 32 ∷ (digits (length cs) ++ (10 ∷ clauses_text cs)) in
     let text : List ℕ = text_of v cs in
     let e : drop (6 + length (digits v)) text ≡ s = behind text (digits v) s 6 refl in
-    let first : header text ≡ and_then (number 1024 (digits v ++ s) 6) (λ w at. header_rest w text at) = refl in
-    first ∙ ap (λ p. and_then p (λ w at. header_rest w text at)) (number_read 1024 v 32 6 _ hv refl) ∙ rest_read v (length cs) (6 + length (digits v)) text (clauses_text cs) hn e
+    let first : header text ≡ and_then (number 1024 (digits v ++ s) 6) (λ w. header_rest w.value text w.next) = refl in
+    first ∙ ap (λ (p : Result Digits Refusal). and_then p (λ w. header_rest w.value text w.next)) (number_read 1024 v 32 6 _ hv refl) ∙ rest_read v (length cs) (6 + length (digits v)) text (clauses_text cs) hn e
 
 body_behind : (v : ℕ) (cs : List (List ℤ)) → drop (body_at v (length cs)) (text_of v cs) ≡ clauses_text cs
 unfolding text_of body_at
@@ -280,11 +280,11 @@ body_behind v cs =
     behind text (10 ∷ []) (clauses_text cs) (suc (6 + length (digits v)) + length (digits n)) e2
 
 -- the text of a formula within the limits is accepted, with its V and its number of clauses
-pub judged : (v : ℕ) (cs : List (List ℤ)) → Writable v cs → judge_text (text_of v cs) ≡ Fits v (length cs) (body_at v (length cs))
+pub judged : (v : ℕ) (cs : List (List ℤ)) → Writable v cs → judge_text (text_of v cs) ≡ fitting v (length cs) (body_at v (length cs))
 unfolding judge_text
 judged v cs h =
     let at : ℕ = body_at v (length cs) in
-    rw (header_read v cs h.variables h.clauses, body_behind v cs) (body_fits v (length (text_of v cs)) (Fits v (length cs) at) cs at 16384 h.each h.literals)
+    rw (header_read v cs h.variables h.clauses, body_behind v cs) (body_fits v (length (text_of v cs)) (fitting v (length cs) at) cs at 16384 h.each h.literals)
 
 -- reading what was written gives the same clauses
 pub read_back : (v : ℕ) (cs : List (List ℤ)) → Writable v cs → text_clauses (text_of v cs) ≡ cs

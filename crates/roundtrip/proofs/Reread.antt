@@ -16,7 +16,6 @@ use Rattle.tables.specs.Tables.{Tables}
 use Rattle.tables.specs.Long.{Long}
 use Rattle.tables.specs.Calls.{After, answered}
 use Rattle.dimacs.specs.Text.{judge_text, text_clauses}
-use Rattle.dimacs.specs.declared.Verdict.TheVariants.{Fits}
 use Rattle.load.specs.Load.{any_empty, laid, accept, load_call}
 use Rattle.literal.proofs.Distinct.{from_sized, distinct_empty}
 use Rattle.printing.specs.Printing.{text_of}
@@ -28,6 +27,10 @@ use Rattle.roundtrip.proofs.Plain.{distinct_plain}
 use Rattle.roundtrip.proofs.ReadBack.{body_at, judged, read_back}
 use Rattle.roundtrip.proofs.LoadBack.{kept_plain, laid_standing, laid_written, loads}
 use Rattle.dimacs.proofs.Accepted.{Within, in_snoc}
+use Rattle.std.specs.Prelude.{Result, Ok, Err}
+use Rattle.dimacs.specs.declared.Header.{Header}
+use Rattle.state.specs.declared.Refusal.{Refusal}
+use Rattle.dimacs.specs.Header.{got, fitting}
 
 -- ---- what is kept of a clause
 
@@ -151,7 +154,7 @@ module _ (v n : ℕ) (cs : List (List ℤ)) (few : v ≤ 1024) (most : n ≤ 409
   read_fits = read_writable v cs few (omega (arith, W.count, most)) W.size W.each
 
   -- that text is accepted, and has just these clauses
-  pub reread_judged : judge_text (text_after made) ≡ Fits v (length (read_clauses cs)) (body_at v (length (read_clauses cs)))
+  pub reread_judged : judge_text (text_after made) ≡ fitting v (length (read_clauses cs)) (body_at v (length (read_clauses cs)))
   reread_judged = ap judge_text text_is ∙ judged v (read_clauses cs) read_fits
 
   pub reread_clauses : text_clauses (text_after made) ≡ read_clauses cs

@@ -23,7 +23,6 @@ use Rattle.tables.specs.Long.{Long}
 use Rattle.tables.specs.Calls.{After, answered}
 use Rattle.shape.specs.Shape.{Variable, Shape}
 use Rattle.dimacs.specs.Text.{judge_text, text_clauses}
-use Rattle.dimacs.specs.declared.Verdict.TheVariants.{Fits}
 use Rattle.load.specs.Load.{any_empty, laid, load_call}
 use Rattle.printing.specs.Printing.{text_of}
 use Rattle.literal.specs.Ranged.{InClauses, InClause, total}
@@ -39,6 +38,10 @@ use Rattle.roundtrip.specs.Plain.{Plain, EachPlain, read_clauses}
 use Rattle.roundtrip.proofs.Plain.{varied_plain, varied_one, varied_two, varied_part}
 use Rattle.roundtrip.proofs.ReadBack.{body_at, judged, read_back}
 use Rattle.roundtrip.proofs.LoadBack.{kept_plain, laid_standing, laid_written, loads}
+use Rattle.std.specs.Prelude.{Result, Ok, Err}
+use Rattle.dimacs.specs.declared.Header.{Header}
+use Rattle.state.specs.declared.Refusal.{Refusal}
+use Rattle.dimacs.specs.Header.{got, fitting}
 
 -- ---- lists of clauses: each plain, none empty
 
@@ -168,7 +171,7 @@ module _ (t : Tables) (st : State) (S : Shape t st) where
     written_writable = record { variables = S.v_limit; clauses = few; literals = within; each = written_in }
 
     -- the text is accepted, with the same V and the number of clauses written
-    pub written_judged : judge_text (write_text t st) ≡ Fits st.v (length (written_clauses t st)) (body_at st.v (length (written_clauses t st)))
+    pub written_judged : judge_text (write_text t st) ≡ fitting st.v (length (written_clauses t st)) (body_at st.v (length (written_clauses t st)))
     unfolding write_text
     written_judged = judged st.v (written_clauses t st) written_writable
 

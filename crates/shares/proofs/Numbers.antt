@@ -6,13 +6,15 @@ use mathlib.Core.Logic.{⊎_elim}
 use mathlib.Core.List.{List}
 use Rattle.base.specs.Decide.{le_or}
 use Rattle.dimacs.specs.Text.{judge_text}
-use Rattle.dimacs.specs.declared.Verdict.{Verdict}
-use Rattle.dimacs.specs.declared.Verdict.TheVariants.{Fits}
 use Rattle.join.specs.Links.{pair_count, left_of, right_of, link_of, unlinked, right_number, joined_variables}
 use Rattle.join.specs.Join.{variables_by, judge_join}
 use Rattle.join.proofs.RightNumbers.{Linked, link_pair, pair_link, unlinked_more, unlinked_same, unlinked_counts, number_linked, number_unlinked, number_within}
 use Rattle.join.proofs.Within.{join_joined}
 use Rattle.shares.specs.Numbers.{Unlinked, RightNumbers}
+use Rattle.std.specs.Prelude.{Result, Ok, Err}
+use Rattle.dimacs.specs.declared.Header.{Header}
+use Rattle.state.specs.declared.Refusal.{Refusal}
+use Rattle.dimacs.specs.Header.{got, fitting}
 
 module _ (v w : ℕ) (links : List ℕ) (L : Linked v w links) where
   -- the pair links its right variable
@@ -64,10 +66,10 @@ module _ (v w : ℕ) (links : List ℕ) (L : Linked v w links) where
       each k a h = let z = covered w k (omega arith) a h in (z.0, z.1, z.2, links_none z.0 z.3, z.4)
 
 -- THE LAW: for a join that is accepted
-pub join_numbers : (left right links : List ℕ) (u n body : ℕ) → judge_join left right links ≡ Fits u n body
+pub join_numbers : (left right links : List ℕ) (u n body : ℕ) → judge_join left right links ≡ fitting u n body
     → RightNumbers (variables_by (judge_text left)) (variables_by (judge_text right)) u links (right_number (variables_by (judge_text left)) links)
 join_numbers left right links u n body e =
     let J = join_joined left right links u n body e in
-    subst (λ (x : Verdict). RightNumbers (variables_by x) (variables_by (judge_text right)) u links (right_number (variables_by x) links)) (sym J.left_fits)
-    (subst (λ (x : Verdict). RightNumbers J.v (variables_by x) u links (right_number J.v links)) (sym J.right_fits)
+    subst (λ (x : Result Header Refusal). RightNumbers (variables_by x) (variables_by (judge_text right)) u links (right_number (variables_by x) links)) (sym J.left_fits)
+    (subst (λ (x : Result Header Refusal). RightNumbers J.v (variables_by x) u links (right_number J.v links)) (sym J.right_fits)
     (subst (λ (k : ℕ). RightNumbers J.v J.w k links (right_number J.v links)) (sym J.variables) (right_numbers J.v J.w links J.linked)))

@@ -20,14 +20,16 @@ use Rattle.tables.specs.Tables.{Tables}
 use Rattle.tables.specs.Long.{Long}
 use Rattle.tables.specs.Calls.{refuse}
 use Rattle.dimacs.specs.Text.{judge_text, text_clauses}
-use Rattle.dimacs.specs.declared.Verdict.{Verdict}
-use Rattle.dimacs.specs.declared.Verdict.TheVariants.{Refused, Fits}
 use Rattle.load.specs.Load.{accept, load_by, load_formula, join_call}
 use Rattle.load.proofs.Fill.{formula_short, formula_lent}
 use Rattle.join.specs.Links.{pair_count, left_of, right_of, outside, bad_side, bad_link, first_bad, joined_variables, renumbered_clauses}
 use Rattle.join.specs.Join.{variables_by, join_clauses, within_limits, judge_linked, judge_both, judge_join}
 use Rattle.join.proofs.RightNumbers.{renumbered_total}
 use Rattle.shares.specs.Refusals.{BadSide, none, over, used, BadLink, FirstBad, Reads, literals_in, JoinAnswers}
+use Rattle.std.specs.Prelude.{Result, Ok, Err}
+use Rattle.dimacs.specs.declared.Header.{Header}
+use Rattle.state.specs.declared.Refusal.{Refusal}
+use Rattle.dimacs.specs.Header.{got, fitting}
 
 -- ---- the tests of a link mean what they say
 
@@ -86,7 +88,7 @@ module _ (left right links : List ℕ) (t : Tables) (st : State) where
   cs = join_clauses left right links
 
   -- on tables that are long enough, by the verdict
-  by_verdict : Long t → {verdict : Verdict} → judge_join left right links ≡ verdict → join_call left right links t st ≡ load_by verdict cs t st
+  by_verdict : Long t → {verdict : Result Header Refusal} → judge_join left right links ≡ verdict → join_call left right links t st ≡ load_by verdict cs t st
   unfolding join_call
   by_verdict L {verdict} e = (λ i. load_formula (e i) cs t st) ∙ formula_lent verdict cs t st L
 
@@ -94,13 +96,13 @@ module _ (left right links : List ℕ) (t : Tables) (st : State) where
   unfolding join_call
   short_refused short = sym (formula_short (judge_join left right links) cs t st (says_no short) refl)
 
-  by_texts : {x y verdict : Verdict} → judge_text left ≡ x → judge_text right ≡ y → judge_both x y links cs ≡ verdict → judge_join left right links ≡ verdict
+  by_texts : {x y verdict : Result Header Refusal} → judge_text left ≡ x → judge_text right ≡ y → judge_both x y links cs ≡ verdict → judge_join left right links ≡ verdict
   unfolding judge_join
   by_texts p q e = (λ i. judge_both (p i) (q i) links cs) ∙ e
 
   by_tests : (v n w m : ℕ) (b c : Bool) → ltb (first_bad v w links) (pair_count links) ≡ b → within_limits (joined_variables v w links) (n + m) cs ≡ c
-      → judge_linked v n w m links cs ≡ elim b [ true ↦ Refused (Link (first_bad v w links)) | false ↦ elim c [ true ↦ Fits (joined_variables v w links) (n + m) 0 | false ↦ Refused (Limit 0) ] ]
-  by_tests v n w m b c p q = λ i. elim (p i) as (λ x. Verdict) [ true ↦ Refused (Link (first_bad v w links)) | false ↦ elim (q i) as (λ x. Verdict) [ true ↦ Fits (joined_variables v w links) (n + m) 0 | false ↦ Refused (Limit 0) ] ]
+      → judge_linked v n w m links cs ≡ elim b [ true ↦ Err (Link (first_bad v w links)) | false ↦ elim c [ true ↦ fitting (joined_variables v w links) (n + m) 0 | false ↦ Err (Limit 0) ] ]
+  by_tests v n w m b c p q = λ i. elim (p i) as (λ x. Result Header Refusal) [ true ↦ Err (Link (first_bad v w links)) | false ↦ elim (q i) as (λ x. Result Header Refusal) [ true ↦ fitting (joined_variables v w links) (n + m) 0 | false ↦ Err (Limit 0) ] ]
 
   -- the literals of the join are those of both texts
   literals_are : (v n w m : ℕ) → Reads left right v n w m → total cs ≡ literals_in left right
@@ -117,7 +119,7 @@ module _ (left right links : List ℕ) (t : Tables) (st : State) where
   within_limits_lem u k a b c = rw (le-leb u 1024 a, le-leb k 4096 b) (le-leb (total cs) 16384 c)
 
   module _ (L : Long t) (v n w m : ℕ) (R : Reads left right v n w m) where
-    by_linked : {verdict : Verdict} → judge_linked v n w m links cs ≡ verdict → join_call left right links t st ≡ load_by verdict cs t st
+    by_linked : {verdict : Result Header Refusal} → judge_linked v n w m links cs ≡ verdict → join_call left right links t st ≡ load_by verdict cs t st
     by_linked e = by_verdict L (by_texts R.left_fits R.right_fits e)
 
     link_refused : (i : ℕ) → FirstBad v w links i → join_call left right links t st ≡ refuse (Link i) st t

@@ -14,8 +14,6 @@ use Rattle.literal.specs.Literals.{sign_by}
 use Rattle.literal.specs.Ranged.{InClause, InClauses}
 use Rattle.literal.specs.Assignments.{Assignment, truth_by, true_under, some_true, Satisfies}
 use Rattle.dimacs.specs.Text.{judge_text, text_clauses}
-use Rattle.dimacs.specs.declared.Verdict.{Verdict}
-use Rattle.dimacs.specs.declared.Verdict.TheVariants.{Fits}
 use Rattle.dimacs.proofs.Accepted.{text_within}
 use Rattle.join.specs.Links.{pair_count, link_of, right_number, joined_variables, renumbered, renumbered_clauses}
 use Rattle.join.specs.Join.{variables_by, join_clauses, judge_join}
@@ -23,6 +21,10 @@ use Rattle.join.proofs.RightNumbers.{Linked, link_pair, unlinked_counts, number_
 use Rattle.join.proofs.Within.{Joined, join_joined, clauses_are}
 use Rattle.shares.proofs.Numbers.{link_number, right_numbers}
 use Rattle.shares.specs.Shares.{right_share, Same, Agree, Shares}
+use Rattle.std.specs.Prelude.{Result, Ok, Err}
+use Rattle.dimacs.specs.declared.Header.{Header}
+use Rattle.state.specs.declared.Refusal.{Refusal}
+use Rattle.dimacs.specs.Header.{got, fitting}
 
 -- ---- the clauses
 
@@ -107,11 +109,11 @@ module _ (v w : ℕ) (links : List ℕ) (L : Linked v w links) where
       (le_or y v)
 
 -- THE LAW: for a join that is accepted
-pub join_shares : (left right links : List ℕ) (u n body : ℕ) → judge_join left right links ≡ Fits u n body
+pub join_shares : (left right links : List ℕ) (u n body : ℕ) → judge_join left right links ≡ fitting u n body
     → Shares (variables_by (judge_text left)) (variables_by (judge_text right)) u links (text_clauses left) (text_clauses right) (join_clauses left right links)
 join_shares left right links u n body e =
-    subst (λ (x : Verdict). Shares (variables_by x) (variables_by (judge_text right)) u links (text_clauses left) (text_clauses right) (join_clauses left right links)) (sym J.left_fits)
-    (subst (λ (x : Verdict). Shares J.v (variables_by x) u links (text_clauses left) (text_clauses right) (join_clauses left right links)) (sym J.right_fits)
+    subst (λ (x : Result Header Refusal). Shares (variables_by x) (variables_by (judge_text right)) u links (text_clauses left) (text_clauses right) (join_clauses left right links)) (sym J.left_fits)
+    (subst (λ (x : Result Header Refusal). Shares J.v (variables_by x) u links (text_clauses left) (text_clauses right) (join_clauses left right links)) (sym J.right_fits)
     (record { satisfied = satisfied; agree = λ τ i h. ap τ (sym (link_number J.v J.w links J.linked i h)); united = λ σ ρ A. (united_by J.v J.w links J.linked σ ρ, (λ x a h. low J.v J.w links J.linked σ ρ x h), right_of J.v J.w links J.linked σ ρ A); determined = determined }))
   where
     J : Joined left right links u n

@@ -9,10 +9,12 @@ use Rattle.tables.specs.Tables.{Tables}
 use Rattle.tables.specs.Long.{Long}
 use Rattle.tables.specs.Calls.{refuse}
 use Rattle.dimacs.specs.Text.{judge_text, text_clauses}
-use Rattle.dimacs.specs.declared.Verdict.TheVariants.{Refused, Fits}
 use Rattle.load.specs.Load.{accept, join_call}
 use Rattle.join.specs.Links.{pair_count, left_of, right_of, joined_variables}
 use Rattle.join.specs.Join.{join_clauses}
+use Rattle.std.specs.Prelude.{Result, Ok, Err}
+use Rattle.dimacs.specs.declared.Header.{Header}
+use Rattle.dimacs.specs.Header.{got, fitting}
 
 -- ---- the links
 
@@ -37,8 +39,8 @@ pub record FirstBad (v w : ℕ) (links : List ℕ) (i : ℕ) : Type 0 where
 pub record Reads (left right : List ℕ) (v n w m : ℕ) : Type 0 where
   pub left_body : ℕ
   pub right_body : ℕ
-  pub left_fits : judge_text left ≡ Fits v n left_body
-  pub right_fits : judge_text right ≡ Fits w m right_body
+  pub left_fits : judge_text left ≡ fitting v n left_body
+  pub right_fits : judge_text right ≡ fitting w m right_body
 
 -- how many literals both have as written
 abbrev pub literals_in : List ℕ → List ℕ → ℕ
@@ -50,9 +52,9 @@ pub record JoinAnswers (left right links : List ℕ) (t : Tables) (st : State) :
   -- a table is shorter than stated
   pub short : (Long t → ⊥) → join_call left right links t st ≡ refuse Shape st t
   -- the left text is refused, as in a load
-  pub left_text : Long t → (r : Refusal) → judge_text left ≡ Refused r → join_call left right links t st ≡ refuse r st t
+  pub left_text : Long t → (r : Refusal) → judge_text left ≡ Err r → join_call left right links t st ≡ refuse r st t
   -- the right text is
-  pub right_text : Long t → (v n body : ℕ) → judge_text left ≡ Fits v n body → (r : Refusal) → judge_text right ≡ Refused r → join_call left right links t st ≡ refuse r st t
+  pub right_text : Long t → (v n body : ℕ) → judge_text left ≡ fitting v n body → (r : Refusal) → judge_text right ≡ Err r → join_call left right links t st ≡ refuse r st t
   -- a link is bad
   pub link : Long t → (v n w m : ℕ) → Reads left right v n w m → (i : ℕ) → FirstBad v w links i → join_call left right links t st ≡ refuse (Link i) st t
   -- no link is bad, and the join is above a limit
