@@ -41,10 +41,9 @@ fn visit_pending(
     let at = k as usize;
     let seen = propagate_visits::visit_clause(clauses, literals, variables, at);
     pending[at] = false;
-    let Visited::MadeTrue(w) = seen else {
-        return seen;
-    };
-    occurrences::set_pending(heads, places, w as usize, pending, blocks);
+    if let Visited::MadeTrue(w) = seen {
+        occurrences::set_pending(heads, places, w as usize, pending, blocks);
+    }
     seen
 }
 
@@ -170,20 +169,18 @@ fn visit_some(
     ensures { (times : List ℕ) (links : List ℤ) → reached_as result (returned clauses.new literals.new variables.new times links)
         ≡ propagate_visits n steps 0 (going cursor flag (lent clauses.old literals.old variables.old times links)) }
 {
-    let first = visits::fewer(4 * n, steps);
+    let first = steps.min(4 * n);
     let reach = propagate_visits::visit_each(clauses, literals, variables, n, first, cursor, flag);
-    let stand = reach.stand;
-    let Stand::Going(k, changed) = stand else {
+    let Stand::Going(k, changed) = reach.stand else {
         return reach;
     };
     if first == steps {
         return reach;
     }
     let more = visit_listed(clauses, literals, variables, n, steps - first, k, changed);
-    let stand = more.stand;
     Reach {
         visits: reach.visits + more.visits,
-        stand,
+        stand: more.stand,
     }
 }
 
@@ -228,10 +225,8 @@ fn propagate_from(
     let reach = visit_some(clauses, literals, variables, n, steps, cursor, flag);
     spread::spread(variables, st.v);
     let left = visits::count_standing(clauses, n as usize);
-    let visits = reach.visits;
-    let stand = reach.stand;
-    let counts = visits::counts_of(visits, before, left);
-    answer(st, fresh, counts, stand)
+    let counts = visits::counts_of(reach.visits, before, left);
+    answer(st, fresh, counts, reach.stand)
 }
 
 // A call that opens the pass: with no clause it is done at once. The tables keep the shape rule: `entry::entry_of` has checked it, and for a run the passes before keep it (`propagate_shaped`, `merge_shaped`).

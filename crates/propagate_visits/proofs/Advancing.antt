@@ -90,10 +90,6 @@ module _ {n k : ℕ} {c : List ℕ} {l w : List ℤ} (R : StandsBefore n k c l w
       ∙ sym (visits_split n first (steps - first) 0 (going k changed (tables c l w times links)))
       ∙ ap (λ (m : ℕ). propagate_visits n m 0 (going k changed (tables c l w times links))) (let e : first + (steps - first) ≡ steps = omega (arith, h) in e)
 
-  -- the first part was all
-  pub first_all : first ≡ steps → (times : List ℕ) (links : List ℤ) → reached_as r (tables c' l' w' times links) ≡ propagate_visits n steps 0 (going k changed (tables c l w times links))
-  first_all e times links = part times links ∙ ap (λ (m : ℕ). propagate_visits n m 0 (going k changed (tables c l w times links))) e
-
   -- the pass has ended in it
   pub first_ended : Ended r.stand → (times : List ℕ) (links : List ℤ) → reached_as r (tables c' l' w' times links) ≡ propagate_visits n steps 0 (going k changed (tables c l w times links))
   first_ended e times links = sym (ended_stays n (steps - first) r.visits r.stand (tables c' l' w' times links) e) ∙ whole times links

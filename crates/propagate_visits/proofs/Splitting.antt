@@ -2,6 +2,7 @@
 use Prim.Native.Nat.{ℕ, zero, suc, ◌+◌, ◌≤◌}
 use native.Mathlib.Omega.{arith}
 use mathlib.Core.Path.{◌≡◌, refl, sym, ap, ◌∙◌}
+use mathlib.Core.Bool.{Bool}
 use Rattle.tables.specs.Tables.{Tables}
 use Rattle.propagate_visits.specs.Visits.{Progress, going, settled, contradicted, propagate_visit, propagate_visits, reached}
 use Rattle.propagate_visits.specs.Steps.{progress_of}
@@ -23,6 +24,12 @@ abbrev pub Ended : Stand → Type 0
 Ended (Going k changed) = ⊥
 Ended Settled = Unit
 Ended Contradicted = Unit
+
+-- a pass that does not go on has ended
+pub ended_unless : (s : Stand) → ((k : ℕ) (changed : Bool) → s ≡ Going k changed → ⊥) → Ended s
+ended_unless (Going k changed) n = absurd (n k changed refl)
+ended_unless Settled n = tt
+ended_unless Contradicted n = tt
 
 pub ended_stays : (n m made : ℕ) (s : Stand) (t : Tables) → Ended s → propagate_visits n m made (progress_of s t) ≡ reached made (progress_of s t)
 ended_stays n m made (Going k changed) t e = absurd e

@@ -6,9 +6,9 @@ use mathlib.Core.Bool.{Bool}
 use lib.ListN.{length}
 use Rattle.propagate.specs.Listed.{Listed}
 use Rattle.propagate_visits.specs.declared.Stand.{Stand}
-use Rattle.propagate_visits.specs.declared.Stand.TheVariants.{Going, Settled, Contradicted}
+use Rattle.propagate_visits.specs.declared.Stand.TheVariants.{Going, Contradicted}
 use Rattle.propagate_visits.proofs.Stepping.{Making, making_none, making_done}
-use Rattle.propagate_visits.proofs.Splitting.{Ended}
+use Rattle.propagate_visits.proofs.Splitting.{ended_unless}
 use Rattle.propagate_visits.proofs.Advancing.{advanced_goes, advanced_ends}
 use borrow.Author.Rules.{rules}
 use Rattle.propagate.proofs.visit_skipping.Statement.{statement}
@@ -23,12 +23,6 @@ decreases-loop clauses₀ literals₀ variables₀ heads places pending₀ block
 -- a pass that goes on has not met the empty clause
 goes_on : (s : Stand) (k : ℕ) (b : Bool) → s ≡ Going k b → s ≡ Contradicted → ⊥
 goes_on s k b e d = let z : Going k b ≡ Contradicted = sym e ∙ d in let q : ◌≡◌ {A = ℕ} 0 1 = cc in omega arith
-
--- a pass that does not go on has ended
-ended : (c : tie.In_default invariant-loop decreases-loop) (s : Stand) → c.skip_or_visit-reach.result.stand ≡ s → Ended s
-ended c (Going k b) e = absurd (c.in_default.not-Going k b e)
-ended c Settled e = tt
-ended c Contradicted e = tt
 
 loop-holds : tie.Need-loop-visits-init invariant-loop decreases-loop
 loop-holds c = (making_none c.requires.0 c.args.steps c.args.flag, (c.requires.1, (refl, refl)))
@@ -61,7 +55,7 @@ same-length-5 : tie.Need-shape_of-blocks-in_default invariant-loop decreases-loo
 same-length-5 c = c.skip_or_visit-reach.auto.blocks ∙ c.loop-visits.invariant.1.1.1
 
 returns : tie.Need-returns-in_default invariant-loop decreases-loop
-returns c = let s = c.skip_or_visit-reach in advanced_ends c.loop-visits.invariant.0 c.loop-visits-test.true s.result s.new.clauses s.new.literals s.new.variables s.ensures.0 s.result.stand refl (ended c s.result.stand refl)
+returns c = let s = c.skip_or_visit-reach in advanced_ends c.loop-visits.invariant.0 c.loop-visits-test.true s.result s.new.clauses s.new.literals s.new.variables s.ensures.0 s.result.stand refl (ended_unless s.result.stand c.in_default.not-Going)
 
 loop-less : tie.Need-loop-visits-smaller invariant-loop decreases-loop
 loop-less c = omega (arith, c.skip_or_visit-reach.ensures.0.made)

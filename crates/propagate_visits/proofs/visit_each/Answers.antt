@@ -1,9 +1,7 @@
-use Rattle.std.proofs.Common.{arith, ◌≡◌, ◌-◌, ℕ, Bool, refl}
+use Rattle.std.proofs.Common.{arith, ◌-◌, refl}
 use Rattle.propagate_visits.specs.Steps.{Advanced}
-use Rattle.propagate_visits.specs.declared.Stand.{Stand}
-use Rattle.propagate_visits.specs.declared.Stand.TheVariants.{Going, Settled, Contradicted}
 use Rattle.propagate_visits.proofs.Stepping.{making_all}
-use Rattle.propagate_visits.proofs.Splitting.{Ended}
+use Rattle.propagate_visits.proofs.Splitting.{ended_unless}
 use Rattle.propagate_visits.proofs.Advancing.{advanced_one, advanced_goes, advanced_ends}
 use Rattle.propagate_visits.proofs.visit_each.Goals as goal
 use Rattle.propagate_visits.proofs.visit_each.Goals.{After-step-stand}
@@ -13,16 +11,10 @@ one : (c : After-step-stand) → Advanced c.args.n (c.args.steps - c.loop-made.m
 one c =
     advanced_one c.loop-made.changed c.loop-made.invariant.stands (omega (arith, c.loop-made-test.true)) c.step-stand.result c.step-stand.new.clauses c.step-stand.new.literals c.step-stand.new.variables c.step-stand.ensures
 
--- a pass that does not go on has ended
-ended : (s : Stand) → ((k : ℕ) (changed : Bool) → s ≡ Going k changed → ⊥) → Ended s
-ended (Going k b) n = absurd (n k b refl)
-ended Settled n = tt
-ended Contradicted n = tt
-
 pub returns-in_default : goal.returns-in_default
 returns-in_default c =
     let s = c.step-stand in
-    advanced_ends c.loop-made.invariant c.loop-made-test.true (record { visits = 1; stand = s.result }) s.new.clauses s.new.literals s.new.variables (one (goal.at.returns-in_default c).After-step-stand) s.result refl (ended s.result c.in_default.not-Going)
+    advanced_ends c.loop-made.invariant c.loop-made-test.true (record { visits = 1; stand = s.result }) s.new.clauses s.new.literals s.new.variables (one (goal.at.returns-in_default c).After-step-stand) s.result refl (ended_unless s.result c.in_default.not-Going)
 
 pub loop-made-preserved : goal.loop-made-preserved
 loop-made-preserved c =
