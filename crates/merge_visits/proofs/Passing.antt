@@ -2,7 +2,7 @@
 use Prim.Native.Nat.{ℕ, suc, ◌+◌, ◌-◌, ◌≤◌, ◌<◌}
 use native.Mathlib.Numerals.{add-one}
 use native.Mathlib.Omega.{arith}
-use mathlib.Core.Path.{◌≡◌, refl, sym, subst, ◌∙◌}
+use mathlib.Core.Path.{◌≡◌, sym, subst, ◌∙◌}
 use mathlib.Core.List.{List, []}
 use lib.ListN.{length}
 use lib.IntN.{ℤ}
@@ -19,9 +19,6 @@ pub record Passing (k end i : ℕ) (w : List ℤ) (c₀ : List ℕ) (l₀ : List
   pub mergeable : Mergeable i end c l w
   pub sizes : (length c ≡ length c₀) × (length l ≡ length l₀)
   pub left : (times : List ℕ) (links : List ℤ) → visits (merge_clause w) (end - i) i (tables c l w times links) ≡ visits (merge_clause w) (end - k) k (tables c₀ l₀ w times links)
-
-pub passing_none : {k end : ℕ} {c : List ℕ} {l w : List ℤ} → Mergeable k end c l w → Passing k end k w c l c l
-passing_none A = record { mergeable = A; sizes = (refl, refl); left = λ times links. refl }
 
 module _ {k end i : ℕ} {w : List ℤ} {c₀ : List ℕ} {l₀ : List ℤ} {c : List ℕ} {l : List ℤ} (P : Passing k end i w c₀ l₀ c l) (more : i < end) where
   pub passing_one : Visitable i c l w

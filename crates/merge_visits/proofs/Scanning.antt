@@ -2,13 +2,13 @@
 use Prim.Native.Nat.{ℕ, suc, ◌+◌, ◌≤◌, ◌<◌}
 use native.Mathlib.Numerals.{add-one}
 use native.Mathlib.Omega.{arith}
-use mathlib.Core.Path.{◌≡◌, refl, sym, ap, ◌∙◌}
-use mathlib.Core.List.{List, ◌∷◌, ◌++◌, map, append-nil}
-use lib.ListN.{length, take, drop, get_or, set, length-set, drop_of_length-le}
-use lib.Seq.{take-suc-set, drop-cons, drop-set-lt, take_all, append_snoc}
+use mathlib.Core.Path.{◌≡◌, sym, ap, ◌∙◌}
+use mathlib.Core.List.{List, ◌∷◌, ◌++◌, map}
+use lib.ListN.{length, take, drop, get_or, set, length-set}
+use lib.Seq.{take-suc-set, drop-cons, drop-set-lt, append_snoc}
 use lib.IntN.{ℤ, pos}
 use Rattle.tables.specs.Values.{class_literal}
-use Rattle.visits.proofs.Ahead.{Ahead, ahead_none, ahead_set}
+use Rattle.visits.proofs.Ahead.{Ahead, ahead_set}
 
 -- substitute: class literals stand in front, and what is still to be read is as it was
 
@@ -16,9 +16,6 @@ pub record Putting (w p₀ p : List ℤ) (i : ℕ) : Type 0 where
   pub within : i ≤ length p
   pub unread : Ahead p₀ p i
   pub split : map (class_literal w) p₀ ≡ take i p ++ map (class_literal w) (drop i p)
-
-pub putting_none : (w p : List ℤ) → Putting w p p 0
-putting_none w p = record { within = omega arith; unread = ahead_none p; split = refl }
 
 module _ {w p₀ p : List ℤ} {i : ℕ} (P : Putting w p₀ p i) (lt : i < length p) where
   pub putting_next : (y : ℤ) → y ≡ class_literal w (get_or p i (pos 0)) → Putting w p₀ (set p i y) (i + 1)
@@ -34,7 +31,3 @@ module _ {w p₀ p : List ℤ} {i : ℕ} (P : Putting w p₀ p i) (lt : i < leng
         ∙ ap (λ (l : List ℤ). take (suc i) (set p i y) ++ map (class_literal w) l) (sym (drop-set-lt (suc i) p i y (omega arith)))
         ∙ ap (λ (k : ℕ). take k (set p i y) ++ map (class_literal w) (drop k (set p i y))) (sym (add-one i));
   }
-
-pub putting_done : {w p₀ p : List ℤ} {i : ℕ} → Putting w p₀ p i → length p ≤ i → p ≡ map (class_literal w) p₀
-putting_done {w} {p₀} {p} {i} P h =
-    sym (P.split ∙ ap (λ (l : List ℤ). take i p ++ map (class_literal w) l) (drop_of_length-le p h) ∙ append-nil (take i p) ∙ take_all i p h)

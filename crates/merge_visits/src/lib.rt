@@ -18,11 +18,8 @@ fn substitute(part: &mut [i32], variables: &[i32])
     requires { EachKnown variables.now part.old }
     ensures { part.new ≡ map (class_literal variables.now) part.old }
 {
-    let mut i = 0;
-    while i < part.len() {
-        let l = part[i];
-        part[i] = visits::class_literal(variables, l);
-        i += 1;
+    for l in part.iter_mut() {
+        *l = visits::class_literal(variables, *l);
     }
 }
 
@@ -71,9 +68,7 @@ pub fn visit_some(clauses: &mut [u32], literals: &mut [i32], variables: &[i32], 
         ≡ visits (merge_clause variables.now) (end - k) k (lent clauses.old literals.old variables.now times links) }
 {
     let mut marks = [0u32; 2049];
-    let mut i = k;
-    while i < end {
+    for i in k..end {
         visit_clause(clauses, literals, variables, &mut marks, i as usize);
-        i += 1;
     }
 }
