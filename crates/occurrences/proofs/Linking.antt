@@ -3,7 +3,7 @@ use Prim.Native.Nat.{ℕ, ◌+◌, ◌*◌, ◌-◌, ◌≤◌, ◌<◌}
 use native.Mathlib.Omega.{arith}
 use mathlib.Core.Path.{◌≡◌, refl, sym, ap, subst, subst₂, ◌∙◌}
 use mathlib.Core.List.{List}
-use mathlib.Core.Logic.{◌⊎◌, inl, inr, ⊎_elim}
+use mathlib.Core.Logic.{inl, inr, ⊎_elim}
 use lib.ListN.{length, get_or, set, replicate, length-set, length-replicate}
 use lib.Seq.{get_or-set_same, get_or-set_other}
 use lib.IntN.{ℤ, pos}
@@ -168,20 +168,6 @@ module _ {n i m : ℕ} {c : List ℕ} {l : List ℤ} {heads places : List ℕ} (
           (λ (d : k ≡ m → ⊥). old j k h (inr (b.0, omega (arith, b.1, d))))
           (same_or k m)
 
--- the whole clause
-pub linking_next : {i m : ℕ} {c : List ℕ} {l : List ℤ} {heads places : List ℕ} → length_of c i ≤ m → Linking i m c l heads places → Linking (i + 1) 0 c l heads places
-linking_next {i} {m} {c} {l} {heads} {places} h L = record {
-  vs = L.vs;
-  size = L.size;
-  chained = L.chained;
-  from = λ q z. let (j, k, e, within, b) = L.from q z in (j, k, e, within, inl (⊎_elim (λ (x : j < i). omega arith) (λ (x : (j ≡ i) × (k < m)). omega (arith, x.0)) b));
-  to = λ j k within b. L.to j k within (back j k within b);
-}
-  where
-    back : (j k : ℕ) → k < length_of c j → Before j k (i + 1) 0 → Before j k i m
-    back j k within (inl x) = ⊎_elim (λ (s : j ≡ i). inr (s, omega (arith, within, h, ap (length_of c) s))) (λ (d : j ≡ i → ⊥). inl (omega (arith, x, d))) (same_or j i)
-    back j k within (inr x) = absurd (omega (arith, x.1))
-
 -- no place is linked
 pub linking_none : (c : List ℕ) (l : List ℤ) (heads places : List ℕ) → ((w : ℕ) → get_or heads w 0 ≡ 0) → Linking 0 0 c l heads places
 linking_none c l heads places none = record {
@@ -195,21 +181,6 @@ linking_none c l heads places none = record {
   };
   from = λ q h. absurd (omega (arith, h, get_d_zeros 16384 q));
   to = λ j k h b. ⊎_elim (λ (x : j < 0). absurd (omega (arith, x))) (λ (x : (j ≡ 0) × (k < 0)). absurd (omega (arith, x.1))) b;
-}
-
-pub linkable_fewer : {n m : ℕ} {c : List ℕ} {l : List ℤ} → m ≤ n → Linkable n c l → Linkable m c l
-linkable_fewer {n} {m} h K = record {
-  number = omega (arith, h, K.number);
-  records = K.records;
-  room = K.room;
-  parts = record {
-    flag = λ i lt. K.parts.flag i (omega (arith, h, lt));
-    dropped = λ i lt. K.parts.dropped i (omega (arith, h, lt));
-    inside = λ i lt. K.parts.inside i (omega (arith, h, lt));
-    rising = λ j lt. K.parts.rising j (omega (arith, h, lt));
-    apart = λ j lt. K.parts.apart j (omega (arith, h, lt));
-  };
-  ranged = λ i lt. K.ranged i (omega (arith, h, lt));
 }
 
 -- the same for the place itself, with what the code has read

@@ -1,7 +1,7 @@
--- Walking a chain, and searching by blocks. Assumes nothing.
+-- Which clauses are pending, and walking a chain. Assumes nothing.
 use Prim.Native.Nat.{ℕ, zero, suc, ◌+◌, ◌*◌, ◌-◌, ◌/◌, ◌≤◌, ◌<◌}
 use native.Mathlib.Omega.{arith}
-use mathlib.Core.Path.{◌≡◌, refl, sym, ap, subst, ◌∙◌}
+use mathlib.Core.Path.{◌≡◌, refl, sym, ap, ◌∙◌}
 use mathlib.Core.Bool.{Bool, true, false, false≢true}
 use mathlib.Core.List.{List}
 use mathlib.Core.Logic.{◌⊎◌, inl, inr, ⊎_elim}
@@ -9,7 +9,7 @@ use lib.ListN.{length, get_or, set, length-set}
 use lib.Seq.{get_or-set_same, get_or-set_other}
 use Rattle.base.specs.Decide.{same_or, le_or}
 use Rattle.occurrences.specs.Chains.{next_of, owner_of}
-use Rattle.occurrences.specs.Pending.{Covered, Skippable, WalkableChains, HasChain, PendingAll}
+use Rattle.occurrences.specs.Pending.{Covered, WalkableChains, HasChain, PendingAll}
 
 -- ---- one clause
 
@@ -33,46 +33,6 @@ covered_clear {pending} {blocks} T i h = record {
       (λ (d : j ≡ i → ⊥). T.block j lt (sym (get_or-set_other pending i j false false d) ∙ e))
       (same_or j i);
 }
-
--- a block without a pending clause is left out
-pub covered_block : {pending blocks : List Bool} → Covered pending blocks → (b : ℕ) → Skippable pending (64 * b) (64 * b + 64) → Covered pending (set blocks b false)
-covered_block {pending} {blocks} T b none = record {
-  block = λ j lt e.
-      ⊎_elim
-      (λ (s : j / 64 ≡ b). absurd (false≢true (sym (none.none j (omega (arith, s)) (omega (arith, s))) ∙ e)))
-      (λ (d : j / 64 ≡ b → ⊥). get_or-set_other blocks b (j / 64) false false d ∙ T.block j lt e)
-      (same_or (j / 64) b);
-}
-
--- ---- a search
-
-pub skippable_none : (pending : List Bool) (a : ℕ) → Skippable pending a a
-skippable_none pending a = record { none = λ i h l. absurd (omega (arith, h, l)) }
-
-pub skippable_more : {pending : List Bool} {a b : ℕ} → Skippable pending a b → get_or pending b false ≡ false → Skippable pending a (b + 1)
-skippable_more {pending} {a} {b} U e = record {
-  none = λ i h l. ⊎_elim (λ (s : i ≡ b). ap (λ (x : ℕ). get_or pending x false) s ∙ e) (λ (d : i ≡ b → ⊥). U.none i h (omega (arith, l, d))) (same_or i b);
-}
-
-pub skippable_join : {pending : List Bool} {a b c : ℕ} → Skippable pending a b → Skippable pending b c → Skippable pending a c
-skippable_join {pending} {a} {b} {c} U W = record { none = λ i h l. ⊎_elim (λ (z : b ≤ i). W.none i z l) (λ (z : i < b). U.none i h z) (le_or b i) }
-
--- up to b, as numbers
-pub skippable_to : {pending : List Bool} {a b c : ℕ} → b ≡ c → Skippable pending a b → Skippable pending a c
-skippable_to {pending} {a} e U = subst (Skippable pending a) e U
-
-pub from_start : {pending : List Bool} {a b c : ℕ} → Skippable pending a c → a ≡ b → Skippable pending b c
-from_start {pending} {a} {b} {c} U e = subst (λ (x : ℕ). Skippable pending x c) e U
-
--- in a block that is left out
-pub skippable_block : {pending blocks : List Bool} → Covered pending blocks → (j : ℕ) → j < 4096 → get_or blocks (j / 64) false ≡ false → Skippable pending j (64 * (j / 64) + 64)
-skippable_block {pending} {blocks} T j h e = record {
-  none = λ i a l. by i a l (get_or pending i false) refl;
-}
-  where
-    by : (i : ℕ) → j ≤ i → i < 64 * (j / 64) + 64 → (b : Bool) → get_or pending i false ≡ b → b ≡ false
-    by i a l true z = let s : i / 64 ≡ j / 64 = omega (arith, a, l) in sym (T.block i (omega (arith, l, h)) z) ∙ ap (λ (x : ℕ). get_or blocks x false) s ∙ e
-    by i a l false z = refl
 
 -- ---- the walk of a chain
 

@@ -26,11 +26,9 @@ fn link_clause(clauses: &[u32], literals: &[i32], i: u32, heads: &mut [u32], pla
     let at = 3 * i as usize;
     let start = clauses[at] as usize;
     let end = start + clauses[at + 1] as usize;
-    let mut p = start;
-    while p < end {
+    for p in start..end {
         let w = literal::var_of(literals[p]);
         link_place(heads, places, w, p, i);
-        p += 1;
     }
 }
 
@@ -41,10 +39,8 @@ pub fn link(clauses: &[u32], literals: &[i32], n: u32, heads: &mut [u32], places
     requires linking { Linking 0 0 clauses.now literals.now heads.old places.old }
     ensures { Linking n 0 clauses.now literals.now heads.new places.new }
 {
-    let mut i: u32 = 0;
-    while i < n {
+    for i in 0..n {
         link_clause(clauses, literals, i, heads, places);
-        i += 1;
     }
 }
 
@@ -74,14 +70,12 @@ fn pending_between(pending: &[bool], from: usize, to: usize) -> usize
     requires { (from ≤ to) × (to ≤ length pending.now) }
     ensures { (from ≤ result) × ((result ≤ to) × Skippable pending.now from result) }
 {
-    let mut i = from;
-    while i < to {
+    for i in from..to {
         if pending[i] {
             return i;
         }
-        i += 1;
     }
-    i
+    to
 }
 
 // The first pending clause from j on in the block of j, or the block's end. A block that has none is left out from then on.
@@ -97,14 +91,10 @@ fn pending_in_block(pending: &[bool], blocks: &mut [bool], j: usize) -> usize
         return end;
     }
     let found = pending_between(pending, j, end);
-    if found < end {
-        return found;
-    }
-    if j == 64 * b {
+    if found == end && j == 64 * b {
         blocks[b] = false;
-        return end;
     }
-    end
+    found
 }
 
 // The first pending clause from k on; 4,096 if there is none. The two tables are those of `propagate::visit_listed`, in which every clause is pending at first.
@@ -114,14 +104,11 @@ pub fn next_pending(pending: &[bool], blocks: &mut [bool], k: usize) -> usize
     ensures lower_bound { (k ≤ result) × ((result ≤ 4096) × Skippable pending.now k result) }
     ensures covered_2 { Covered pending.now blocks.new }
 {
-    let mut j = k;
-    while j < 4096 {
-        let end = 64 * (j / 64) + 64;
-        let found = pending_in_block(pending, blocks, j);
-        if found < end {
+    for b in k / 64..64 {
+        let found = pending_in_block(pending, blocks, k.max(64 * b));
+        if found < 64 * b + 64 {
             return found;
         }
-        j = end;
     }
-    j
+    4096
 }

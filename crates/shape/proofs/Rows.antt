@@ -2,8 +2,10 @@
 use Prim.Native.Nat.{ℕ, ◌+◌, ◌≤◌, ◌<◌}
 use native.Mathlib.Omega.{arith}
 use mathlib.Core.Path.{◌≡◌, refl}
+use mathlib.Core.Logic.{inl, inr}
 use mathlib.Core.List.{List}
 use borrow.Author.Count.{below_more}
+use Rattle.base.specs.Decide.{zero_or}
 use Rattle.tables.specs.Tables.{start_of, length_of, standing}
 use Rattle.shape.specs.Shape.{Parts}
 use Rattle.shape.specs.Row.{Row}
@@ -17,6 +19,22 @@ pub record Rows (clauses : List ℕ) (i floor end : ℕ) : Type 0 where
   pub end_met : (0 < end) → (j : ℕ) × (j < i) × (0 < length_of clauses j) × (end ≡ start_of clauses j + length_of clauses j)
 
 module _ (clauses : List ℕ) (i floor end : ℕ) (R : Rows clauses i floor end) where
+  -- record i of a right table is a right row after those before it
+  pub row_must : (n : ℕ) → i < n → Parts n clauses → Row (start_of clauses i) (length_of clauses i) (standing clauses i) floor end
+  row_must n lt P = record {
+    flagged = P.flag i lt;
+    dropped = P.dropped i lt;
+    inside = P.inside i lt;
+    rising = elim (zero_or floor) [
+      | inl z ↦ omega arith
+      | inr h ↦ let m = R.floor_met h in omega (arith, m.2, P.rising i lt m.0 m.1)
+    ];
+    apart = λ has. elim (zero_or end) [
+      | inl z ↦ omega arith
+      | inr h ↦ let m = R.end_met h in omega (arith, m.3, P.apart i lt m.0 m.1 m.2 has)
+    ];
+  }
+
   module _ (W : Row (start_of clauses i) (length_of clauses i) (standing clauses i) floor end) where
     next_parts : Parts (i + 1) clauses
     next_parts = record {

@@ -8,8 +8,8 @@ use mathlib.Core.Path.{◌≡◌, refl, sym, ap, subst, ◌∙◌}
 use mathlib.Core.Bool.{Bool}
 use mathlib.Core.List.{List}
 use mathlib.Core.Logic.{⊎_elim}
-use lib.ListN.{length, get_or, set, length-set}
-use lib.Seq.{get_or-set_other, set-get_or}
+use lib.ListN.{length, get_or, length-set}
+use lib.Seq.{get_or-set_other}
 use lib.IntN.{ℤ, pos, nat_abs}
 use lib.Signed.{non_neg}
 use Rattle.base.specs.Decide.{same_or, le_or}
@@ -52,10 +52,6 @@ module _ {v : ℕ} {w : List ℤ} (R : Variables v w) (u : ℕ) (above : 0 < u) 
         (same_or k u);
     behind = λ k h. get_or-set_other w (2 * u - 1) k (class_value w u) (pos 0) (λ e. omega (arith, e, h, above, within));
   }
-
--- a variable that is its own class has its value already
-pub own_spread : (w : List ℤ) (u : ℕ) → class_of w u ≡ pos u → spread_at u w ≡ w
-own_spread w u e = ap (λ (z : ℤ). set w (2 * u - 1) (own_truth w z)) e ∙ set-get_or w (2 * u - 1) (pos 0)
 
 -- the record of a variable and that of its class, as the code asks them
 pub known_classed : {w : List ℤ} {u : ℕ} → Known w (pos u) → Classed w u

@@ -7,8 +7,6 @@ use Rattle.occurrences.proofs.Pending.{Walking, walking_none, walk_inside, walk_
 use borrow.Author.Rules.{rules}
 use Rattle.occurrences.proofs.set_pending.Statement.{statement}
 use Rattle.occurrences.proofs.set_pending.Tie as tie
-use Rattle.occurrences.proofs.set_pending.Reads as reads
-use Rattle.occurrences.proofs.set_pending.Lts as lts
 
 abbrev invariant-loop : tie.invariant-loop-p
 invariant-loop heads places w pending₀ blocks₀ p₀ pending blocks p = (length blocks ≡ length blocks₀) × Walking w p heads places pending₀ pending blocks

@@ -1,9 +1,12 @@
 -- `shape::literals_ok` keeps its invariant (`Listing`): the literal that is looked at is in range, its variable has not come, and `last` gets this clause's number there. Assumes nothing.
 use mir.Syntax.{w32}
 use mir.Val.{of_z, to_z}
-use Rattle.std.proofs.Common.{rules, arith, sym, ◌∙◌, ◌≡◌, true, ℕ, List, length, take, drop, get_or, length-take, ◌+◌, ◌-◌, ◌≤◌, ◌<◌, ℤ, pos, nat_abs}
+use Rattle.std.proofs.Common.{rules, arith, sym, ◌∙◌, ◌≡◌, true, false, ℕ, List, length, take, drop, get_or, length-take, ◌+◌, ◌-◌, ◌≤◌, ◌<◌, ℤ, pos, nat_abs}
 use Rattle.std.proofs.lemmas.List.{get_or-take, get_or-drop}
+use Rattle.std.proofs.lemmas.Bool.{false≢true}
 use Rattle.base.specs.Decide.{says_no}
+use Rattle.literal.specs.Literals.{in_range}
+use Rattle.literal.proofs.Laws.{literal_tested}
 use Rattle.literal.proofs.Signed.{in_range_lem, InRange}
 use Rattle.tables.specs.Tables.{class_of}
 use Rattle.shape.proofs.Listing.{listing_next, listing_twice}
@@ -58,3 +61,15 @@ returns-then-repeated c =
       ],
       l.invariant.below,
     )
+
+pub returns-then-not-in_range : goal.returns-then-not-in_range
+returns-then-not-in_range c =
+    let a = c.args in
+    let k = c.loop-l.l-index in
+    let inside : k < a.len = placed a.literals.now a.start a.len k c.requires.0 c.loop-l-test.true in
+    let item : ℤ = get_or (part a.literals.now a.start a.len) k (pos 0) in
+    let lit : ℤ = get_or a.literals.now (a.start + k) (pos 0) in
+    let read : to_z w32 (of_z w32 item) ≡ item = search rules in
+    let is : item ≡ lit = in_table a.literals.now a.start a.len k c.requires.0 c.loop-l-test.true in
+    let out : in_range lit a.v ≡ false = sym (rw (read, is) at c.in_range.ensures) ∙ c.if-not-in_range.true in
+    (says_no (λ L. false≢true (sym out ∙ literal_tested (omega (arith, c.requires.1)) (L.ranged k inside))), c.loop-l.invariant.below)
