@@ -6,7 +6,7 @@ use native.Mathlib.Omega.{arith}
 use mathlib.Core.Path.{◌≡◌, refl, sym, ap, ◌∙◌}
 use mathlib.Core.List.{List, [], ◌∷◌, ◌++◌, map}
 use lib.ListN.{length, get_or, take, drop, length-map, length-drop}
-use lib.Seq.{sets, length-sets, drop-cons, length-take-le}
+use lib.Seq.{sets, drop-cons, length-take-le}
 use lib.IntN.{ℤ, pos}
 use Rattle.literal.specs.Literals.{slot_of, twin}
 use Rattle.implications.specs.Clauses.{clause_froms, clause_tos, froms, tos}
@@ -51,10 +51,7 @@ module _ (n : ℕ) (cs : List ℕ) (ls : List ℤ) where
       ap (λ (m : ℕ). slots_from cs ls m i) e ∙ ap (λ (j : ℕ). slots_at cs ls i ∷ slots_from cs ls (n - (i + 1)) j) (sym (add-one i))
 
   pub record Pairing (F₀ T₀ F T : List ℕ) (k i : ℕ) : Type 0 where
-    pub within : i ≤ n
     pub few : k ≤ 2 * i
-    pub from_size : length F ≡ length F₀
-    pub to_size : length T ≡ length T₀
     pub count : k + length (froms (rest i)) ≡ length (froms (rest 0))
     pub from_same : sets F k (froms (rest i)) ≡ sets F₀ 0 (froms (rest 0))
     pub to_same : sets T k (tos (rest i)) ≡ sets T₀ 0 (tos (rest 0))
@@ -68,10 +65,7 @@ module _ (n : ℕ) (cs : List ℕ) (ls : List ℤ) where
         let step : rest i ≡ (a ∷ b ∷ []) ∷ rest (i + 1) = rest_step i lt ∙ ap (λ (c : List ℕ). c ∷ rest (i + 1)) clause in
         let next : k + 2 ≡ suc (suc k) = omega arith in
         record {
-          within = omega arith;
           few = omega (arith, P.few);
-          from_size = ap length ef ∙ length-sets F k (twin a ∷ twin b ∷ []) ∙ P.from_size;
-          to_size = ap length et ∙ length-sets T k (b ∷ a ∷ []) ∙ P.to_size;
           count = omega (arith, P.count, ap (λ (r : List (List ℕ)). length (froms r)) step);
           from_same =
               ap (λ (l : List ℕ). sets l (k + 2) (froms (rest (i + 1)))) ef
@@ -92,10 +86,7 @@ module _ (n : ℕ) (cs : List ℕ) (ls : List ℤ) where
         let f : froms (rest i) ≡ froms (rest (i + 1)) = ap froms (rest_step i lt) ∙ ap (λ (l : List ℕ). l ++ froms (rest (i + 1))) none.0 in
         let t : tos (rest i) ≡ tos (rest (i + 1)) = ap tos (rest_step i lt) ∙ ap (λ (l : List ℕ). l ++ tos (rest (i + 1))) none.1 in
         record {
-          within = omega arith;
           few = omega (arith, P.few);
-          from_size = P.from_size;
-          to_size = P.to_size;
           count = omega (arith, P.count, ap length f);
           from_same = ap (sets F k) (sym f) ∙ P.from_same;
           to_same = ap (sets T k) (sym t) ∙ P.to_same;

@@ -18,9 +18,8 @@ fn put_pair(a: u32, b: u32, k: usize, from: &mut [u32], to: &mut [u32])
 {
     from[k] = literal::twin_of(a);
     to[k] = b;
-    let next = k + 1;
-    from[next] = literal::twin_of(b);
-    to[next] = a;
+    from[k + 1] = literal::twin_of(b);
+    to[k + 1] = a;
 }
 
 // Lists the edges of the two-literal clauses among the first `n`, and returns how many there are. A clause of length 2 stands, since a dropped one has length 0. The clauses lie in the tables by the shape rule, and the columns have two places for each.
@@ -38,13 +37,10 @@ pub fn list_pairs(
         × (to.new ≡ sets to.old 0 (tos (slots_from clauses.now literals.now n 0)))) }
 {
     let mut k = 0;
-    let mut i = 0;
-    while i < n {
-        let record = 3 * i;
-        let start = clauses[record] as usize;
-        let len = clauses[record + 1];
-        i += 1;
-        if len == 2 {
+    for i in 0..n {
+        let start = clauses[3 * i] as usize;
+        let is_pair = clauses[3 * i + 1] == 2;
+        if is_pair {
             let a = literal::slot_of(literals[start]);
             let b = literal::slot_of(literals[start + 1]);
             put_pair(a as u32, b as u32, k, from, to);

@@ -8,14 +8,10 @@ use lib.ListN.{length, take}
 use native.Mathlib.Omega.{arith}
 use mathlib.Core.List.{List}
 use mathlib.Core.Path.{◌≡◌, sym, subst}
-use Prim.Native.Nat.{ℕ, ◌-◌, ◌*◌, ◌≤◌}
+use Prim.Native.Nat.{ℕ, ◌*◌, ◌≤◌}
 use borrow.Author.Rules.{rules}
 use Rattle.table_graph.proofs.build_graph.Statement.{statement}
 use Rattle.table_graph.proofs.build_graph.Tie as tie
-use Rattle.table_graph.proofs.build_graph.Reads as reads
-use Rattle.table_graph.proofs.build_graph.Lts as lts
-use Rattle.implications.proofs.build.Reads as build-reads
-use Rattle.table_graph.proofs.list_pairs.Reads as list-pairs-reads
 
 -- once the edges are listed
 module _ (c : tie.After-list_pairs-k) where

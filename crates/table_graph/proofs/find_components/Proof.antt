@@ -10,14 +10,10 @@ use lib.ListN.{length, take}
 use native.Mathlib.Omega.{arith}
 use mathlib.Core.List.{List}
 use mathlib.Core.Path.{◌≡◌, sym, ◌∙◌}
-use Prim.Native.Nat.{ℕ, ◌+◌, ◌-◌, ◌*◌, ◌<◌}
+use Prim.Native.Nat.{ℕ, ◌+◌, ◌*◌, ◌<◌}
 use borrow.Author.Rules.{rules}
 use Rattle.table_graph.proofs.find_components.Statement.{statement}
 use Rattle.table_graph.proofs.find_components.Tie as tie
-use Rattle.table_graph.proofs.find_components.Reads as reads
-use Rattle.table_graph.proofs.find_components.Lts as lts
-use Rattle.scc.proofs.groups.Reads as groups-reads
-use Rattle.table_graph.proofs.build_graph.Reads as build-graph-reads
 
 -- once the graph is built
 module _ (c : tie.After-build_graph-k) where

@@ -7,9 +7,6 @@ use mathlib.Core.Path.{sym}
 use borrow.Author.Rules.{rules}
 use Rattle.table_graph.proofs.representatives.Statement.{statement}
 use Rattle.table_graph.proofs.representatives.Tie as tie
-use Rattle.table_graph.proofs.representatives.Reads as reads
-use Rattle.table_graph.proofs.representatives.Lts as lts
-use Rattle.table_graph.proofs.find_components.Reads as find-components-reads
 
 mul-slots : tie.Need-overflow_mul-slots
 mul-slots c = search rules
