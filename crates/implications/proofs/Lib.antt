@@ -1,3 +1,4 @@
+pub mod EdgeLists
 pub mod Csr
 pub mod Counts
 pub mod Fill

@@ -5,7 +5,7 @@ use native.Mathlib.Omega.{arith}
 use mathlib.Core.Path.{◌≡◌, refl, sym, ap, subst, ◌∙◌}
 use mathlib.Core.Bool.{true, false}
 use mathlib.Core.List.{List, [], ◌∷◌, ◌++◌}
-use lib.ListN.{length, get_or, set, drop, length-set}
+use lib.ListN.{length, get_or, set, drop, drop_of_length-le}
 use lib.Seq.{sets, sets-eq, drop-cons, drop-length}
 use borrow.Author.Tests.{lt-ltb, le-ltb}
 use Rattle.base.specs.Lists.{interleave}
@@ -19,22 +19,15 @@ module _ {A : Type 0} where
   step : (l : List A) (i : ℕ) (x : A) → i < length l → drop i l ≡ get_or l i x ∷ drop (i + 1) l
   step l i x lt = drop-cons l i x lt ∙ ap (λ (k : ℕ). get_or l i x ∷ drop k l) (sym (add-one i))
 
-  over : (l : List A) (i : ℕ) → i ≤ length l → length l ≤ i → drop i l ≡ []
-  over l i a b = ap (λ (k : ℕ). drop k l) (let e : i ≡ length l = omega arith in e) ∙ drop-length l
-
   -- the places from i on are still to be filled with what is left of a list
   pub record Filling (xs l₀ l : List A) (i : ℕ) : Type 0 where
-    pub within : i ≤ length xs
-    pub size : length l ≡ length l₀
     pub same : sets l i (drop i xs) ≡ sets l₀ 0 xs
 
   pub filling_none : (xs l : List A) → Filling xs l l 0
-  filling_none xs l = record { within = omega arith; size = refl; same = refl }
+  filling_none xs l = record { same = refl }
 
   pub filling_step : (xs l₀ l : List A) (i : ℕ) (x : A) → i < length xs → Filling xs l₀ l i → Filling xs l₀ (set l i (get_or xs i x)) (i + 1)
   filling_step xs l₀ l i x lt F = record {
-    within = omega arith;
-    size = length-set l i (get_or xs i x) ∙ F.size;
     same = ap (λ (k : ℕ). sets (set l i (get_or xs i x)) k (drop (i + 1) xs)) (add-one i) ∙ ap (sets l i) (sym (step xs i x lt)) ∙ F.same;
   }
 
@@ -43,7 +36,7 @@ module _ {A : Type 0} where
 
   pub filling_done : (xs l₀ l : List A) (i : ℕ) → length xs ≤ i → length l₀ ≡ length xs → Filling xs l₀ l i → l ≡ xs
   filling_done xs l₀ l i le len F =
-      ap (sets l i) (sym (over xs i F.within le)) ∙ F.same ∙ sets-eq xs l₀ 0 (omega arith)
+      ap (sets l i) (sym (drop_of_length-le xs le)) ∙ F.same ∙ sets-eq xs l₀ 0 (omega arith)
       ∙ ap (λ (r : List A). xs ++ r) (ap (λ (k : ℕ). drop k l₀) (let e : 0 + length xs ≡ length l₀ = omega arith in e) ∙ drop-length l₀) ∙ append_nothing xs
     where
       append_nothing : (l : List A) → l ++ [] ≡ l
@@ -59,12 +52,10 @@ module _ {A : Type 0} where
   many_records (x ∷ xs) (y ∷ ys) e = omega (arith, many_records xs ys (omega arith))
 
   pub record Copying (xs ys l₀ l : List A) (s : ℕ) : Type 0 where
-    pub within : s ≤ length xs
-    pub size : length l ≡ length l₀
     pub same : sets l (2 * s) (interleave (drop s xs) (drop s ys)) ≡ sets l₀ 0 (interleave xs ys)
 
   pub copying_none : (xs ys l : List A) → Copying xs ys l l 0
-  copying_none xs ys l = record { within = omega arith; size = refl; same = refl }
+  copying_none xs ys l = record { same = refl }
 
   pub copying_step : (xs ys l₀ l : List A) (s : ℕ) (x y : A) → s < length xs → length ys ≡ length xs → Copying xs ys l₀ l s
       → Copying xs ys l₀ (set (set l (2 * s) (get_or xs s x)) (2 * s + 1) (get_or ys s y)) (s + 1)
@@ -75,8 +66,6 @@ module _ {A : Type 0} where
       let rest : List A = interleave (drop (s + 1) xs) (drop (s + 1) ys) in
       let next : 2 * (s + 1) ≡ suc (suc (2 * s)) = omega arith in
       record {
-        within = omega arith;
-        size = length-set (set l (2 * s) a) (2 * s + 1) b ∙ length-set l (2 * s) a ∙ C.size;
         same =
             ap (λ (k : ℕ). sets (set (set l (2 * s) a) (2 * s + 1) b) k rest) next
             ∙ ap (λ (k : ℕ). sets (set (set l (2 * s) a) k b) (suc (suc (2 * s))) rest) (add-one (2 * s))
@@ -94,7 +83,7 @@ module _ {A : Type 0} where
   pub copying_done : (xs ys l₀ l : List A) (s : ℕ) → length xs ≤ s → length ys ≡ length xs → 2 * length xs ≤ length l₀ → Copying xs ys l₀ l s → l ≡ interleave xs ys ++ drop (2 * length xs) l₀
   unfolding interleave
   copying_done xs ys l₀ l s le len room C =
-      ap (λ (r : List A). sets l (2 * s) (interleave r (drop s ys))) (sym (over xs s C.within le)) ∙ C.same
+      ap (λ (r : List A). sets l (2 * s) (interleave r (drop s ys))) (sym (drop_of_length-le xs le)) ∙ C.same
       ∙ sets-eq (interleave xs ys) l₀ 0 (omega (arith, many_records xs ys len))
       ∙ ap (λ (k : ℕ). interleave xs ys ++ drop k l₀) (let e : 0 + length (interleave xs ys) ≡ 2 * length xs = omega (arith, many_records xs ys len) in e)
 
@@ -115,6 +104,6 @@ forward_stops σ fs ts i lt len bad =
     ∙ ap (λ (l : List ℕ). forward σ (get_or fs i 0 ∷ drop (i + 1) fs) l) (step ts i 0 (omega arith))
     ∙ rw (le-ltb (finish_at σ (get_or ts i 0)) (finish_at σ (get_or fs i 0)) bad, forward)
 
-pub forward_end : (σ : Stamps) (fs ts : List ℕ) (i : ℕ) → i ≤ length fs → length fs ≤ i → forward σ (drop i fs) (drop i ts) ≡ true
+pub forward_end : (σ : Stamps) (fs ts : List ℕ) (i : ℕ) → length fs ≤ i → forward σ (drop i fs) (drop i ts) ≡ true
 unfolding forward
-forward_end σ fs ts i a b = ap (λ (l : List ℕ). forward σ l (drop i ts)) (over fs i a b)
+forward_end σ fs ts i over = ap (λ (l : List ℕ). forward σ l (drop i ts)) (drop_of_length-le fs over)

@@ -1,4 +1,4 @@
--- How the calls of `stamp_graph` fit: the tables' edges and the order are fit to be walked, and the test on the finishes says whether the graph is cyclic. Assumes nothing.
+-- How the calls of `stamp_columns` fit: the tables' edges and the order are fit to be walked, and the test on the finishes says whether the graph is cyclic. Assumes nothing.
 use Prim.Native.Nat.{ℕ, suc, ◌+◌, ◌*◌, ◌/◌, ◌<◌}
 use native.Mathlib.Omega.{arith}
 use mathlib.Core.Path.{◌≡◌, refl, sym, ap, subst, ◌∙◌}
@@ -104,11 +104,11 @@ module _ {v n : ℕ} {cs : List ℕ} {ls : List ℤ} (P : Proper v n cs ls) {ord
 
 -- ---- the scratch that `stamp_columns` owns
 
-pub own_scratch : {v n : ℕ} {cs : List ℕ} {ls : List ℤ} (R : List Bool) → Proper v n cs ls → length R ≡ 2 * v
-    → WalkRoom v n (replicate 8192 0) (replicate 8192 0) (take (2 * v + 1) (replicate 2049 0)) (replicate 8192 0) R (replicate 2048 0)
-own_scratch {v} R P flags = record {
-  froms = omega (arith, P.listed.number, length-replicate {A = ℕ} 8192 0);
-  tos = omega (arith, P.listed.number, length-replicate {A = ℕ} 8192 0);
+pub own_scratch : {v n : ℕ} {cs : List ℕ} {ls : List ℤ} (F T : List ℕ) (R : List Bool) → Proper v n cs ls → length F ≡ 8192 → length T ≡ 8192 → length R ≡ 2 * v
+    → WalkRoom v n F T (take (2 * v + 1) (replicate 2049 0)) (replicate 8192 0) R (replicate 2048 0)
+own_scratch {v} F T R P froms tos flags = record {
+  froms = omega (arith, P.listed.number);
+  tos = omega (arith, P.listed.number);
   heads = omega (arith, P.listed.number, length-replicate {A = ℕ} 8192 0);
   marks = front_zeros (2 * v + 1) 2049 (omega (arith, P.listed.few));
   flags = flags;

@@ -1,3 +1,4 @@
+pub mod Stamps
 pub mod Copying
 pub mod Walking
 pub mod Graphing

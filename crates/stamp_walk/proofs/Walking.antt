@@ -2,9 +2,9 @@
 use Prim.Native.Nat.{ℕ, zero, suc, ◌+◌, ◌≤◌, ◌<◌}
 use native.Mathlib.Omega.{arith}
 use mathlib.Core.Bool.{Bool, false}
-use mathlib.Core.Path.{◌≡◌, refl, ap, ◌∙◌}
+use mathlib.Core.Path.{◌≡◌, refl, sym, ap, ◌∙◌}
 use mathlib.Core.List.{List, [], ◌∷◌, Memᴰ}
-use lib.ListN.{length, get_or, take, replicate}
+use lib.ListN.{length, get_or, take, replicate, length-replicate}
 use Rattle.base.specs.Lists.{filter, absent}
 use Rattle.base.proofs.Lists.{mem_filter, filter_same}
 use Rattle.walk.specs.Walk.{Stamps, arrive, leave, edge, edges, enters, start_walk, fresh, stamp_all}
@@ -16,17 +16,17 @@ use Rattle.implications.proofs.Csr.{built_adj, built_graph}
 use Rattle.scc.specs.Groups.{blank}
 use Rattle.stamp_walk.specs.Stamping.{ColumnsHold, WalkableEdges}
 
-pub stamped : (adj : ℕ → List ℕ) (root : ℕ → Bool) (order front D d f p s : List ℕ) (σ₁ σ₂ : Stamps) → D ≡ replicate (length d) 0 → length D ≡ length d → length σ₁.discoveries ≡ length d → front ≡ filter root order
-    → ((n : ℕ) → fresh D ≤ n → σ₁ ≡ edges (start_walk n adj) front (stamps 0 D f p s))
-    → ((n : ℕ) → fresh σ₁.discoveries ≤ n → σ₂ ≡ edges (start_walk n adj) order σ₁)
-    → σ₂ ≡ stamp_all adj root order (stamps 0 (replicate (length d) 0) f p s)
+pub stamped : (adj : ℕ → List ℕ) (root : ℕ → Bool) (order front f p s : List ℕ) (n : ℕ) (σ₀ σ₁ σ₂ : Stamps) → σ₀ ≡ stamps 0 (replicate n 0) f p s → length σ₁.discoveries ≡ n → front ≡ filter root order
+    → ((m : ℕ) → fresh σ₀.discoveries ≤ m → σ₁ ≡ edges (start_walk m adj) front σ₀)
+    → ((m : ℕ) → fresh σ₁.discoveries ≤ m → σ₂ ≡ edges (start_walk m adj) order σ₁)
+    → σ₂ ≡ stamp_all adj root order (stamps 0 (replicate n 0) f p s)
 unfolding stamp_all
-stamped adj root order front D d f p s σ₁ σ₂ e len len₁ is one two =
-    let n : ℕ = length D in
+stamped adj root order front f p s n σ₀ σ₁ σ₂ blank len₁ is one two =
+    let many : length σ₀.discoveries ≡ n = ap (λ (σ : Stamps). length σ.discoveries) blank ∙ length-replicate {A = ℕ} n 0 in
     let visit : ℕ → Stamps → Stamps = start_walk n adj in
-    two n (omega (arith, fresh_le σ₁.discoveries, len, len₁))
-    ∙ ap (edges visit order) (one n (fresh_le D) ∙ ap (λ (l : List ℕ). edges visit l (stamps 0 D f p s)) is)
-    ∙ ap (λ (l : List ℕ). edges (start_walk (length l) adj) order (edges (start_walk (length l) adj) (filter root order) (stamps 0 l f p s))) e
+    two n (omega (arith, fresh_le σ₁.discoveries, len₁))
+    ∙ ap (edges visit order) (one n (omega (arith, fresh_le σ₀.discoveries, many)) ∙ ap (λ (l : List ℕ). edges visit l σ₀) is ∙ ap (edges visit (filter root order)) blank)
+    ∙ ap (λ (k : ℕ). edges (start_walk k adj) order (edges (start_walk k adj) (filter root order) (stamps 0 (replicate n 0) f p s))) (sym (length-replicate {A = ℕ} n 0))
 
 -- ---- by two tests
 

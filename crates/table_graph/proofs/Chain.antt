@@ -1,13 +1,14 @@
 -- How the calls fit: the built graph is fit for the walks, and its components are those of the clauses.
 -- Assumes nothing.
-use Prim.Native.Nat.{ℕ, ◌+◌, ◌*◌, ◌≤◌, ◌<◌}
+use Prim.Native.Nat.{ℕ, ◌+◌, ◌*◌, ◌<◌}
 use native.Mathlib.Omega.{arith}
 use mathlib.Core.Path.{◌≡◌, sym, ap, subst, ◌∙◌}
 use mathlib.Core.List.{List, Memᴰ}
-use lib.ListN.{length, take, replicate, length-replicate}
+use lib.ListN.{length, take, length-map}
 use lib.IntN.{ℤ}
-use Rattle.base.proofs.Lists.{front_zeros}
 use Rattle.walk.specs.Compressed.{adj_of, Graph}
+use Rattle.walk.specs.declared.SlotStamp.{SlotStamp}
+use Rattle.walk.specs.Slots.{discoveries_of, finishes_of, parents_of, starts_of}
 use Rattle.walk.specs.Forest.{Reach, here, on}
 use Rattle.literal.specs.Literals.{twin}
 use Rattle.implications.specs.Skew.{Skew}
@@ -19,7 +20,7 @@ use Rattle.scc.specs.Groups.{least_mutual}
 use Rattle.scc.specs.Steps.{Mirrored}
 use Rattle.scc.proofs.Least.{least_mutual_lem, representative_is}
 use Rattle.tables.specs.Clauses.{slots_from}
-use Rattle.table_graph.specs.Pairs.{ClausesInside, EdgeRoom}
+use Rattle.table_graph.specs.Pairs.{ClausesInside}
 use Rattle.table_graph.proofs.Listing.{slots_in}
 use Rattle.table_graph.specs.Components.{SlotColumns}
 
@@ -80,15 +81,13 @@ module _ {v n : ℕ} {cs : List ℕ} {ls : List ℤ} (L : ClausesInside v n cs l
 
 -- ---- the scratch that `representatives` owns
 
-pub own_room : {v n : ℕ} {cs : List ℕ} {ls : List ℤ} → ClausesInside v n cs ls → EdgeRoom v n cs ls (replicate 8192 0) (replicate 8192 0) (take (2 * v + 1) (replicate 2049 0)) (replicate 8192 0)
-own_room {v} L = record {
-  listed = L;
-  froms = omega (arith, L.number, length-replicate {A = ℕ} 8192 0);
-  tos = omega (arith, L.number, length-replicate {A = ℕ} 8192 0);
-  heads = omega (arith, L.number, length-replicate {A = ℕ} 8192 0);
-  marks = front_zeros (2 * v + 1) 2049 (omega (arith, L.few));
+pub own_scratch : (v : ℕ) (l : List SlotStamp) (order rep : List ℕ) → length l ≡ 2 * v → length order ≡ 2 * v → length rep ≡ 2 * v
+    → SlotColumns v (discoveries_of l) (finishes_of l) (parents_of l) (starts_of l) order rep
+own_scratch v l order rep many orders reps = record {
+  discs = length-map l (λ (x : SlotStamp). x.discovery) ∙ many;
+  fins = length-map l (λ (x : SlotStamp). x.finish) ∙ many;
+  pars = length-map l (λ (x : SlotStamp). x.parent) ∙ many;
+  starts = length-map l (λ (x : SlotStamp). x.start) ∙ many;
+  orders = orders;
+  reps = reps;
 }
-
-pub own_scratch : (v : ℕ) (rep : List ℕ) → v ≤ 1024 → length rep ≡ 2 * v
-    → SlotColumns v (take (2 * v) (replicate 2048 0)) (take (2 * v) (replicate 2048 0)) (take (2 * v) (replicate 2048 0)) (take (2 * v) (replicate 2048 0)) (take (2 * v) (replicate 2048 0)) rep
-own_scratch v rep few len = let e = front_zeros (2 * v) 2048 (omega arith) in record { discs = e; fins = e; pars = e; starts = e; orders = e; reps = len }

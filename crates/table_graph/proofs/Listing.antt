@@ -8,14 +8,17 @@ use mathlib.Core.Logic.{⊎_elim}
 use mathlib.Core.List.Memᴰ
 use mathlib.Core.List.{List, [], ◌∷◌, map, Memᴰ}
 use lib.ListN.{length, get_or, take, drop, length-drop, length-append}
-use lib.Seq.{sets, sets-eq, take_at, get_or-take, get_or-drop, length-take-le}
+use lib.Seq.{sets, sets-eq, length-sets, take_at, get_or-take, get_or-drop, length-take-le}
 use lib.IntN.{ℤ, pos}
 use Rattle.base.proofs.Lists.{get_d_mem}
 use Rattle.literal.specs.Literals.{slot_of, twin}
 use Rattle.literal.proofs.Laws.{slot_below}
 use Rattle.literal.proofs.Twins.{twin_below}
+use Rattle.implications.specs.declared.Edge.{Edge}
 use Rattle.implications.specs.Edges.{Edges}
+use Rattle.implications.specs.EdgeList.{froms_of, tos_of}
 use Rattle.implications.specs.Clauses.{clause_froms, froms, tos}
+use Rattle.implications.proofs.EdgeLists.{many_froms, froms_take, tos_take}
 use Rattle.tables.specs.Tables.{start_of, length_of}
 use Rattle.tables.specs.Clauses.{slots_at, slots_from}
 use Rattle.visits.specs.Formed.{Formed}
@@ -151,3 +154,22 @@ module _ {v n : ℕ} {cs : List ℕ} {ls : List ℤ} {F T offsets targets : List
             let k = froms_mem clauses (get_d_mem (froms clauses) i 0 lt) in
             omega (arith, R.marks, k.4, twin_below v k.2 (slots_in R.listed k.0 k.1 k.2 k.3));
       }
+
+-- the first k edges of the list are those of the clauses
+module _ {v n : ℕ} {cs : List ℕ} {ls : List ℤ} (es₀ : List Edge) {offsets targets : List ℕ} (R : EdgeRoom v n cs ls (froms_of es₀) (tos_of es₀) offsets targets) (k : ℕ) (es : List Edge)
+    (W : (k ≡ length (froms (slots_from cs ls n 0))) × ((froms_of es ≡ sets (froms_of es₀) 0 (froms (slots_from cs ls n 0))) × (tos_of es ≡ sets (tos_of es₀) 0 (tos (slots_from cs ls n 0))))) where
+  pub listed_in : k ≤ length es
+  listed_in = omega (arith, W.0, few_edges cs ls n 0, R.froms, many_froms es, ap length W.1.0, length-sets (froms_of es₀) 0 (froms (slots_from cs ls n 0)))
+
+  listed_froms : froms_of (take k es) ≡ froms (slots_from cs ls n 0)
+  listed_froms = froms_take k es ∙ front_froms R k (froms_of es) W.0 W.1.0
+
+  listed_tos : tos_of (take k es) ≡ tos (slots_from cs ls n 0)
+  listed_tos = tos_take k es ∙ front_tos R k (tos_of es) W.0 W.1.1
+
+  -- what holds of the clauses' edges holds of the listed ones, and the other way
+  pub as_listed : (P : List ℕ → List ℕ → Type 0) → P (froms (slots_from cs ls n 0)) (tos (slots_from cs ls n 0)) → P (froms_of (take k es)) (tos_of (take k es))
+  as_listed P x = subst (λ (l : List ℕ). P l (tos_of (take k es))) (sym listed_froms) (subst (P (froms (slots_from cs ls n 0))) (sym listed_tos) x)
+
+  pub as_clauses : (P : List ℕ → List ℕ → Type 0) → P (froms_of (take k es)) (tos_of (take k es)) → P (froms (slots_from cs ls n 0)) (tos (slots_from cs ls n 0))
+  as_clauses P x = subst (P (froms (slots_from cs ls n 0))) listed_tos (subst (λ (l : List ℕ). P l (tos_of (take k es))) listed_froms x)

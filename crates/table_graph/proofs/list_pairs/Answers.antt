@@ -3,6 +3,7 @@ use Rattle.literal.specs.Literals.{slot_of, Literal, Small}
 use Rattle.literal.proofs.Laws.{slot_below}
 use Rattle.literal.proofs.Signed.{back}
 use Rattle.tables.specs.Tables.{start_of, length_of}
+use Rattle.implications.proofs.EdgeLists.{many_froms, many_tos}
 use Rattle.table_graph.specs.Pairs.{ClausesInside}
 use Rattle.table_graph.proofs.Pairing.{pairing_in, pairing_out, pairing_done}
 use Rattle.table_graph.proofs.list_pairs.Goals as goal
@@ -38,8 +39,13 @@ slot_of-b-requires c = takes (second c.requires.clauses_inside c.loop-i-test.tru
 pub put_pair-requires : goal.put_pair-requires
 put_pair-requires c =
     let C = c.requires.clauses_inside in
-    let two : 2 ≤ length_of c.args.clauses.now c.loop-i.i = omega arith in
-    (omega (arith, low (first C c.loop-i-test.true two) c.slot_of-a.ensures), (omega (arith, low (second C c.loop-i-test.true two) c.slot_of-b.ensures), (omega arith, omega arith)))
+    let two : 2 ≤ length_of c.args.clauses.now c.loop-i.i = omega arith in (
+      omega (arith, low (first C c.loop-i-test.true two) c.slot_of-a.ensures),
+      (
+        omega (arith, low (second C c.loop-i-test.true two) c.slot_of-b.ensures),
+        (omega (arith, many_froms c.loop-i.edges, many_froms c.args.edges.now), omega (arith, many_tos c.loop-i.edges, many_tos c.args.edges.now)),
+      ),
+    )
 
 pub loop-i-preserved : goal.loop-i-preserved
 loop-i-preserved c =
@@ -49,9 +55,9 @@ loop-i-preserved c =
     elim c.if-is_pair.branch [
       | then-is_pair w ↦
           let two : 2 ≤ length_of c.args.clauses.now c.loop-i.i = omega arith in
-          rw (w.from-is, w.to-is, w.k-is)
+          rw (w.edges-is, w.k-is)
           (pairing_in _ _ _ _ _ _ _ _ _ lt C P _ _ _ _ (omega arith) (slot (first C lt two) w.slot_of-a.ensures) (slot (second C lt two) w.slot_of-b.ensures) w.put_pair.ensures.0 w.put_pair.ensures.1)
-      | else-is_pair w ↦ rw (w.from-is, w.to-is, w.k-is) (pairing_out _ _ _ _ _ _ _ _ _ lt C P (λ e. omega arith))
+      | else-is_pair w ↦ rw (w.edges-is, w.k-is) (pairing_out _ _ _ _ _ _ _ _ _ lt C P (λ e. omega arith))
     ]
 
 pub returns : goal.returns
