@@ -35,7 +35,6 @@ use Rattle.c_numbers.proofs.StateBack.{Placed}
 use Rattle.std.specs.Prelude.{Result, Ok, Err}
 use Rattle.dimacs.specs.declared.Header.{Header}
 use Rattle.state.specs.declared.Refusal.{Refusal}
-use Rattle.dimacs.specs.Header.{got, fitting}
 
 -- the call was made, and the programme has its places if it had them, or the state and the tables are as they were
 abbrev pub Kept : Tables → State → After → Type 0

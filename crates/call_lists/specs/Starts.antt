@@ -9,10 +9,9 @@ use Rattle.load.specs.Load.{load_call, join_call, load_with, join_with}
 use Rattle.write.specs.Write.{write_text}
 use Rattle.join.specs.Join.{join_clauses, judge_join}
 use Rattle.call_lists.specs.Lists.{Step, Trail, steps_on}
-use Rattle.std.specs.Prelude.{Result, Ok, Err}
+use Rattle.std.specs.Prelude.{Result}
 use Rattle.dimacs.specs.declared.Header.{Header}
 use Rattle.state.specs.declared.Refusal.{Refusal}
-use Rattle.dimacs.specs.Header.{got, fitting}
 
 -- a load of a text; a join of a left and a right text by links
 pub data Start : Type 0 where

@@ -25,7 +25,6 @@ use Rattle.equivalence.proofs.Refusing.{OfText, grammar, limit, refused_of_text}
 use Rattle.equivalence.proofs.Lengths.{written_length}
 use Rattle.std.specs.Prelude.{Result, Ok, Err}
 use Rattle.dimacs.specs.declared.Header.{Header}
-use Rattle.dimacs.specs.Header.{got, fitting}
 
 -- a text that is refused
 refusal_returns : (r : Refusal) (out : List ℕ) → OfText r → Returns (length out) (result_of (after_write (answer.Refused r) out).reply)

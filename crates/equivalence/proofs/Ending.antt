@@ -33,9 +33,9 @@ use Rattle.simplify.proofs.Simplified.{refused_load}
 use Rattle.refinement.proofs.Starting.{started_as, start_held, load_started}
 use Rattle.refinement.proofs.Demand3.{demand_3, steps_held}
 use Rattle.refinement.proofs.Running.{run_calls, run_keeps}
-use Rattle.std.specs.Prelude.{Result, Ok, Err}
+use Rattle.std.specs.Prelude.{Result, Err}
 use Rattle.dimacs.specs.declared.Header.{Header}
-use Rattle.dimacs.specs.Header.{got, fitting}
+use Rattle.dimacs.specs.Header.{fitting}
 
 -- what the load leaves
 abbrev loaded_from : Tables → List ℕ → After

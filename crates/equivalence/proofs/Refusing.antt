@@ -9,7 +9,7 @@ use Rattle.state.specs.declared.Refusal.{Refusal}
 use Rattle.state.specs.declared.Refusal.TheVariants.{Grammar, Limit}
 use Rattle.dimacs.specs.Words.{Word, words_at, is_digit, span}
 use Rattle.dimacs.specs.Tokens.{Meaning, bad, nought, literal, meaning, decimal}
-use Rattle.dimacs.specs.Header.{comments, expect, within_limit, number, line_end, and_then, p_cnf, header, header_rest, got, fitting}
+use Rattle.dimacs.specs.Header.{comments, expect, within_limit, number, line_end, and_then, p_cnf, header, header_rest, fitting}
 use Rattle.dimacs.specs.Text.{Budget, budget, judge, judge_end, judge_body, judge_text}
 use Rattle.std.specs.Prelude.{Result, Ok, Err}
 use Rattle.dimacs.specs.declared.Header.{Header}

@@ -36,7 +36,7 @@ use Rattle.equivalence.proofs.Ending.{end_from, refused_text, end_stands, end_sh
 use Rattle.std.specs.Prelude.{Result, Ok, Err}
 use Rattle.dimacs.specs.declared.Header.{Header}
 use Rattle.state.specs.declared.Refusal.{Refusal}
-use Rattle.dimacs.specs.Header.{got, fitting}
+use Rattle.dimacs.specs.Header.{fitting}
 
 -- ---- reading it back
 

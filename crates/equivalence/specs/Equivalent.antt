@@ -4,10 +4,7 @@ use Rattle.literal.specs.Assignments.{Assignment, Satisfies}
 use Rattle.dimacs.specs.Text.{judge_text, text_clauses}
 use Rattle.printing.specs.Printing.{text_of}
 use Rattle.literal.specs.Ranged.{InClauses}
-use Rattle.std.specs.Prelude.{Result, Ok, Err}
-use Rattle.dimacs.specs.declared.Header.{Header}
-use Rattle.state.specs.declared.Refusal.{Refusal}
-use Rattle.dimacs.specs.Header.{got, fitting}
+use Rattle.dimacs.specs.Header.{fitting}
 
 -- the input is accepted with V variables; the text is `p cnf V N` and N clauses of literals 1 to V and complements, and an assignment satisfies the input's clauses exactly if it satisfies these
 pub record Equivalent (input text : List ℕ) : Type 0 where

@@ -47,7 +47,6 @@ use Rattle.sweep_visits.proofs.Visiting.{sweep_shrinks}
 use Rattle.std.specs.Prelude.{Result, Ok, Err}
 use Rattle.dimacs.specs.declared.Header.{Header}
 use Rattle.state.specs.declared.Refusal.{Refusal}
-use Rattle.dimacs.specs.Header.{got, fitting}
 
 abbrev pub Reads : Tables → After → Type 0
 Reads t a = SameStamps t a.tables

@@ -22,7 +22,7 @@ use Rattle.refinement.proofs.Loaded.{loaded_clauses, accept_held}
 use Rattle.std.specs.Prelude.{Result, Ok, Err}
 use Rattle.dimacs.specs.declared.Header.{Header}
 use Rattle.state.specs.declared.Refusal.{Refusal}
-use Rattle.dimacs.specs.Header.{got, fitting}
+use Rattle.dimacs.specs.Header.{fitting}
 
 -- ---- a start by its verdict
 

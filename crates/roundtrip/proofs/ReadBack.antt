@@ -19,7 +19,7 @@ use Rattle.dimacs.proofs.Numerals.{unsigned_is, meaning_plain, digit_word}
 use Rattle.printing.specs.Printing.{digits_by, digits, literal_text, clause_text, clauses_text, text_of}
 use Rattle.literal.specs.Ranged.{InClause, InClauses, total}
 use Rattle.write.specs.Writable.{Writable}
-use Rattle.std.specs.Prelude.{Result, Ok, Err}
+use Rattle.std.specs.Prelude.{Result}
 use Rattle.dimacs.specs.declared.Header.{Header}
 use Rattle.dimacs.specs.declared.Digits.{Digits}
 use Rattle.state.specs.declared.Refusal.{Refusal}

@@ -27,10 +27,7 @@ use Rattle.roundtrip.proofs.Plain.{distinct_plain}
 use Rattle.roundtrip.proofs.ReadBack.{body_at, judged, read_back}
 use Rattle.roundtrip.proofs.LoadBack.{kept_plain, laid_standing, laid_written, loads}
 use Rattle.dimacs.proofs.Accepted.{Within, in_snoc}
-use Rattle.std.specs.Prelude.{Result, Ok, Err}
-use Rattle.dimacs.specs.declared.Header.{Header}
-use Rattle.state.specs.declared.Refusal.{Refusal}
-use Rattle.dimacs.specs.Header.{got, fitting}
+use Rattle.dimacs.specs.Header.{fitting}
 
 -- ---- what is kept of a clause
 

@@ -38,10 +38,7 @@ use Rattle.roundtrip.specs.Plain.{Plain, EachPlain, read_clauses}
 use Rattle.roundtrip.proofs.Plain.{varied_plain, varied_one, varied_two, varied_part}
 use Rattle.roundtrip.proofs.ReadBack.{body_at, judged, read_back}
 use Rattle.roundtrip.proofs.LoadBack.{kept_plain, laid_standing, laid_written, loads}
-use Rattle.std.specs.Prelude.{Result, Ok, Err}
-use Rattle.dimacs.specs.declared.Header.{Header}
-use Rattle.state.specs.declared.Refusal.{Refusal}
-use Rattle.dimacs.specs.Header.{got, fitting}
+use Rattle.dimacs.specs.Header.{fitting}
 
 -- ---- lists of clauses: each plain, none empty
 

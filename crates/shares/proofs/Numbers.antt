@@ -11,10 +11,10 @@ use Rattle.join.specs.Join.{variables_by, judge_join}
 use Rattle.join.proofs.RightNumbers.{Linked, link_pair, pair_link, unlinked_more, unlinked_same, unlinked_counts, number_linked, number_unlinked, number_within}
 use Rattle.join.proofs.Within.{join_joined}
 use Rattle.shares.specs.Numbers.{Unlinked, RightNumbers}
-use Rattle.std.specs.Prelude.{Result, Ok, Err}
+use Rattle.std.specs.Prelude.{Result}
 use Rattle.dimacs.specs.declared.Header.{Header}
 use Rattle.state.specs.declared.Refusal.{Refusal}
-use Rattle.dimacs.specs.Header.{got, fitting}
+use Rattle.dimacs.specs.Header.{fitting}
 
 module _ (v w : ℕ) (links : List ℕ) (L : Linked v w links) where
   -- the pair links its right variable

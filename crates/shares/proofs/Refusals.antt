@@ -26,10 +26,10 @@ use Rattle.join.specs.Links.{pair_count, left_of, right_of, outside, bad_side, b
 use Rattle.join.specs.Join.{variables_by, join_clauses, within_limits, judge_linked, judge_both, judge_join}
 use Rattle.join.proofs.RightNumbers.{renumbered_total}
 use Rattle.shares.specs.Refusals.{BadSide, none, over, used, BadLink, FirstBad, Reads, literals_in, JoinAnswers}
-use Rattle.std.specs.Prelude.{Result, Ok, Err}
+use Rattle.std.specs.Prelude.{Result, Err}
 use Rattle.dimacs.specs.declared.Header.{Header}
 use Rattle.state.specs.declared.Refusal.{Refusal}
-use Rattle.dimacs.specs.Header.{got, fitting}
+use Rattle.dimacs.specs.Header.{fitting}
 
 -- ---- the tests of a link mean what they say
 

@@ -1,5 +1,5 @@
 -- The shares of an assignment of a join (`join_shares`). Assumes nothing.
-use Prim.Native.Nat.{ℕ, zero, suc, ◌+◌, ◌≤◌, ◌<◌}
+use Prim.Native.Nat.{ℕ, zero, suc, ◌≤◌, ◌<◌}
 use native.Mathlib.Omega.{arith}
 use mathlib.Core.Path.{◌≡◌, refl, sym, ap, subst, ◌∙◌}
 use mathlib.Core.Bool.{Bool, true, false, ◌||◌}
@@ -21,10 +21,10 @@ use Rattle.join.proofs.RightNumbers.{Linked, link_pair, unlinked_counts, number_
 use Rattle.join.proofs.Within.{Joined, join_joined, clauses_are}
 use Rattle.shares.proofs.Numbers.{link_number, right_numbers}
 use Rattle.shares.specs.Shares.{right_share, Same, Agree, Shares}
-use Rattle.std.specs.Prelude.{Result, Ok, Err}
+use Rattle.std.specs.Prelude.{Result}
 use Rattle.dimacs.specs.declared.Header.{Header}
 use Rattle.state.specs.declared.Refusal.{Refusal}
-use Rattle.dimacs.specs.Header.{got, fitting}
+use Rattle.dimacs.specs.Header.{fitting}
 
 -- ---- the clauses
 

@@ -12,9 +12,8 @@ use Rattle.dimacs.specs.Text.{judge_text, text_clauses}
 use Rattle.load.specs.Load.{accept, join_call}
 use Rattle.join.specs.Links.{pair_count, left_of, right_of, joined_variables}
 use Rattle.join.specs.Join.{join_clauses}
-use Rattle.std.specs.Prelude.{Result, Ok, Err}
-use Rattle.dimacs.specs.declared.Header.{Header}
-use Rattle.dimacs.specs.Header.{got, fitting}
+use Rattle.std.specs.Prelude.{Err}
+use Rattle.dimacs.specs.Header.{fitting}
 
 -- ---- the links
 

@@ -13,10 +13,9 @@ use Rattle.dimacs.specs.Text.{judge_end}
 use Rattle.state.specs.declared.Refusal.TheVariants.{Grammar, Limit}
 use Rattle.violations.specs.Body.{noughts, word_at, Unfinished, EndViolation, unfinished, too_few}
 use Rattle.violations.proofs.Words.{begun_after, past_words}
-use Rattle.std.specs.Prelude.{Result, Ok, Err}
+use Rattle.std.specs.Prelude.{Result, Err}
 use Rattle.dimacs.specs.declared.Header.{Header}
 use Rattle.state.specs.declared.Refusal.{Refusal}
-use Rattle.dimacs.specs.Header.{got as got_number, fitting}
 
 -- ---- a clause that has begun behind the words
 Begun : Bool → List Word → Type 0

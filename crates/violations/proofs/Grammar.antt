@@ -2,7 +2,7 @@
 use Prim.Native.Nat.{ℕ, suc, ◌+◌, ◌<◌}
 use native.Mathlib.Omega.{arith}
 use mathlib.Core.Path.{◌≡◌, refl, sym, ap, ◌∙◌, subst}
-use mathlib.Core.Bool.{Bool, true, false, not}
+use mathlib.Core.Bool.{Bool, true, false}
 use mathlib.Core.List.{List, [], ◌∷◌, ◌++◌}
 use mathlib.Core.Logic.{◌⊎◌, ⊎_elim, inl, inr}
 use lib.ListN.{length, take, drop}
@@ -11,15 +11,13 @@ use lib.Dec.{eqb}
 use borrow.Author.Tests.{eqb-true, eqb-false}
 use Rattle.base.proofs.Booleans.{clash}
 use Rattle.dimacs.specs.Words.{is_digit, span}
-use Rattle.dimacs.specs.Header.{comments, expect, line_end, p_cnf, got as got_number, fitting}
+use Rattle.dimacs.specs.Header.{comments, expect, line_end, p_cnf}
 use Rattle.state.specs.declared.Refusal.TheVariants.{Grammar}
 use Rattle.violations.proofs.Pieces.{numeral_of, digits_at, behind, NViolation, no_n, large_n, no_end, VViolation, no_v, large_v, no_space, of_n, PieceViolation, in_comment, no_start, of_v}
 use Rattle.violations.specs.Grammar.{Line, EachLine, commented, Digits, Numeral, EndsLine, RightHeader, FirstWrong}
 use Rattle.violations.proofs.Headers.{Read, wrong, got, comments_read, expect_read, line_end_read}
 use Rattle.violations.proofs.Wrong.{right_or_wrong, wrong_once, wrong_next, wrong_here, wrong_end, wrong_same, wrong_first, wrong_nothing}
-use Rattle.std.specs.Prelude.{Result, Ok, Err}
-use Rattle.dimacs.specs.declared.Header.{Header}
-use Rattle.state.specs.declared.Refusal.{Refusal}
+use Rattle.std.specs.Prelude.{Ok, Err}
 
 -- ---- what may follow, piece by piece: M is what may follow the piece
 abbrev NumberThen : (List ℕ → Type 0) → List ℕ → Type 0

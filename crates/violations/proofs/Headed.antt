@@ -10,13 +10,11 @@ use borrow.Author.Tests.{eqb-true, eq-eqb}
 use Rattle.dimacs.specs.Words.{is_digit}
 use Rattle.dimacs.specs.Tokens.{decimal}
 use Rattle.dimacs.specs.Header.{comments, expect, number, line_end, and_then, p_cnf, header, header_rest, got as got_number, fitting}
-use Rattle.state.specs.declared.Refusal.TheVariants.{Grammar, Limit}
 use Rattle.violations.specs.Grammar.{commented, EndsLine, NoDigit, Headed}
 use Rattle.violations.proofs.Pieces.{numeral_of, digits_at, behind}
 use Rattle.violations.proofs.Headers.{Read, wrong, got, comments_read, expect_read, line_end_read, Number, none, large, value, number_read}
 use Rattle.violations.proofs.Limits.{lines_length, lines_length_lem, bytes_read, bytes_were, number_read as numeral_read, number_was, behind_bytes, numeral_some, v_found, v_at, v_line, v_start, v_behind, v_place}
-use Rattle.std.specs.Prelude.{Result, Ok, Err}
-use Rattle.dimacs.specs.declared.Header.{Header}
+use Rattle.std.specs.Prelude.{Result, Ok}
 use Rattle.dimacs.specs.declared.Digits.{Digits}
 use Rattle.dimacs.proofs.Judge.{fitting_is}
 use Rattle.state.specs.declared.Refusal.{Refusal}

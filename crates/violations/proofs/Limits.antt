@@ -11,16 +11,13 @@ use lib.Dec.{eqb}
 use borrow.Author.Tests.{eqb-true, eqb-false, eq-eqb, ne_eqb}
 use Rattle.dimacs.specs.Words.{is_digit, span}
 use Rattle.dimacs.specs.Tokens.{decimal}
-use Rattle.dimacs.specs.Header.{comments, expect, p_cnf, header, got as got_number, fitting}
+use Rattle.dimacs.specs.Header.{comments, expect, p_cnf, header}
 use Rattle.state.specs.Answers.{refusal_number, refusal_place}
-use Rattle.state.specs.declared.Refusal.TheVariants.{Grammar}
 use Rattle.violations.specs.Grammar.{Line, EachLine, commented, Digits, Numeral, NoDigit, VStands, NStands, HeaderViolation, wrong_byte, large_v, large_n}
 use Rattle.violations.proofs.Pieces.{numeral_of, digits_at, behind, NViolation, no_n, large_n as over-n, no_end, VViolation, no_v, large_v as over-v, no_space, of_n, PieceViolation, in_comment, no_start, of_v}
 use Rattle.violations.proofs.Headers.{Header-read, refused, right, header_read}
 use Rattle.violations.proofs.Grammar.{piece_wrong, wrong_piece}
-use Rattle.std.specs.Prelude.{Result, Ok, Err}
-use Rattle.dimacs.specs.declared.Header.{Header}
-use Rattle.state.specs.declared.Refusal.{Refusal}
+use Rattle.std.specs.Prelude.{Ok}
 
 -- ---- comment lines
 -- how many bytes they are

@@ -7,11 +7,9 @@ use lib.ListN.{length, take, drop}
 use lib.Dec.{eqb}
 use Rattle.dimacs.specs.Words.{is_digit, span}
 use Rattle.dimacs.specs.Tokens.{decimal}
-use Rattle.dimacs.specs.Header.{comments, expect, line_end, p_cnf, got as got_number, fitting}
+use Rattle.dimacs.specs.Header.{comments, expect, line_end, p_cnf}
 use Rattle.state.specs.declared.Refusal.TheVariants.{Grammar}
-use Rattle.std.specs.Prelude.{Result, Ok, Err}
-use Rattle.dimacs.specs.declared.Header.{Header}
-use Rattle.state.specs.declared.Refusal.{Refusal}
+use Rattle.std.specs.Prelude.{Ok, Err}
 
 -- the digits of the number at the front: `0`, which is whole by itself, or a run of digits; none where there is no number
 abbrev pub numeral_of : List ℕ → List ℕ

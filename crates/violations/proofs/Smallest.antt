@@ -12,7 +12,7 @@ use mathlib.Core.List.{List, [], ◌∷◌}
 use mathlib.Core.Logic.{◌⊎◌, ⊎_elim, inl, inr}
 use lib.ListN.{length}
 use Rattle.dimacs.specs.Words.{Word}
-use Rattle.dimacs.specs.Header.{header, got as got_number, fitting}
+use Rattle.dimacs.specs.Header.{header, fitting}
 use Rattle.dimacs.specs.Text.{judge_body, judge_text, text_clauses}
 use Rattle.dimacs.proofs.Judge.{not_fits}
 use Rattle.state.specs.Answers.{Reply, reply, refusal_number, refusal_place}
@@ -33,7 +33,7 @@ use Rattle.violations.proofs.Ends.{Ended, fine, grammar, limit, ended}
 use Rattle.violations.proofs.Headers.{Header-read, refused, right}
 use Rattle.violations.proofs.Limits.{header_judged}
 use Rattle.violations.proofs.Headed.{headed_fields, fields_headed}
-use Rattle.std.specs.Prelude.{Result, Ok, Err}
+use Rattle.std.specs.Prelude.{Result, Err}
 use Rattle.dimacs.specs.declared.Header.{Header}
 use Rattle.dimacs.proofs.Judge.{fitting_is}
 

@@ -18,9 +18,8 @@ use Rattle.state.specs.declared.Refusal.TheVariants.{Grammar, Limit}
 use Rattle.violations.specs.Body.{noughts, literals, WordViolation, broken, beyond, too_many, after_last}
 use Rattle.violations.specs.Violations.{Wins}
 use Rattle.violations.proofs.Rising.{Rising, rising_above}
-use Rattle.std.specs.Prelude.{Result, Ok, Err}
+use Rattle.std.specs.Prelude.{Result, Err}
 use Rattle.dimacs.specs.declared.Header.{Header}
-use Rattle.dimacs.specs.Header.{got as got_number, fitting}
 
 -- ---- the counts with one word more in front
 noughts_more : (w : Word) (ws : List Word) → noughts (w ∷ ws) ≡ noughts (w ∷ []) + noughts ws
