@@ -1,15 +1,19 @@
 -- What is written: the walk from blank columns is the definition's, and so are the records made of the columns that it leaves. Assumes nothing.
-use Prim.Native.Nat.{ℕ, ◌+◌, ◌*◌, ◌≤◌}
+use Prim.Native.Nat.{ℕ, ◌*◌, ◌≤◌}
 use native.Mathlib.Omega.{arith}
 use mathlib.Core.Path.{◌≡◌, ap, subst, ◌∙◌}
 use mathlib.Core.List.{List, ◌++◌, map}
 use lib.ListN.{length, get_or, take, drop, replicate, length-replicate, length-map}
+use lib.LanesLaws.{map-replicate}
 use lib.IntN.{ℤ, pos}
 use Rattle.base.specs.Lists.{absent, interleave}
-use Rattle.base.proofs.Lists.{take_zeros, front_zeros}
+use Rattle.base.proofs.Lists.{take_filled}
 use Rattle.literal.specs.Literals.{slot_of, lit_at}
 use Rattle.literal.proofs.Laws.{slot_below}
+use Rattle.walk.specs.declared.SlotStamp.{SlotStamp}
 use Rattle.walk.specs.Walk.{Stamps, stamp_all, Lists}
+use Rattle.walk.specs.Slots.{discoveries_of, finishes_of, parents_of, starts_of}
+use Rattle.walk.proofs.Columns.{blank_stamp}
 use Rattle.implications.specs.Clauses.{tos, implications}
 use Rattle.scc.specs.Groups.{blank}
 use Rattle.tables.specs.Tables.{tables}
@@ -62,25 +66,31 @@ module _ {v n : ℕ} {cs : List ℕ} {ls : List ℤ} {order : List ℤ} (P : Pro
       (subst (λ (x : List ℕ). ColumnsHold (walk (map slot_of order) x p s) d' f' p' s') B.fins
       (subst (λ (x : List ℕ). ColumnsHold (walk x f p s) d' f' p' s') e H)))
 
-  module _ {d' f' p' s' : List ℕ} (H : ColumnsHold σ d' f' p' s') (len : length d' ≡ 2 * v) where
+  module _ {d' f' p' s' : List ℕ} (H : ColumnsHold σ d' f' p' s') (k : ℕ) (len : k ≡ 2 * v) where
     -- the records of the columns are the definition's
-    pub records_are : length p' ≡ 2 * v → (variables : List ℤ) (times times' : List ℕ) (links links' : List ℤ) → times' ≡ interleave d' f' ++ drop (2 * length d') times
-        → links' ≡ interleave (map lit_at p') (map lit_at s') ++ drop (2 * length p') links
+    pub records_are : (variables : List ℤ) (times times' : List ℕ) (links links' : List ℤ) → times' ≡ interleave d' f' ++ drop (2 * k) times → links' ≡ interleave (map lit_at p') (map lit_at s') ++ drop (2 * k) links
         → tables cs ls variables times' links' ≡ stamped_tables v σ (tables cs ls variables times links)
     unfolding stamped_tables
-    records_are plen variables times times' links links' et el =
+    records_are variables times times' links links' et el =
+        let past : 2 * k ≡ 4 * v = omega (arith, len) in
         let a : times' ≡ interleave σ.discoveries σ.finishes ++ drop (4 * v) times =
-        et ∙ ap (λ (l : List ℕ). interleave l f' ++ drop (2 * length d') times) H.discs ∙ ap (λ (l : List ℕ). interleave σ.discoveries l ++ drop (2 * length d') times) H.fins
-        ∙ ap (λ (k : ℕ). interleave σ.discoveries σ.finishes ++ drop k times) (let e : 2 * length d' ≡ 4 * v = omega (arith, len) in e) in
+        et ∙ ap (λ (l : List ℕ). interleave l f' ++ drop (2 * k) times) H.discs ∙ ap (λ (l : List ℕ). interleave σ.discoveries l ++ drop (2 * k) times) H.fins
+        ∙ ap (λ (j : ℕ). interleave σ.discoveries σ.finishes ++ drop j times) past in
         let b : links' ≡ interleave (map lit_at σ.parents) (map lit_at σ.starts) ++ drop (4 * v) links =
-        el ∙ ap (λ (l : List ℕ). interleave (map lit_at l) (map lit_at s') ++ drop (2 * length p') links) H.pars ∙ ap (λ (l : List ℕ). interleave (map lit_at σ.parents) (map lit_at l) ++ drop (2 * length p') links) H.tops
-        ∙ ap (λ (k : ℕ). interleave (map lit_at σ.parents) (map lit_at σ.starts) ++ drop k links) (let e : 2 * length p' ≡ 4 * v = omega (arith, plen) in e) in
+        el ∙ ap (λ (l : List ℕ). interleave (map lit_at l) (map lit_at s') ++ drop (2 * k) links) H.pars ∙ ap (λ (l : List ℕ). interleave (map lit_at σ.parents) (map lit_at l) ++ drop (2 * k) links) H.tops
+        ∙ ap (λ (j : ℕ). interleave (map lit_at σ.parents) (map lit_at σ.starts) ++ drop j links) past in
         ap (λ (x : List ℕ). tables cs ls variables x links') a ∙ ap (tables cs ls variables (interleave σ.discoveries σ.finishes ++ drop (4 * v) times)) b
 
--- ---- the columns that `stamp_acyclic` owns
+-- ---- the columns that `write_stamps` owns
 
-pub own_blank : (v : ℕ) → v ≤ 1024 → Blank v (take (2 * v) (replicate 2048 0)) (take (2 * v) (replicate 2048 0)) (take (2 * v) (replicate 2048 0)) (take (2 * v) (replicate 2048 0)) (take (2 * v) (replicate 2048 0))
-own_blank v few =
-    let long = front_zeros (2 * v) 2048 (omega arith) in
-    let zeros = take_zeros (2 * v) 2048 (omega arith) in
-    record { lists = long; discs = long; fins = zeros; pars = zeros; tops = zeros }
+pub own_blank : (v : ℕ) → v ≤ 1024 → (slots : List ℕ) → length slots ≡ 2 * v
+    → Blank v slots (discoveries_of (take (2 * v) (replicate 2048 blank_stamp))) (finishes_of (take (2 * v) (replicate 2048 blank_stamp))) (parents_of (take (2 * v) (replicate 2048 blank_stamp))) (starts_of (take (2 * v) (replicate 2048 blank_stamp)))
+own_blank v few slots long =
+    let zeros : (f : SlotStamp → ℕ) → map f (take (2 * v) (replicate 2048 blank_stamp)) ≡ replicate (2 * v) (f blank_stamp) = λ f. ap (map f) (take_filled (2 * v) 2048 blank_stamp (omega arith)) ∙ map-replicate f (2 * v) blank_stamp in
+    record {
+      lists = long;
+      discs = ap length (zeros (λ x. x.discovery)) ∙ length-replicate (2 * v) 0;
+      fins = zeros (λ x. x.finish);
+      pars = zeros (λ x. x.parent);
+      tops = zeros (λ x. x.start);
+    }

@@ -11,9 +11,10 @@ ghost use Rattle.tables.specs.Calls.{after};
 ghost use Rattle.visits.specs.Formed.{Formed};
 ghost use Rattle.stamp_walk.specs.Stamping.{Proper};
 ghost use Rattle.stamp.specs.Stamp.{first_bad, stamps_of, stamp_acyclic, stamp_call};
-ghost use Rattle.stamp.specs.Asking.{ask_ordered, ask_of, Full, Records, Blank, written_tables, answer_of};
+ghost use Rattle.stamp.specs.Asking.{ask_ordered, ask_of, Full, Records, written_tables, answer_of};
 
 use state::{Answer, Outcome, Refusal, State};
+use walk::SlotStamp;
 
 // Refusal 8: the first entry of an order that is no literal of the variables 1 to v, or stands before.
 fn check_order(order: &[i32], v: u32) -> Option<usize>
@@ -76,44 +77,39 @@ fn ask(
     ask_ordered(clauses, literals, variables, st, order)
 }
 
-// Walks the graph in scratch columns and, unless it is cyclic, writes the records; whether it is cyclic.
+// Walks the graph and, unless it is cyclic, writes the records; whether it is cyclic.
 fn write_stamps(
     v: usize,
     n: usize,
     clauses: &[u32],
     literals: &[i32],
     order: &[i32],
-    slots: &mut [u32],
-    discoveries: &mut [u32],
-    finishes: &mut [u32],
-    parents: &mut [u32],
-    starts: &mut [u32],
     times: &mut [u32],
     links: &mut [i32],
 ) -> bool
     requires proper { Proper v n clauses.now literals.now × Full v order.now }
-    requires blank { Blank v slots.old discoveries.old finishes.old parents.old starts.old × Records v times.old links.old }
+    requires records { Records v times.old links.old }
     ensures { (result ≡ cyclic (implications (slots_from clauses.now literals.now n 0)) (2 * v))
         × ((variables : List ℤ) → returned clauses.now literals.now variables times.new links.new
         ≡ written_tables result v (stamps_of (slots_from clauses.now literals.now n 0) (2 * v) (map slot_of order.now))
         (lent clauses.now literals.now variables times.old links.old)) }
 {
+    let size = 2 * v;
+    let mut slots = [0u32; 2048];
+    let slots = &mut slots[..size];
     stamp_walk::list_slots(order, slots);
-    if stamp_walk::stamp_columns(
-        v,
-        n,
-        clauses,
-        literals,
-        slots,
-        discoveries,
-        finishes,
-        parents,
-        starts,
-    ) {
+    let mut stamps = [SlotStamp {
+        discovery: 0,
+        finish: 0,
+        parent: 0,
+        start: 0,
+    }; 2048];
+    let stamps = &mut stamps[..size];
+    if stamp_walk::stamp_columns(v, n, clauses, literals, slots, stamps) {
         return true;
     }
-    stamp_walk::copy_times(discoveries, finishes, times);
-    stamp_walk::copy_links(parents, starts, links);
+    stamp_walk::copy_times(stamps, times);
+    stamp_walk::copy_links(stamps, links);
     false
 }
 
@@ -147,25 +143,12 @@ pub fn stamp_acyclic(
     ensures { (variables : List ℤ) → after result (returned clauses.now literals.now variables times.new links.new)
         ≡ stamp_acyclic order.now (lent clauses.now literals.now variables times.old links.old) st }
 {
-    let v = st.v as usize;
-    let n = st.n as usize;
-    let size = 2 * v;
-    let mut slots = [0u32; 2048];
-    let mut discoveries = [0u32; 2048];
-    let mut finishes = [0u32; 2048];
-    let mut parents = [0u32; 2048];
-    let mut starts = [0u32; 2048];
     let cyclic = write_stamps(
-        v,
-        n,
+        st.v as usize,
+        st.n as usize,
         clauses,
         literals,
         order,
-        &mut slots[..size],
-        &mut discoveries[..size],
-        &mut finishes[..size],
-        &mut parents[..size],
-        &mut starts[..size],
         times,
         links,
     );
