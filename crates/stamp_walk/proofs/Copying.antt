@@ -1,17 +1,12 @@
--- The loops over columns: the slots of a list, the records of two columns, the test of each edge. What is left to store, from here, makes the whole. Assumes nothing.
+-- The loops over columns: the slots of a list, the records of two columns. What is left to store, from here, makes the whole. Assumes nothing.
 use Prim.Native.Nat.{ℕ, suc, ◌+◌, ◌*◌, ◌≤◌, ◌<◌}
 use native.Mathlib.Numerals.{add-one}
 use native.Mathlib.Omega.{arith}
 use mathlib.Core.Path.{◌≡◌, refl, sym, ap, subst, ◌∙◌}
-use mathlib.Core.Bool.{true, false}
 use mathlib.Core.List.{List, [], ◌∷◌, ◌++◌}
 use lib.ListN.{length, get_or, set, drop, drop_of_length-le}
 use lib.Seq.{sets, sets-eq, drop-cons, drop-length}
-use borrow.Author.Tests.{lt-ltb, le-ltb}
 use Rattle.base.specs.Lists.{interleave}
-use Rattle.walk.specs.Walk.{Stamps}
-use Rattle.walk.specs.Forest.{finish_at}
-use Rattle.scc.specs.Forward.{forward}
 
 -- ---- a list, element by element
 
@@ -86,24 +81,3 @@ module _ {A : Type 0} where
       ap (λ (r : List A). sets l (2 * s) (interleave r (drop s ys))) (sym (drop_of_length-le xs le)) ∙ C.same
       ∙ sets-eq (interleave xs ys) l₀ 0 (omega (arith, many_records xs ys len))
       ∙ ap (λ (k : ℕ). interleave xs ys ++ drop k l₀) (let e : 0 + length (interleave xs ys) ≡ 2 * length xs = omega (arith, many_records xs ys len) in e)
-
--- ---- the test of each edge
-
-pub forward_on : (σ : Stamps) (fs ts : List ℕ) (i : ℕ) → i < length fs → length ts ≡ length fs → finish_at σ (get_or ts i 0) < finish_at σ (get_or fs i 0)
-    → forward σ (drop i fs) (drop i ts) ≡ forward σ (drop (i + 1) fs) (drop (i + 1) ts)
-unfolding forward
-forward_on σ fs ts i lt len ok =
-    ap (λ (l : List ℕ). forward σ l (drop i ts)) (step fs i 0 lt)
-    ∙ ap (λ (l : List ℕ). forward σ (get_or fs i 0 ∷ drop (i + 1) fs) l) (step ts i 0 (omega arith))
-    ∙ rw (lt-ltb (finish_at σ (get_or ts i 0)) (finish_at σ (get_or fs i 0)) ok, forward)
-
-pub forward_stops : (σ : Stamps) (fs ts : List ℕ) (i : ℕ) → i < length fs → length ts ≡ length fs → finish_at σ (get_or fs i 0) ≤ finish_at σ (get_or ts i 0) → forward σ (drop i fs) (drop i ts) ≡ false
-unfolding forward
-forward_stops σ fs ts i lt len bad =
-    ap (λ (l : List ℕ). forward σ l (drop i ts)) (step fs i 0 lt)
-    ∙ ap (λ (l : List ℕ). forward σ (get_or fs i 0 ∷ drop (i + 1) fs) l) (step ts i 0 (omega arith))
-    ∙ rw (le-ltb (finish_at σ (get_or ts i 0)) (finish_at σ (get_or fs i 0)) bad, forward)
-
-pub forward_end : (σ : Stamps) (fs ts : List ℕ) (i : ℕ) → length fs ≤ i → forward σ (drop i fs) (drop i ts) ≡ true
-unfolding forward
-forward_end σ fs ts i over = ap (λ (l : List ℕ). forward σ l (drop i ts)) (drop_of_length-le fs over)

@@ -1,3 +1,4 @@
+pub mod Backward
 pub mod Stamps
 pub mod Copying
 pub mod Walking

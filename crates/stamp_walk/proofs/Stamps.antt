@@ -1,11 +1,11 @@
 -- The columns of the slots' stamps: how long they are, and what stands at a place.
 -- Assumes nothing.
-use Rattle.std.proofs.Common.{◌≡◌, ℕ, ◌<◌, List, length, get_or, arith, ap, ◌∙◌}
+use Rattle.std.proofs.Common.{◌≡◌, ℕ, ◌<◌, List, length, get_or, arith}
 use Rattle.std.proofs.Math.ListN.{get_or-map}
 use Rattle.std.proofs.lemmas.List.{length-map}
 use Rattle.walk.specs.declared.SlotStamp.{SlotStamp}
 use Rattle.walk.specs.Slots.{discoveries_of, finishes_of, parents_of, starts_of}
-use Rattle.walk.proofs.Columns.{blank_stamp, finish_at}
+use Rattle.walk.proofs.Columns.{blank_stamp}
 use Rattle.implications.specs.declared.Edge.{Edge}
 use Rattle.implications.specs.EdgeList.{froms_of, tos_of}
 use Rattle.implications.proofs.EdgeLists.{many_froms, from_at, to_at}
@@ -36,9 +36,3 @@ tail_in es l i F lt = omega (arith, F.tails i (omega (arith, many_froms es)), fr
 
 pub head_in : (es : List Edge) (l : List SlotStamp) (i : ℕ) → Finished (froms_of es) (tos_of es) (finishes_of l) → i < length es → (edge_at es i).to < length l
 head_in es l i F lt = omega (arith, F.heads i (omega (arith, many_froms es)), to_at es i, many_finishes l)
-
-pub tail_finish : (es : List Edge) (l : List SlotStamp) (i : ℕ) → get_or (finishes_of l) (get_or (froms_of es) i 0) 0 ≡ (get_or l (edge_at es i).from blank_stamp).finish
-tail_finish es l i = ap (λ (k : ℕ). get_or (finishes_of l) k 0) (from_at es i) ∙ finish_at l (edge_at es i).from
-
-pub head_finish : (es : List Edge) (l : List SlotStamp) (i : ℕ) → get_or (finishes_of l) (get_or (tos_of es) i 0) 0 ≡ (get_or l (edge_at es i).to blank_stamp).finish
-head_finish es l i = ap (λ (k : ℕ). get_or (finishes_of l) k 0) (to_at es i) ∙ finish_at l (edge_at es i).to

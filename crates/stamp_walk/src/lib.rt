@@ -31,12 +31,7 @@ fn any_backward(edges: &[Edge], stamps: &[SlotStamp]) -> bool
     requires { Finished (froms_of edges.now) (tos_of edges.now) (finishes_of stamps.now) }
     ensures { (t : ℕ) (d p s : List ℕ) → result ≡ not (forward (columns t d (finishes_of stamps.now) p s) (froms_of edges.now) (tos_of edges.now)) }
 {
-    for edge in edges {
-        if stamps[edge.from as usize].finish <= stamps[edge.to as usize].finish {
-            return true;
-        }
-    }
-    false
+    edges.iter().any(|edge| stamps[edge.from as usize].finish <= stamps[edge.to as usize].finish)
 }
 
 // The times of the records: the discovery and the finish of each slot. What stands behind them stays. The tables have the stated length, which the call's entry has checked.
