@@ -1,18 +1,18 @@
 -- The earliest literal of a list that has a property, and that the searches of the definitions find it. Assumes nothing.
-use Prim.Native.Nat.{ℕ, zero, suc, ◌<◌}
-use native.Mathlib.Omega.{arith}
 use mathlib.Core.Path.{◌≡◌, refl, sym, ap, subst, ◌∙◌}
-use mathlib.Core.Bool.{Bool, true, false}
+use mathlib.Core.Bool.{Bool, true, false, cond}
 use mathlib.Core.Logic.{◌⊎◌, inl, inr, ⊎_elim}
 use mathlib.Core.List.Memᴰ
 use mathlib.Core.List.{List, [], ◌∷◌, ◌++◌, Memᴰ}
-use lib.IntN.{ℤ, neg_ℤ, nat_abs}
+use lib.IntN.{ℤ, neg_ℤ}
+use Rattle.std.specs.Prelude.{Option, Some, None}
+use Rattle.std.specs.List.{find}
+use Rattle.std.proofs.lemmas.Option.{none-some, same_Some}
 use Rattle.base.proofs.Booleans.{clash}
 use Rattle.walk.specs.Walk.{Stamps}
-use Rattle.chains.specs.declared.Ends.{Ends}
 use Rattle.chains.specs.Chains.{ends}
-use Rattle.explain.specs.Reasons.{first_of, first_held, long_ends}
-use Rattle.explain.proofs.Searching.{if_found_lem, if_none}
+use Rattle.explain.specs.Reasons.{first_held, long_ends}
+use Rattle.explain.proofs.Searching.{long_here, long_next}
 
 -- x stands in the list with P, and none in front of it has P
 pub record First (P : ℤ → Type 0) (C : List ℤ) (x : ℤ) : Type 0 where
@@ -58,24 +58,21 @@ first_as {P} {Q} {C} {x} to from f = record {
 
 -- ---- by a test
 
-pub first_of_lem : (test : ℤ → Bool) (C : List ℤ) → 0 < nat_abs (first_of test C) → First (λ x. test x ≡ true) C (first_of test C)
-unfolding first_of
-first_of_lem test [] h = absurd (omega arith)
-first_of_lem test (x ∷ C) h = go (λ k. first_of_lem test C k) (test x) refl h
+pub first_found : (test : ℤ → Bool) (C : List ℤ) {x : ℤ} → find test C ≡ Some x → First (λ y. test y ≡ true) C x
+first_found test [] e = absurd (none-some _ e)
+first_found test (y ∷ C) {x} e = go (λ k. first_found test C k) (test y) refl e
   where
-    go : (0 < nat_abs (first_of test C) → First (λ y. test y ≡ true) C (first_of test C)) → (b : Bool) → test x ≡ b
-        → 0 < nat_abs (elim b [ true ↦ x | false ↦ first_of test C ]) → First (λ y. test y ≡ true) (x ∷ C) (elim b [ true ↦ x | false ↦ first_of test C ])
-    go rest true e k = first_here e
-    go rest false e k = first_later (λ t. clash t e) (rest k)
+    go : (find test C ≡ Some x → First (λ z. test z ≡ true) C x) → (b : Bool) → test y ≡ b → ◌≡◌ {A = Option ℤ} (cond b (Some y) (find test C)) (Some x) → First (λ z. test z ≡ true) (y ∷ C) x
+    go rest true t k = subst (First (λ z. test z ≡ true) (y ∷ C)) (same_Some y x k) (first_here t)
+    go rest false t k = first_later (λ u. clash u t) (rest k)
 
--- of literals, one that passes the test is found
-pub first_some : (test : ℤ → Bool) (C : List ℤ) → ((y : ℤ) → Memᴰ y C → 0 < nat_abs y) → {x : ℤ} → Memᴰ x C → test x ≡ true → 0 < nat_abs (first_of test C)
-unfolding first_of
-first_some test [] each m t = absurd (Memᴰ.not-nil m)
-first_some test (y ∷ C) each {x} m t = go (λ k. first_some test C (λ z i. each z (Memᴰ.tail i)) k t) (test y) refl (Memᴰ.cases_cons m)
+-- one that passes the test is found
+pub first_some : (test : ℤ → Bool) (C : List ℤ) {x : ℤ} → Memᴰ x C → test x ≡ true → (y : ℤ) × (find test C ≡ Some y)
+first_some test [] m t = absurd (Memᴰ.not-nil m)
+first_some test (y ∷ C) {x} m t = go (λ k. first_some test C k t) (test y) refl (Memᴰ.cases_cons m)
   where
-    go : (Memᴰ x C → 0 < nat_abs (first_of test C)) → (b : Bool) → test y ≡ b → (x ≡ y) ⊎ Memᴰ x C → 0 < nat_abs (elim b [ true ↦ y | false ↦ first_of test C ])
-    go rest true e k = each y (Memᴰ.head refl)
+    go : (Memᴰ x C → (z : ℤ) × (find test C ≡ Some z)) → (b : Bool) → test y ≡ b → (x ≡ y) ⊎ Memᴰ x C → (z : ℤ) × (◌≡◌ {A = Option ℤ} (cond b (Some y) (find test C)) (Some z))
+    go rest true e k = (y, refl)
     go rest false e (inl k) = clash (sym (ap test k) ∙ t) e
     go rest false e (inr k) = rest k
 
@@ -83,22 +80,22 @@ first_some test (y ∷ C) each {x} m t = go (λ k. first_some test C (λ z i. ea
 
 -- its complement holds one
 abbrev pub Finds : Stamps → List ℤ → ℤ → Type 0
-Finds σ C a = 0 < nat_abs (first_held σ C (neg_ℤ a))
+Finds σ C a = (b : ℤ) × (first_held σ C (neg_ℤ a) ≡ Some b)
 
 pub record Longs (σ : Stamps) (C more : List ℤ) : Type 0 where
   pub a : ℤ
+  pub b : ℤ
   pub first : First (Finds σ C) more a
-  pub is : long_ends σ C more ≡ ends (neg_ℤ a) (first_held σ C (neg_ℤ a))
+  pub held : first_held σ C (neg_ℤ a) ≡ Some b
+  pub is : long_ends σ C more ≡ Some (ends (neg_ℤ a) b)
 
 pub longs : (σ : Stamps) (C more : List ℤ) {x : ℤ} → Memᴰ x more → Finds σ C x → Longs σ C more
-unfolding long_ends
 longs σ C [] m h = absurd (Memᴰ.not-nil m)
-longs σ C (y ∷ more) {x} m h = go (λ k. longs σ C more k h) (nat_abs (first_held σ C (neg_ℤ y))) refl (Memᴰ.cases_cons m)
+longs σ C (y ∷ more) {x} m h = go (λ k. longs σ C more k h) (first_held σ C (neg_ℤ y)) refl (Memᴰ.cases_cons m)
   where
-    some : Ends
-    some = ends (neg_ℤ y) (first_held σ C (neg_ℤ y))
-
-    go : (Memᴰ x more → Longs σ C more) → (n : ℕ) → nat_abs (first_held σ C (neg_ℤ y)) ≡ n → (x ≡ y) ⊎ Memᴰ x more → Longs σ C (y ∷ more)
-    go rest (suc n) e k = record { a = y; first = first_here (omega (arith, e)); is = if_found_lem (first_held σ C (neg_ℤ y)) some (long_ends σ C more) (omega (arith, e)) }
-    go rest zero e (inl k) = absurd (omega (arith, e, h, ap (λ (z : ℤ). nat_abs (first_held σ C (neg_ℤ z))) k))
-    go rest zero e (inr k) = let r = rest k in record { a = r.a; first = first_later (λ f. omega (arith, e, f)) r.first; is = if_none (first_held σ C (neg_ℤ y)) some (long_ends σ C more) e ∙ r.is }
+    go : (Memᴰ x more → Longs σ C more) → (o : Option ℤ) → first_held σ C (neg_ℤ y) ≡ o → (x ≡ y) ⊎ Memᴰ x more → Longs σ C (y ∷ more)
+    go rest (Some b) e k = record { a = y; b = b; first = first_here (b, e); held = e; is = long_here σ C y b more e }
+    go rest None e (inl k) = absurd (none-some h.0 (sym e ∙ ap (λ (z : ℤ). first_held σ C (neg_ℤ z)) (sym k) ∙ h.1))
+    go rest None e (inr k) =
+        let r = rest k in
+        record { a = r.a; b = r.b; first = first_later (λ f. none-some f.0 (sym e ∙ f.1)) r.first; held = r.held; is = long_next σ C y more e ∙ r.is }

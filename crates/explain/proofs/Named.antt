@@ -11,6 +11,7 @@ use mathlib.Core.List.Memᴰ
 use mathlib.Core.List.{List, [], ◌∷◌, map, Memᴰ}
 use lib.ListN.{length, length-map}
 use lib.IntN.{ℤ, neg_ℤ}
+use Rattle.std.specs.Prelude.{Option, unwrap_or}
 use Rattle.literal.specs.Literals.{Literal}
 use Rattle.walk.specs.Walk.{Stamps}
 use Rattle.stamp_columns.specs.Columns.{columns}
@@ -20,7 +21,7 @@ use Rattle.sweep_visits.proofs.Fates.{sweep_cases}
 use Rattle.chains.specs.declared.Ends.{Ends}
 use Rattle.chains.specs.Chains.{ends}
 use Rattle.chains.specs.Climbing.{Between, Climbable}
-use Rattle.explain.specs.Reasons.{drop_ends, literal_ends, left_out, taken_out, reasons_by, reasons_of}
+use Rattle.explain.specs.Reasons.{no_ends, drop_ends, literal_ends, left_out, taken_out, reasons_by, reasons_of}
 use Rattle.explain.specs.Asking.{Clause}
 use Rattle.explain.proofs.Swept.{swept_dropped, swept_left}
 use Rattle.explain.proofs.Firsts.{first_in}
@@ -42,7 +43,7 @@ unfolding drop_ends
 drop_named {times} {links} {C = []} K e = absurd (let s = swept_dropped (columns times links) [] e in omega (arith, s.0))
 drop_named {times} {links} {C = a ∷ []} K e = absurd (let s = swept_dropped (columns times links) (a ∷ []) e in omega (arith, s.0))
 drop_named {times} {links} {C = a ∷ b ∷ []} K e = two refl (pair_named K (swept_dropped (columns times links) (a ∷ b ∷ []) e).1)
-drop_named {times} {links} {C = a ∷ b ∷ c ∷ ls} K e = let L = long_named K (omega arith) (swept_dropped (columns times links) (a ∷ b ∷ c ∷ ls) e).1 in more (omega arith) L L.is
+drop_named {times} {links} {C = a ∷ b ∷ c ∷ ls} K e = let L = long_named K (omega arith) (swept_dropped (columns times links) (a ∷ b ∷ c ∷ ls) e).1 in more (omega arith) L (ap (λ (o : Option Ends). unwrap_or o no_ends) L.is)
 
 module _ {times : List ℕ} {links C : List ℤ} (K : Clause times links C) where
   abbrev σ : Stamps

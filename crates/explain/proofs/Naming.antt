@@ -13,7 +13,9 @@ use lib.ListN.{length, get_or, length-map}
 use lib.Dec.{eqb}
 use lib.IntN.{ℤ, pos, neg_ℤ, nat_abs, neg_ℤ-neg_ℤ}
 use borrow.Author.Tests.{not-true, not-false}
-use Rattle.base.specs.Decide.{same_or, zero_or, le_or}
+use Rattle.std.specs.Prelude.{Option, Some, None, unwrap_or}
+use Rattle.std.proofs.lemmas.Option.{none-some}
+use Rattle.base.specs.Decide.{same_or, le_or}
 use Rattle.base.specs.Lists.{any, filter}
 use Rattle.base.proofs.Booleans.{clash, and_left, and_right, and_both, or_either, differ, differs}
 use Rattle.base.proofs.Lists.{mem_filter, filter_filter, sub_mem, any_out, any_in, mem_get_d, each_mem}
@@ -32,11 +34,11 @@ use Rattle.hidden.proofs.Shorten.{unhidden_sub}
 use Rattle.hidden.proofs.Pairs.{transitive_means}
 use Rattle.chains.specs.declared.Ends.{Ends}
 use Rattle.chains.specs.Chains.{ends}
-use Rattle.explain.specs.Reasons.{holds_other, first_held, first_holder, pair_ends, long_ends, literal_ends, left_out}
+use Rattle.explain.specs.Reasons.{holds_other, first_held, pair_ends, long_ends, literal_ends, left_out}
 use Rattle.explain.specs.Asking.{Clause}
 use Rattle.explain.proofs.Leaving.{filter_passes, left_out_filter, left_out_length, shorten_leaves}
-use Rattle.explain.proofs.Searching.{if_found_lem, if_none}
-use Rattle.explain.proofs.Firsts.{First, first_in, first_as, first_of_lem, first_some, Finds, longs}
+use Rattle.explain.proofs.Searching.{ends_held, ends_free}
+use Rattle.explain.proofs.Firsts.{First, first_in, first_as, first_found, first_some, Finds, longs}
 
 -- a complement is a literal too
 pub literal_neg : {v : ℕ} {l : ℤ} → Literal v l → Literal v (neg_ℤ l)
@@ -126,11 +128,11 @@ module _ {times : List ℕ} {links C : List ℤ} (K : Clause times links C) wher
 
   -- ---- the searches
 
-  held_first : (l : ℤ) → Literal K.vars l → 0 < nat_abs (first_held ρ C l) → First (Other times l) C (first_held ρ C l)
-  held_first l L h = first_as (λ m i. (other_means times links l m L (in_range_lem m i)).0) (λ m i. (other_means times links l m L (in_range_lem m i)).1) (first_of_lem (holds_other ρ l) C h)
+  held_first : (l b : ℤ) → Literal K.vars l → first_held ρ C l ≡ Some b → First (Other times l) C b
+  held_first l b L h = first_as (λ m i. (other_means times links l m L (in_range_lem m i)).0) (λ m i. (other_means times links l m L (in_range_lem m i)).1) (first_found (holds_other ρ l) C h)
 
-  held_found : (l m : ℤ) → Literal K.vars l → Memᴰ m C → Other times l m → 0 < nat_abs (first_held ρ C l)
-  held_found l m L i o = first_some (holds_other ρ l) C in_above i ((other_means times links l m L (in_range_lem m i)).1 o)
+  held_found : (l m : ℤ) → Literal K.vars l → Memᴰ m C → Other times l m → (b : ℤ) × (first_held ρ C l ≡ Some b)
+  held_found l m L i o = first_some (holds_other ρ l) C i ((other_means times links l m L (in_range_lem m i)).1 o)
 
   -- ---- a dropped clause of three or more
 
@@ -143,7 +145,7 @@ module _ {times : List ℕ} {links C : List ℤ} (K : Clause times links C) wher
     pub b : ℤ
     pub a_first : First Holder C a
     pub b_first : First (On times (neg_ℤ a)) C b
-    pub is : long_ends ρ C C ≡ ends (neg_ℤ a) b
+    pub is : long_ends ρ C C ≡ Some (ends (neg_ℤ a) b)
 
   -- of complements, "another" leaves none out
   apart : (a m : ℤ) → Memᴰ a C → Memᴰ m C → On times (neg_ℤ a) m → Other times (neg_ℤ a) m
@@ -153,7 +155,7 @@ module _ {times : List ℕ} {links C : List ℤ} (K : Clause times links C) wher
   holder_finds a i h = held_found (neg_ℤ a) h.0 (literal_neg (in_range_lem a i)) h.1 (apart a h.0 i h.1 h.2)
 
   finds_holder : (a : ℤ) → Memᴰ a C → Finds ρ C a → Holder a
-  finds_holder a i f = let r = held_first (neg_ℤ a) (literal_neg (in_range_lem a i)) f in (first_held ρ C (neg_ℤ a), first_in r, r.has.1)
+  finds_holder a i f = let r = held_first (neg_ℤ a) f.0 (literal_neg (in_range_lem a i)) f.1 in (f.0, first_in r, r.has.1)
 
   pub long_named : 2 < length C → hidden_tautology ρ (map slot_of C) ≡ true → Long
   long_named three h =
@@ -167,12 +169,12 @@ module _ {times : List ℕ} {links C : List ℤ} (K : Clause times links C) wher
             (subst₂ (forest.Holds ρ) (ap twin (sym x.2) ∙ sym (slot_twin x.0 (in_above x.0 x.1))) (sym y.2) r.4),
       ) in
       let w = longs ρ C C x.1 (holder_finds x.0 x.1 holder) in
-      let in-C = first_in w.first in
+      let in-C = first_in {x = w.a} w.first in
       record {
         a = w.a;
-        b = first_held ρ C (neg_ℤ w.a);
+        b = w.b;
         a_first = first_as finds_holder holder_finds w.first;
-        b_first = first_as (λ m i o. o.1) (λ m i h. apart w.a m in-C i h) (held_first (neg_ℤ w.a) (literal_neg (in_range_lem w.a in-C)) w.first.has);
+        b_first = first_as (λ m i o. o.1) (λ m i h. apart w.a m in-C i h) (held_first (neg_ℤ w.a) w.b (literal_neg (in_range_lem w.a in-C)) w.held);
         is = w.is;
       }
 
@@ -202,18 +204,18 @@ module _ {times : List ℕ} {links C : List ℤ} (K : Clause times links C) wher
   unfolding literal_ends
   by_first l m i j o =
       let f = held_found l m (in_range_lem l i) j o in
-      record { b = first_held ρ C l; first = held_first l (in_range_lem l i) f; is = if_found_lem (first_held ρ C l) (ends l (first_held ρ C l)) (ends (neg_ℤ (first_holder ρ rest l)) (neg_ℤ l)) f }
+      record { b = f.0; first = held_first l f.0 (in_range_lem l i) f.1; is = ends_held ρ C rest l f.0 f.1 }
 
-  by_second : (l m : ℤ) → Memᴰ l C → nat_abs (first_held ρ C l) ≡ 0 → Memᴰ m rest → Above times l m → BySecond l
+  by_second : (l m : ℤ) → Memᴰ l C → first_held ρ C l ≡ None → Memᴰ m rest → Above times l m → BySecond l
   unfolding literal_ends
   by_second l m i none j o =
       let L = in_range_lem l i in
-      let f = first_some (λ x. holds_other ρ (neg_ℤ x) (neg_ℤ l)) rest (λ x k. in_above x (rest_in x k)) j ((above_means times links l m L (in_range_lem m (rest_in m j))).1 o) in
+      let f = first_some (λ x. holds_other ρ (neg_ℤ x) (neg_ℤ l)) rest j ((above_means times links l m L (in_range_lem m (rest_in m j))).1 o) in
       record {
-        free = λ x k d h. omega (arith, none, held_found l x L k (d, h));
-        m = first_holder ρ rest l;
-        first = first_as (λ x k. (above_means times links l x L (in_range_lem x (rest_in x k))).0) (λ x k. (above_means times links l x L (in_range_lem x (rest_in x k))).1) (first_of_lem (λ x. holds_other ρ (neg_ℤ x) (neg_ℤ l)) rest f);
-        is = if_none (first_held ρ C l) (ends l (first_held ρ C l)) (ends (neg_ℤ (first_holder ρ rest l)) (neg_ℤ l)) none;
+        free = λ x k d h. let w = held_found l x L k (d, h) in none-some w.0 (sym none ∙ w.1);
+        m = f.0;
+        first = first_as (λ x k. (above_means times links l x L (in_range_lem x (rest_in x k))).0) (λ x k. (above_means times links l x L (in_range_lem x (rest_in x k))).1) (first_found (λ x. holds_other ρ (neg_ℤ x) (neg_ℤ l)) rest f.1);
+        is = ends_free ρ C rest l none ∙ ap (λ (o : Option ℤ). ends (neg_ℤ (unwrap_or o (pos 0))) (neg_ℤ l)) f.1;
       }
 
   -- the two filters
@@ -232,14 +234,14 @@ module _ {times : List ℕ} {links C : List ℤ} (K : Clause times links C) wher
   taken_few = omega (arith, left_out_length (shorten_leaves ρ C))
 
   -- the first rule leaves l only if it holds no other
-  none_held : (l : ℤ) → Memᴰ l C → stays_first l ≡ true → nat_abs (first_held ρ C l) ≡ 0
-  none_held l i e =
-      ⊎_elim
-      (λ z. z)
-      (λ some.
-      let r = first_of_lem (holds_other ρ l) C some in
-      clash (any_in (first_test times links l) (map slot_of C) (mathlib.Core.List.Memᴰ.map slot_of (first_in r)) (first_means times links l (first_held ρ C l) ∙ r.has)) (not-true (any (first_test times links l) (map slot_of C)) e))
-      (zero_or (nat_abs (first_held ρ C l)))
+  none_held : (l : ℤ) → Memᴰ l C → stays_first l ≡ true → first_held ρ C l ≡ None
+  none_held l i e = go (first_held ρ C l) refl
+    where
+      go : (o : Option ℤ) → first_held ρ C l ≡ o → first_held ρ C l ≡ None
+      go None q = q
+      go (Some b) q =
+          let r = first_found (holds_other ρ l) C q in
+          clash (any_in (first_test times links l) (map slot_of C) (mathlib.Core.List.Memᴰ.map slot_of (first_in r)) (first_means times links l b ∙ r.has)) (not-true (any (first_test times links l) (map slot_of C)) e)
 
   pub literal_named : (l : ℤ) → Memᴰ l (left_out C (shorten slot_of ρ C)) → Memᴰ l C × (ByFirst l ⊎ BySecond l)
   literal_named l k =

@@ -1,29 +1,32 @@
 -- What the loops that search a clause have passed, the first literal that a test finds, and what the first rule of figure 5 leaves. Assumes nothing.
-use Prim.Native.Nat.{ℕ, zero, suc, ◌+◌, ◌≤◌, ◌<◌}
+use Prim.Native.Nat.{ℕ, suc, ◌+◌, ◌≤◌, ◌<◌}
 use native.Mathlib.Numerals.{add-one}
 use native.Mathlib.Omega.{arith}
 use mathlib.Core.Path.{◌≡◌, refl, sym, ap, subst, ◌∙◌}
-use mathlib.Core.Bool.{Bool, true, false, not, ◌&&◌}
+use mathlib.Core.Bool.{Bool, true, false, not, ◌&&◌, cond}
 use mathlib.Core.List.{List, [], ◌∷◌, ◌++◌, map, append-nil, Memᴰ}
 use lib.ListN.{length, get_or, take, drop, set, length-set, drop_of_length-le}
 use lib.Seq.{drop-cons, take-suc-set, append_snoc}
 use lib.Dec.{eqb}
-use lib.IntN.{ℤ, pos, neg_ℤ, nat_abs, ◌-ℤ◌}
+use lib.IntN.{ℤ, pos, neg_ℤ, ◌-ℤ◌}
 use mir.Syntax.{w32}
 use mir.Val.{SFits, of_z, to_z}
 use borrow.Author.Tests.{eq-eqb, ne_eqb}
+use Rattle.std.specs.Prelude.{Option, Some, None, unwrap_or, is_some}
+use Rattle.std.specs.List.{find}
+use Rattle.std.proofs.lemmas.Option.{none-some}
+use Rattle.base.proofs.Booleans.{clash}
 use Rattle.base.specs.Lists.{any, filter}
 use Rattle.base.proofs.Lists.{filter_in, filter_out, any_map, each_mem}
 use Rattle.literal.specs.Literals.{Literal, Small, slot_of}
-use Rattle.literal.proofs.Signed.{back, neg_is, neg_fits, abs_neg, is_lit}
+use Rattle.literal.proofs.Signed.{back, neg_is, neg_fits, abs_neg}
 use Rattle.clause_slots.proofs.Mapping.{literal_small}
 use Rattle.walk.specs.Walk.{Stamps}
 use Rattle.stamp_columns.specs.Columns.{columns}
 use Rattle.hidden.specs.Hidden.{holds, transitive, unhidden}
 use Rattle.clause_slots.specs.Stamped.{Lits}
-use Rattle.chains.specs.declared.Ends.{Ends}
 use Rattle.chains.specs.Chains.{ends}
-use Rattle.explain.specs.Reasons.{first_of, holds_other, first_held, long_ends, pair_ends, drop_ends, if_found}
+use Rattle.explain.specs.Reasons.{holds_other, first_held, first_holder, long_ends, pair_ends, no_ends, drop_ends, ends_in}
 
 -- ---- literals in locals
 
@@ -46,10 +49,6 @@ module _ {z : ℤ} (L : Literal 1024 z) where
 -- of v variables
 pub literal_of : {v : ℕ} {z : ℤ} → v ≤ 1024 → Literal v z → Literal 1024 z
 literal_of few L = record { above = L.above; within = omega (arith, few, L.within) }
-
--- an i32 whose bits are 0
-pub zero_is : {z : ℤ} → SFits w32 z → of_z w32 z ≡ 0 → z ≡ pos 0
-zero_is f e = is_lit f (pos 0) tt e
 
 -- ---- another literal that is held
 
@@ -83,44 +82,46 @@ module _ {A : Type 0} {f : List ℤ → List ℤ → A} {C : List ℤ} {i : ℕ}
 
 -- ---- the first literal that passes a test
 
-pub first_here : (test : ℤ → Bool) (l : ℤ) (ls : List ℤ) → test l ≡ true → first_of test (l ∷ ls) ≡ l
-unfolding first_of
-first_here test l ls e = rw (e, first_of)
+pub find_here : (test : ℤ → Bool) (l : ℤ) (ls : List ℤ) → test l ≡ true → find test (l ∷ ls) ≡ Some l
+find_here test l ls e = rw (e, find)
 
-pub first_next : (test : ℤ → Bool) (l : ℤ) (ls : List ℤ) → test l ≡ false → first_of test (l ∷ ls) ≡ first_of test ls
-unfolding first_of
-first_next test l ls e = rw (e, first_of)
+pub find_next : (test : ℤ → Bool) (l : ℤ) (ls : List ℤ) → test l ≡ false → find test (l ∷ ls) ≡ find test ls
+find_next test l ls e = rw (e, find)
 
-pub first_none : (test : ℤ → Bool) → first_of test [] ≡ pos 0
-unfolding first_of
-first_none test = refl
-
--- it is 0 exactly if no literal passes
-pub found_any : (test : ℤ → Bool) (C : List ℤ) → 0 < nat_abs (first_of test C) → any test C ≡ true
-unfolding first_of any
-found_any test [] h = absurd (omega arith)
-found_any test (l ∷ C) h = go (found_any test C) (test l) h
+-- it is found exactly if a literal passes
+pub found_any : (test : ℤ → Bool) (C : List ℤ) {x : ℤ} → find test C ≡ Some x → any test C ≡ true
+unfolding any
+found_any test [] e = absurd (none-some _ e)
+found_any test (l ∷ C) {x} e = go (found_any test C) (test l) e
   where
-    go : (0 < nat_abs (first_of test C) → any test C ≡ true) → (b : Bool) → 0 < nat_abs (elim b [ true ↦ l | false ↦ first_of test C ]) → ◌≡◌ {A = Bool} (elim b [ true ↦ true | false ↦ any test C ]) true
-    go rest true h = refl
-    go rest false h = rest h
-
-pub found_none : (test : ℤ → Bool) (C : List ℤ) → ((l : ℤ) → Memᴰ l C → 0 < nat_abs l) → first_of test C ≡ pos 0 → any test C ≡ false
-unfolding first_of any
-found_none test [] some e = refl
-found_none test (l ∷ C) some e = go (found_none test C (λ k m. some k (Memᴰ.tail m))) (test l) e
-  where
-    go : (first_of test C ≡ pos 0 → any test C ≡ false) → (b : Bool) → ◌≡◌ {A = ℤ} (elim b [ true ↦ l | false ↦ first_of test C ]) (pos 0) → ◌≡◌ {A = Bool} (elim b [ true ↦ true | false ↦ any test C ]) false
-    go rest true e = absurd (omega (arith, some l (Memᴰ.head refl), ap nat_abs e))
+    go : (find test C ≡ Some x → any test C ≡ true) → (b : Bool) → ◌≡◌ {A = Option ℤ} (cond b (Some l) (find test C)) (Some x) → ◌≡◌ {A = Bool} (elim b [ true ↦ true | false ↦ any test C ]) true
+    go rest true e = refl
     go rest false e = rest e
 
--- it is an i32 that has a complement
-pub first_small : (test : ℤ → Bool) (C : List ℤ) → ((l : ℤ) → Memᴰ l C → Small l) → Small (first_of test C)
-unfolding first_of
-first_small test [] each = record { small = omega arith }
-first_small test (l ∷ C) each = go (first_small test C (λ k m. each k (Memᴰ.tail m))) (test l)
+pub found_none : (test : ℤ → Bool) (C : List ℤ) → find test C ≡ None → any test C ≡ false
+unfolding any
+found_none test [] e = refl
+found_none test (l ∷ C) e = go (found_none test C) (test l) e
   where
-    go : Small (first_of test C) → (b : Bool) → Small (elim b [ true ↦ l | false ↦ first_of test C ])
+    go : (find test C ≡ None → any test C ≡ false) → (b : Bool) → ◌≡◌ {A = Option ℤ} (cond b (Some l) (find test C)) None → ◌≡◌ {A = Bool} (elim b [ true ↦ true | false ↦ any test C ]) false
+    go rest true e = absurd (none-some _ (sym e))
+    go rest false e = rest e
+
+-- what the answer of `is_none` says
+pub none_told : (o : Option ℤ) {b : Bool} → is_some o ≡ not b → b ≡ true → o ≡ None
+none_told None e t = refl
+none_told (Some x) e t = clash refl (e ∙ ap not t)
+
+pub some_told : (o : Option ℤ) {b : Bool} → is_some o ≡ not b → b ≡ false → (x : ℤ) × (o ≡ Some x)
+some_told None e t = clash (e ∙ ap not t) refl
+some_told (Some x) e t = (x, refl)
+
+-- it is an i32 that has a complement
+pub found_small : (test : ℤ → Bool) (C : List ℤ) → ((l : ℤ) → Memᴰ l C → Small l) → Small (unwrap_or (find test C) (pos 0))
+found_small test [] each = record { small = omega arith }
+found_small test (l ∷ C) each = go (found_small test C (λ k m. each k (Memᴰ.tail m))) (test l)
+  where
+    go : Small (unwrap_or (find test C) (pos 0)) → (b : Bool) → Small (unwrap_or (cond b (Some l) (find test C)) (pos 0))
     go rest true = each l (Memᴰ.head refl)
     go rest false = rest
 
@@ -129,27 +130,23 @@ lits_small {C} L l m = literal_small (each_mem (Literal 1024) C (pos 0) L.each l
 
 -- ---- by what was found
 
-pub if_found_lem : (found : ℤ) (some none : Ends) → 0 < nat_abs found → if_found found some none ≡ some
-if_found_lem found some none h = go (nat_abs found) h
-  where
-    go : (n : ℕ) → 0 < n → ◌≡◌ {A = Ends} (elim n [ zero ↦ none | suc _ ↦ some ]) some
-    go zero h = absurd (omega arith)
-    go (suc n) h = refl
+pub ends_held : (σ : Stamps) (C rest : List ℤ) (l m : ℤ) → first_held σ C l ≡ Some m → ends_in σ C rest l ≡ ends l m
+ends_held σ C rest l m e = rw (e, ends_in)
 
-pub if_none : (found : ℤ) (some none : Ends) → nat_abs found ≡ 0 → if_found found some none ≡ none
-if_none found some none e = rw (e, if_found)
+pub ends_free : (σ : Stamps) (C rest : List ℤ) (l : ℤ) → first_held σ C l ≡ None → ends_in σ C rest l ≡ ends (neg_ℤ (unwrap_or (first_holder σ rest l) (pos 0))) (neg_ℤ l)
+ends_free σ C rest l e = rw (e, ends_in)
 
 -- ---- a dropped clause
 
-pub long_here : (σ : Stamps) (C : List ℤ) (a : ℤ) (more : List ℤ) → 0 < nat_abs (first_held σ C (neg_ℤ a)) → long_ends σ C (a ∷ more) ≡ ends (neg_ℤ a) (first_held σ C (neg_ℤ a))
+pub long_here : (σ : Stamps) (C : List ℤ) (a b : ℤ) (more : List ℤ) → first_held σ C (neg_ℤ a) ≡ Some b → long_ends σ C (a ∷ more) ≡ Some (ends (neg_ℤ a) b)
 unfolding long_ends
-long_here σ C a more h = if_found_lem (first_held σ C (neg_ℤ a)) (ends (neg_ℤ a) (first_held σ C (neg_ℤ a))) (long_ends σ C more) h
+long_here σ C a b more e = rw (e, long_ends)
 
-pub long_next : (σ : Stamps) (C : List ℤ) (a : ℤ) (more : List ℤ) → first_held σ C (neg_ℤ a) ≡ pos 0 → long_ends σ C (a ∷ more) ≡ long_ends σ C more
+pub long_next : (σ : Stamps) (C : List ℤ) (a : ℤ) (more : List ℤ) → first_held σ C (neg_ℤ a) ≡ None → long_ends σ C (a ∷ more) ≡ long_ends σ C more
 unfolding long_ends
-long_next σ C a more e = if_none (first_held σ C (neg_ℤ a)) (ends (neg_ℤ a) (first_held σ C (neg_ℤ a))) (long_ends σ C more) (ap nat_abs e)
+long_next σ C a more e = rw (e, long_ends)
 
-pub long_none : (σ : Stamps) (C : List ℤ) → long_ends σ C [] ≡ ends (pos 0) (pos 0)
+pub long_none : (σ : Stamps) (C : List ℤ) → long_ends σ C [] ≡ None
 unfolding long_ends
 long_none σ C = refl
 
@@ -166,7 +163,7 @@ drop_pair σ (a ∷ []) h = absurd (omega arith)
 drop_pair σ (a ∷ b ∷ []) h = refl
 drop_pair σ (a ∷ b ∷ c ∷ C) h = absurd (omega arith)
 
-pub drop_long : (σ : Stamps) (C : List ℤ) → (length C ≡ 2 → ⊥) → long_ends σ C C ≡ drop_ends σ C
+pub drop_long : (σ : Stamps) (C : List ℤ) → (length C ≡ 2 → ⊥) → unwrap_or (long_ends σ C C) no_ends ≡ drop_ends σ C
 unfolding drop_ends
 drop_long σ [] h = refl
 drop_long σ (a ∷ []) h = refl
@@ -195,13 +192,13 @@ unfolding unhidden
 keeping_none times C rest e = record { behind = omega arith; within = omega arith; same = e; split = λ links. refl }
 
 module _ {times : List ℕ} {C rest : List ℤ} {n i : ℕ} (K : Keeping times C rest n i) (lt : i < length C) where
-  pub keeping_stays : Lits C → ((links : List ℤ) → first_held (columns times links) C (get_or C i (pos 0)) ≡ pos 0) → Keeping times C (set rest n (get_or C i (pos 0))) (n + 1) (i + 1)
-  keeping_stays L e = record {
+  pub keeping_stays : ((links : List ℤ) → first_held (columns times links) C (get_or C i (pos 0)) ≡ None) → Keeping times C (set rest n (get_or C i (pos 0))) (n + 1) (i + 1)
+  keeping_stays e = record {
     behind = omega (arith, K.behind);
     within = omega arith;
     same = simp length-set K.same;
     split = λ links.
-        let none = held_any (columns times links) C (get_or C i (pos 0)) ∙ found_none (holds_other (columns times links) (get_or C i (pos 0))) C (λ l m. (each_mem (Literal 1024) C (pos 0) L.each l m).above) (e links) in
+        let none = held_any (columns times links) C (get_or C i (pos 0)) ∙ found_none (holds_other (columns times links) (get_or C i (pos 0))) C (e links) in
         K.split links
         ∙ ap (λ (ls : List ℤ). take n rest ++ ls) (ap (filter (unheld (columns times links) C)) (drop-cons C i (pos 0) lt) ∙ filter_in (unheld (columns times links) C) (get_or C i (pos 0)) (drop (suc i) C) (ap not none))
         ∙ sym (append_snoc (take n rest) (get_or C i (pos 0)) (filter (unheld (columns times links) C) (drop (suc i) C)))
@@ -209,13 +206,13 @@ module _ {times : List ℕ} {C rest : List ℤ} {n i : ℕ} (K : Keeping times C
         ∙ (λ z. take (sym (add-one n) z) (set rest n (get_or C i (pos 0))) ++ filter (unheld (columns times links) C) (drop (sym (add-one i) z) C));
   }
 
-  pub keeping_goes : ((links : List ℤ) → 0 < nat_abs (first_held (columns times links) C (get_or C i (pos 0)))) → Keeping times C rest n (i + 1)
+  pub keeping_goes : ((links : List ℤ) → (m : ℤ) × (first_held (columns times links) C (get_or C i (pos 0)) ≡ Some m)) → Keeping times C rest n (i + 1)
   keeping_goes h = record {
     behind = omega (arith, K.behind);
     within = omega arith;
     same = K.same;
     split = λ links.
-        let some = held_any (columns times links) C (get_or C i (pos 0)) ∙ found_any (holds_other (columns times links) (get_or C i (pos 0))) C (h links) in
+        let some = held_any (columns times links) C (get_or C i (pos 0)) ∙ found_any (holds_other (columns times links) (get_or C i (pos 0))) C (h links).1 in
         K.split links
         ∙ ap (λ (ls : List ℤ). take n rest ++ ls) (ap (filter (unheld (columns times links) C)) (drop-cons C i (pos 0) lt) ∙ filter_out (unheld (columns times links) C) (get_or C i (pos 0)) (drop (suc i) C) (ap not some) ∙ ap (λ (k : ℕ). filter (unheld (columns times links) C) (drop k C)) (sym (add-one i)));
   }

@@ -1,7 +1,8 @@
 -- Why Sweep's rule drops a clause or takes literals out of it. Document 02, CR 7: "the ends are the two literals the rule names (of several, the earliest in the clause, first end first)"; "literals taken out in clause order".
 -- A chain from p to q shows that p implies q. So the ends are, for a dropped clause, −a and b of two literals a and b of the clause; for a literal l that is taken out, l and another literal of the clause, or −m and −l for another literal m of it.
 -- Assumes nothing: these are definitions.
-use Rattle.std.specs.Prelude.{ℕ, zero, suc, Bool, true, false, not, ◌&&◌, List, [], ◌∷◌, map, length, drop, eqb, ℤ, pos, neg_ℤ, nat_abs}
+use Rattle.std.specs.Prelude.{ℕ, Bool, true, false, not, ◌&&◌, List, [], ◌∷◌, map, length, drop, eqb, ℤ, pos, neg_ℤ, Option, Some, None, unwrap_or}
+use Rattle.std.specs.List.{find}
 use Rattle.literal.specs.Literals.{slot_of, eq_z}
 use Rattle.walk.specs.Walk.{Stamps}
 use Rattle.hidden.specs.Hidden.{holds, transitive, unhidden}
@@ -14,26 +15,17 @@ use Rattle.chains.specs.Chains.{ends}
 
 -- ---- the earliest literal
 
--- the first literal of a list that passes the test; 0, which is no literal, if none does
-unfoldable pub first_of : (ℤ → Bool) → List ℤ → ℤ
-first_of test [] = pos 0
-first_of test (l ∷ ls) = elim (test l) [ true ↦ l | false ↦ first_of test ls ]
-
--- by the literal that was found, or 0
-abbrev pub if_found : ℤ → Ends → Ends → Ends
-if_found found some none = elim (nat_abs found) [ zero ↦ none | suc _ ↦ some ]
-
 -- the interval of l holds that of m, another literal
 unfoldable pub holds_other : Stamps → ℤ → ℤ → Bool
 holds_other σ l m = not (eqb (slot_of m) (slot_of l)) && holds σ (slot_of l) (slot_of m)
 
 -- the first literal of C, other than l, that l holds
-abbrev pub first_held : Stamps → List ℤ → ℤ → ℤ
-first_held σ C l = first_of (holds_other σ l) C
+abbrev pub first_held : Stamps → List ℤ → ℤ → Option ℤ
+first_held σ C l = find (holds_other σ l) C
 
 -- the first literal of C, other than l, whose complement holds that of l
-abbrev pub first_holder : Stamps → List ℤ → ℤ → ℤ
-first_holder σ C l = first_of (λ m. holds_other σ (neg_ℤ m) (neg_ℤ l)) C
+abbrev pub first_holder : Stamps → List ℤ → ℤ → Option ℤ
+first_holder σ C l = find (λ m. holds_other σ (neg_ℤ m) (neg_ℤ l)) C
 
 -- ---- a dropped clause
 
@@ -42,21 +34,25 @@ abbrev pub pair_ends : Stamps → ℤ → ℤ → Ends
 pair_ends σ a b = elim (transitive σ (slot_of (neg_ℤ a)) (slot_of b)) [ true ↦ ends (neg_ℤ a) b | false ↦ ends (neg_ℤ b) a ]
 
 -- the first a of a list whose complement holds a literal of C, and the first such literal. A clause without v and −v has no complement of its literals, so "another" leaves none out here
-unfoldable pub long_ends : Stamps → List ℤ → List ℤ → Ends
-long_ends σ C [] = ends (pos 0) (pos 0)
-long_ends σ C (a ∷ more) = if_found (first_held σ C (neg_ℤ a)) (ends (neg_ℤ a) (first_held σ C (neg_ℤ a))) (long_ends σ C more)
+unfoldable pub long_ends : Stamps → List ℤ → List ℤ → Option Ends
+long_ends σ C [] = None
+long_ends σ C (a ∷ more) = elim (first_held σ C (neg_ℤ a)) [ Some b ↦ Some (ends (neg_ℤ a) b) | None ↦ long_ends σ C more ]
+
+-- what stands for ends, or for a literal, that are not there: a clause that Sweep's rule drops or shortens has them (laws `long_named`, `literal_named`)
+abbrev pub no_ends : Ends
+no_ends = ends (pos 0) (pos 0)
 
 unfoldable pub drop_ends : Stamps → List ℤ → Ends
-drop_ends σ [] = long_ends σ [] []
-drop_ends σ (a ∷ []) = long_ends σ (a ∷ []) (a ∷ [])
+drop_ends σ [] = unwrap_or (long_ends σ [] []) no_ends
+drop_ends σ (a ∷ []) = unwrap_or (long_ends σ (a ∷ []) (a ∷ [])) no_ends
 drop_ends σ (a ∷ b ∷ []) = pair_ends σ a b
-drop_ends σ (a ∷ b ∷ c ∷ ls) = long_ends σ (a ∷ b ∷ c ∷ ls) (a ∷ b ∷ c ∷ ls)
+drop_ends σ (a ∷ b ∷ c ∷ ls) = unwrap_or (long_ends σ (a ∷ b ∷ c ∷ ls) (a ∷ b ∷ c ∷ ls)) no_ends
 
 -- ---- a literal that is taken out
 
 -- by the first rule of figure 5 if l holds another literal of C, else by the second, among `rest`
 abbrev pub ends_in : Stamps → List ℤ → List ℤ → ℤ → Ends
-ends_in σ C rest l = if_found (first_held σ C l) (ends l (first_held σ C l)) (ends (neg_ℤ (first_holder σ rest l)) (neg_ℤ l))
+ends_in σ C rest l = elim (first_held σ C l) [ Some m ↦ ends l m | None ↦ ends (neg_ℤ (unwrap_or (first_holder σ rest l) (pos 0))) (neg_ℤ l) ]
 
 -- the rest is what the first rule leaves of C
 unfoldable pub literal_ends : Stamps → List ℤ → ℤ → Ends

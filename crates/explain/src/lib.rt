@@ -29,42 +29,33 @@ fn holds_other(times: &[u32], l: i32, m: i32) -> bool
 {
     let a = literal::slot_of(l) as u32;
     let b = literal::slot_of(m) as u32;
-    if b == a {
-        return false;
-    }
-    hidden::holds(times, a, b)
+    b != a && hidden::holds(times, a, b)
 }
 
-// The first literal of the part, other than l, that l holds; 0 if there is none.
-fn first_held(part: &[i32], times: &[u32], l: i32) -> i32
+// The first literal of the part, other than l, that l holds.
+fn first_held(part: &[i32], times: &[u32], l: i32) -> Option<i32>
     requires { Timed times.now part.now × Literal 1024 l }
     ensures { (links : List ℤ) → result ≡ first_held (columns times.now links) part.now l }
 {
-    let mut i = 0;
-    while i < part.len() {
-        let m = part[i];
-        i += 1;
+    for &m in part {
         if holds_other(times, l, m) {
-            return m;
+            return Some(m);
         }
     }
-    0
+    None
 }
 
-// The first literal of the part, other than l, whose complement holds that of l; 0 if there is none.
-fn first_holder(part: &[i32], times: &[u32], l: i32) -> i32
+// The first literal of the part, other than l, whose complement holds that of l.
+fn first_holder(part: &[i32], times: &[u32], l: i32) -> Option<i32>
     requires { Timed times.now part.now × Literal 1024 l }
     ensures { (links : List ℤ) → result ≡ first_holder (columns times.now links) part.now l }
 {
-    let mut i = 0;
-    while i < part.len() {
-        let m = part[i];
-        i += 1;
+    for &m in part {
         if holds_other(times, -m, -l) {
-            return m;
+            return Some(m);
         }
     }
-    0
+    None
 }
 
 // ---- the ends of a chain
@@ -83,23 +74,20 @@ fn pair_ends(times: &[u32], links: &[i32], a: i32, b: i32) -> Ends
 }
 
 // The first literal whose complement holds one of the part, and the first that it holds.
-fn long_ends(part: &[i32], times: &[u32]) -> Ends
+fn long_ends(part: &[i32], times: &[u32]) -> Option<Ends>
     requires { Timed times.now part.now }
     ensures { (links : List ℤ) → result ≡ long_ends (columns times.now links) part.now part.now }
 {
-    let mut i = 0;
-    while i < part.len() {
-        let top = -part[i];
-        i += 1;
-        let bottom = first_held(part, times, top);
-        if bottom != 0 {
-            return Ends { top, bottom };
+    for &a in part {
+        let top = -a;
+        if let Some(bottom) = first_held(part, times, top) {
+            return Some(Ends { top, bottom });
         }
     }
-    Ends { top: 0, bottom: 0 }
+    None
 }
 
-// Why the clause is dropped.
+// Why the clause is dropped. Where it is, and has more than two literals, `long_ends` finds its ends.
 fn drop_ends(part: &[i32], times: &[u32], links: &[i32]) -> Ends
     requires { Clause times.now links.now part.now }
     ensures { result ≡ drop_ends (columns times.now links.now) part.now }
@@ -107,25 +95,26 @@ fn drop_ends(part: &[i32], times: &[u32], links: &[i32]) -> Ends
     if part.len() == 2 {
         return pair_ends(times, links, part[0], part[1]);
     }
-    long_ends(part, times)
+    long_ends(part, times).unwrap_or(Ends { top: 0, bottom: 0 })
 }
 
-// Why l is taken out of the part: by the first rule of figure 5 if it holds another literal, else by the second, among `rest`.
+// Why l is taken out of the part: by the first rule of figure 5 if it holds another literal, else by the second, among `rest`. Of a literal that is taken out one of the two finds another.
 fn literal_ends(part: &[i32], rest: &[i32], times: &[u32], l: i32) -> Ends
     requires { Timed times.now part.now × Timed times.now rest.now × Literal 1024 l }
     ensures { (links : List ℤ) → result ≡ ends_in (columns times.now links) part.now rest.now l }
 {
-    let held = first_held(part, times, l);
-    if held != 0 {
-        return Ends {
+    match first_held(part, times, l) {
+        Some(held) => Ends {
             top: l,
             bottom: held,
-        };
-    }
-    let holder = first_holder(rest, times, l);
-    Ends {
-        top: -holder,
-        bottom: -l,
+        },
+        None => {
+            let holder = first_holder(rest, times, l).unwrap_or(0);
+            Ends {
+                top: -holder,
+                bottom: -l,
+            }
+        }
     }
 }
 
@@ -137,11 +126,8 @@ fn keep_first(part: &[i32], times: &[u32], rest: &mut [i32]) -> usize
     ensures { (result ≤ length part.now) × ((links : List ℤ) → take result rest.new ≡ unhidden slot_of (holds (columns times.now links)) part.now) }
 {
     let mut n = 0;
-    let mut i = 0;
-    while i < part.len() {
-        let l = part[i];
-        i += 1;
-        if first_held(part, times, l) == 0 {
+    for &l in part {
+        if first_held(part, times, l).is_none() {
             rest[n] = l;
             n += 1;
         }
@@ -153,20 +139,15 @@ fn keep_first(part: &[i32], times: &[u32], rest: &mut [i32]) -> usize
 fn begins(left: &[i32], j: usize, l: i32) -> bool
     ensures { result ≡ begins l (drop j left.now) }
 {
-    if j >= left.len() {
-        return false;
-    }
-    left[j] == l
+    left.get(j) == Some(&l)
 }
 
 fn put_ends(ends: &mut [i32], k: usize, e: Ends)
     requires { (k < 1024) × (length ends.old ≡ 2048) }
     ensures { ends.new ≡ set (set ends.old (2 * k) e.top) (2 * k + 1) e.bottom }
 {
-    let top = e.top;
-    let bottom = e.bottom;
-    ends[2 * k] = top;
-    ends[2 * k + 1] = bottom;
+    ends[2 * k] = e.top;
+    ends[2 * k + 1] = e.bottom;
 }
 
 // The ends for each literal of the part that is not in `left`, in order; returns how many.
@@ -176,10 +157,7 @@ fn gather_ends(part: &[i32], left: &[i32], rest: &[i32], times: &[u32], ends: &m
 {
     let mut n = 0;
     let mut j = 0;
-    let mut i = 0;
-    while i < part.len() {
-        let l = part[i];
-        i += 1;
+    for &l in part {
         if begins(left, j, l) {
             j += 1;
         } else {
@@ -299,13 +277,7 @@ fn stands(clauses: &[u32], n: u32, number: u32) -> bool
     requires { (n ≤ 4096) × (3 * n ≤ length clauses.now) }
     ensures { result ≡ stands number n clauses.now }
 {
-    if number == 0 {
-        return false;
-    }
-    if number > n {
-        return false;
-    }
-    clauses[3 * number as usize - 1] != 0
+    number != 0 && number <= n && clauses[3 * number as usize - 1] != 0
 }
 
 // A call that refusals 1, 4 and 5 let pass.

@@ -35,7 +35,7 @@ use Rattle.sweep_visits.specs.Clause.{sweep_clause}
 use Rattle.printing.specs.Printing.{digits, clause_text, clauses_text}
 use Rattle.write.specs.Write.{AfterWrite}
 use Rattle.chains.specs.Chains.{climb, chain_of}
-use Rattle.explain.specs.Reasons.{first_of, holds_other, long_ends, drop_ends, literal_ends, left_out}
+use Rattle.explain.specs.Reasons.{holds_other, long_ends, drop_ends, literal_ends, left_out}
 use Rattle.explain.specs.Explain.{stands, explain_call}
 use Rattle.simplify.specs.Texts.{empty_tables}
 
@@ -52,20 +52,20 @@ asked number = explain_call number stamped.tables stamped.state (replicate 10 1)
 -- 0 is no clause; the first stays; (1 3 4) loses 1; (−1 3) and (−1 3 4) are dropped; (5 3 4) loses 5; there is no eighth.
 pub replies : map (λ number. (asked number).reply) (0 ∷ 1 ∷ 3 ∷ 4 ∷ 5 ∷ 7 ∷ 8 ∷ [])
     ≡ reply 0 13 (0 ∷ []) ∷ reply 12 0 (0 ∷ 0 ∷ 0 ∷ []) ∷ reply 12 0 (2 ∷ 1 ∷ 8 ∷ []) ∷ reply 12 0 (1 ∷ 0 ∷ 8 ∷ []) ∷ reply 12 0 (1 ∷ 0 ∷ 8 ∷ []) ∷ reply 12 0 (2 ∷ 1 ∷ 8 ∷ []) ∷ reply 0 13 (0 ∷ []) ∷ []
-unfolding and? or? if? not? so? every? eqᵇ? eqℤ? any filter absent first any_below all_below same_list numbers turned evens odds interleave twin arrive leave edge edges enters start_walk stamp_all outs froms tos reaches connected cyclic literal? holds? times? parent? start? nested? fresh? long? long_ok slots_at slots_from first_unsettled parts? literals? variable? spread? cursor? clauses? shape? shape_ok opening_of words_at header header_rest judge judge_text clauses_of clause_records literal_places variable_records laid load_call holds insert by_discovery scan_at scan figure6 transitive hidden_pair hidden_tautology unhidden shorten first_bad stamps_of stamped_tables stamp_acyclic stamp_settled stamp_ordered stamp_call sweep_clause ℕ_discrete dec_le dec_lt constant_programme programme_of passing? rules? fits? stamped? settled? judgeCodes first_offending offending_place first_of holds_other long_ends drop_ends literal_ends left_out stands explain_call climb chain_of digits clause_text clauses_text
+unfolding and? or? if? not? so? every? eqᵇ? eqℤ? any filter absent first any_below all_below same_list numbers turned evens odds interleave twin arrive leave edge edges enters start_walk stamp_all outs froms tos reaches connected cyclic literal? holds? times? parent? start? nested? fresh? long? long_ok slots_at slots_from first_unsettled parts? literals? variable? spread? cursor? clauses? shape? shape_ok opening_of words_at header header_rest judge judge_text clauses_of clause_records literal_places variable_records laid load_call holds insert by_discovery scan_at scan figure6 transitive hidden_pair hidden_tautology unhidden shorten first_bad stamps_of stamped_tables stamp_acyclic stamp_settled stamp_ordered stamp_call sweep_clause ℕ_discrete dec_le dec_lt constant_programme programme_of passing? rules? fits? stamped? settled? judgeCodes first_offending offending_place holds_other long_ends drop_ends literal_ends left_out stands explain_call climb chain_of digits clause_text clauses_text
 replies = refl
 
 -- (1 3 4): 1 holds 3, by way of 2
 pub shortened_text : (asked 3).out ≡ bytes "1 2 3 0\n" ++ (1 ∷ 1 ∷ [])
-unfolding and? or? if? not? so? every? eqᵇ? eqℤ? any filter absent first any_below all_below same_list numbers turned evens odds interleave twin arrive leave edge edges enters start_walk stamp_all outs froms tos reaches connected cyclic literal? holds? times? parent? start? nested? fresh? long? long_ok slots_at slots_from first_unsettled parts? literals? variable? spread? cursor? clauses? shape? shape_ok opening_of words_at header header_rest judge judge_text clauses_of clause_records literal_places variable_records laid load_call holds insert by_discovery scan_at scan figure6 transitive hidden_pair hidden_tautology unhidden shorten first_bad stamps_of stamped_tables stamp_acyclic stamp_settled stamp_ordered stamp_call sweep_clause ℕ_discrete dec_le dec_lt constant_programme programme_of passing? rules? fits? stamped? settled? judgeCodes first_offending offending_place first_of holds_other long_ends drop_ends literal_ends left_out stands explain_call climb chain_of digits clause_text clauses_text
+unfolding and? or? if? not? so? every? eqᵇ? eqℤ? any filter absent first any_below all_below same_list numbers turned evens odds interleave twin arrive leave edge edges enters start_walk stamp_all outs froms tos reaches connected cyclic literal? holds? times? parent? start? nested? fresh? long? long_ok slots_at slots_from first_unsettled parts? literals? variable? spread? cursor? clauses? shape? shape_ok opening_of words_at header header_rest judge judge_text clauses_of clause_records literal_places variable_records laid load_call holds insert by_discovery scan_at scan figure6 transitive hidden_pair hidden_tautology unhidden shorten first_bad stamps_of stamped_tables stamp_acyclic stamp_settled stamp_ordered stamp_call sweep_clause ℕ_discrete dec_le dec_lt constant_programme programme_of passing? rules? fits? stamped? settled? judgeCodes first_offending offending_place holds_other long_ends drop_ends literal_ends left_out stands explain_call climb chain_of digits clause_text clauses_text
 shortened_text = refl
 
 -- (−1 3): the edge from 1 to 3, and 2 is the parent of 3
 pub pair_text : (asked 4).out ≡ bytes "1 2 3 0\n" ++ (1 ∷ 1 ∷ [])
-unfolding and? or? if? not? so? every? eqᵇ? eqℤ? any filter absent first any_below all_below same_list numbers turned evens odds interleave twin arrive leave edge edges enters start_walk stamp_all outs froms tos reaches connected cyclic literal? holds? times? parent? start? nested? fresh? long? long_ok slots_at slots_from first_unsettled parts? literals? variable? spread? cursor? clauses? shape? shape_ok opening_of words_at header header_rest judge judge_text clauses_of clause_records literal_places variable_records laid load_call holds insert by_discovery scan_at scan figure6 transitive hidden_pair hidden_tautology unhidden shorten first_bad stamps_of stamped_tables stamp_acyclic stamp_settled stamp_ordered stamp_call sweep_clause ℕ_discrete dec_le dec_lt constant_programme programme_of passing? rules? fits? stamped? settled? judgeCodes first_offending offending_place first_of holds_other long_ends drop_ends literal_ends left_out stands explain_call climb chain_of digits clause_text clauses_text
+unfolding and? or? if? not? so? every? eqᵇ? eqℤ? any filter absent first any_below all_below same_list numbers turned evens odds interleave twin arrive leave edge edges enters start_walk stamp_all outs froms tos reaches connected cyclic literal? holds? times? parent? start? nested? fresh? long? long_ok slots_at slots_from first_unsettled parts? literals? variable? spread? cursor? clauses? shape? shape_ok opening_of words_at header header_rest judge judge_text clauses_of clause_records literal_places variable_records laid load_call holds insert by_discovery scan_at scan figure6 transitive hidden_pair hidden_tautology unhidden shorten first_bad stamps_of stamped_tables stamp_acyclic stamp_settled stamp_ordered stamp_call sweep_clause ℕ_discrete dec_le dec_lt constant_programme programme_of passing? rules? fits? stamped? settled? judgeCodes first_offending offending_place holds_other long_ends drop_ends literal_ends left_out stands explain_call climb chain_of digits clause_text clauses_text
 pair_text = refl
 
 -- (5 3 4): 5 holds none, and −3 holds −5
 pub second_text : (asked 7).out ≡ bytes "-3 -5 0\n" ++ (1 ∷ 1 ∷ [])
-unfolding and? or? if? not? so? every? eqᵇ? eqℤ? any filter absent first any_below all_below same_list numbers turned evens odds interleave twin arrive leave edge edges enters start_walk stamp_all outs froms tos reaches connected cyclic literal? holds? times? parent? start? nested? fresh? long? long_ok slots_at slots_from first_unsettled parts? literals? variable? spread? cursor? clauses? shape? shape_ok opening_of words_at header header_rest judge judge_text clauses_of clause_records literal_places variable_records laid load_call holds insert by_discovery scan_at scan figure6 transitive hidden_pair hidden_tautology unhidden shorten first_bad stamps_of stamped_tables stamp_acyclic stamp_settled stamp_ordered stamp_call sweep_clause ℕ_discrete dec_le dec_lt constant_programme programme_of passing? rules? fits? stamped? settled? judgeCodes first_offending offending_place first_of holds_other long_ends drop_ends literal_ends left_out stands explain_call climb chain_of digits clause_text clauses_text
+unfolding and? or? if? not? so? every? eqᵇ? eqℤ? any filter absent first any_below all_below same_list numbers turned evens odds interleave twin arrive leave edge edges enters start_walk stamp_all outs froms tos reaches connected cyclic literal? holds? times? parent? start? nested? fresh? long? long_ok slots_at slots_from first_unsettled parts? literals? variable? spread? cursor? clauses? shape? shape_ok opening_of words_at header header_rest judge judge_text clauses_of clause_records literal_places variable_records laid load_call holds insert by_discovery scan_at scan figure6 transitive hidden_pair hidden_tautology unhidden shorten first_bad stamps_of stamped_tables stamp_acyclic stamp_settled stamp_ordered stamp_call sweep_clause ℕ_discrete dec_le dec_lt constant_programme programme_of passing? rules? fits? stamped? settled? judgeCodes first_offending offending_place holds_other long_ends drop_ends literal_ends left_out stands explain_call climb chain_of digits clause_text clauses_text
 second_text = refl
