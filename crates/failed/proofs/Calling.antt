@@ -2,14 +2,13 @@
 use Prim.Native.Nat.{◌*◌}
 use native.Mathlib.Omega.{arith}
 use mathlib.Core.Path.{◌≡◌, sym, ap, subst}
-use mathlib.Core.Bool.{Bool, true, false}
+use mathlib.Core.Bool.{true, false}
 use mathlib.Core.List.{List}
 use lib.IntN.{ℤ}
 use Rattle.std.specs.Prelude.{Result, Ok, Err}
 use Rattle.stamp_columns.specs.Columns.{columns}
 use Rattle.state.specs.declared.State.{State}
 use Rattle.state.specs.declared.Refusal.{Refusal}
-use Rattle.state.specs.declared.Refusal.TheVariants.{Stale}
 use Rattle.state.specs.declared.Answer.TheVariants.{Failed}
 use Rattle.tables.specs.Tables.{Tables, with_variables}
 use Rattle.tables.specs.Calls.{answered, refuse}
@@ -39,17 +38,9 @@ module _ (t : Tables) (st : State) (r : Tally) (vs : List ℤ) (is : found_of r 
   pub found_rows : FullStamps st.v t.times t.links → Variables st.v t.variables → Variables st.v vs
   found_rows S R = subst (Variables st.v) (sym (ap (λ (f : Found). f.variables) is)) (failed_kept S st.v 0 (omega arith) (found t.variables 0 false) R).rows
 
--- ---- fresh or not
+-- ---- the two ways of the call
 
 module _ (t : Tables) (st : State) where
-  pub fresh_runs : st.fresh ≡ true → failed_fresh t st ≡ failed_unless_stale st.fresh t st
-  fresh_runs e = ap (λ (b : Bool). failed_unless_stale b t st) (sym e)
-
-  pub stale_refused : st.fresh ≡ false → refuse Stale st t ≡ failed_unless_stale st.fresh t st
-  stale_refused e = ap (λ (b : Bool). failed_unless_stale b t st) (sym e)
-
-  -- ---- the two ways of the call
-
   pub call_refused : (r : Refusal) → opening_of t st ≡ Err r → refuse r st t ≡ failed_call t st
   unfolding failed_call
   call_refused r e = ap (λ (x : Result (Unit {0}) Refusal). failed_by x t st) (sym e)

@@ -1,4 +1,4 @@
--- One literal and one variable, by the code's tests; and the loop over the variables: what is left from here gives what the whole gives. Assumes nothing.
+-- One variable, by the code's tests; and the loop over the variables: what is left from here gives what the whole gives. Assumes nothing.
 use Prim.Native.Nat.{ℕ, zero, suc, ◌+◌, ◌*◌, ◌-◌, ◌≤◌, ◌<◌}
 use native.Mathlib.Numerals.{add-one}
 use native.Mathlib.Omega.{arith}
@@ -12,31 +12,12 @@ use Rattle.literal.proofs.Twins.{twin_below}
 use Rattle.walk.specs.Walk.{Stamps}
 use Rattle.stamp_columns.specs.Columns.{columns}
 use Rattle.hidden.specs.Failed.{same_start, failed_slot}
-use Rattle.tables.specs.Values.{is_true, is_false, set_true}
 use Rattle.visits.specs.Formed.{Variables, Known}
 use Rattle.failed.specs.Failed.{Found, found, assert, failed_at, failed_from}
 use Rattle.failed.specs.Steps.{found_of, Rooted, FullStamps, Shared, Failable}
 use Rattle.failed.specs.declared.Tally.{Tally}
 use Rattle.failed.proofs.Climbing.{stamped_rooted, failed_below, slot_ranged}
 use Rattle.failed.proofs.Valuing.{Kept, kept_at, at_most}
-
--- ---- one literal
-
-abbrev assert_by : Bool → Bool → ℤ → List ℤ → ℕ → Found
-assert_by a b l vs n = elim a [ true ↦ found vs n false | false ↦ elim b [ true ↦ found vs n true | false ↦ found (set_true vs l) (suc n) false ] ]
-
-module _ (l : ℤ) (vs : List ℤ) (n : ℕ) where
-  asserted : {a b : Bool} → a ≡ is_true vs l → b ≡ is_false vs l → assert_by a b l vs n ≡ assert l vs n
-  asserted {a} {b} p q = ap (λ (x : Bool). assert_by x b l vs n) p ∙ ap (λ (x : Bool). assert_by (is_true vs l) x l vs n) q
-
-  pub assert_already : is_true vs l ≡ true → found vs n false ≡ assert l vs n
-  assert_already p = asserted (sym p) refl
-
-  pub assert_opposite : is_true vs l ≡ false → is_false vs l ≡ true → found vs n true ≡ assert l vs n
-  assert_opposite p q = asserted (sym p) (sym q)
-
-  pub assert_set : is_true vs l ≡ false → is_false vs l ≡ false → (vs' : List ℤ) → vs' ≡ set_true vs l → found vs' (n + 1) false ≡ assert l vs n
-  assert_set p q vs' e = ap (λ (x : List ℤ). found x (n + 1) false) e ∙ ap (λ (k : ℕ). found (set_true vs l) k false) (add-one n) ∙ asserted (sym p) (sym q)
 
 -- ---- one variable
 
@@ -107,26 +88,11 @@ pub record Failing (v : ℕ) (times : List ℕ) (links : List ℤ) (vs₀ vs : L
   pub set : n ≤ w
   pub left : failed_from (columns times links) (2 * v) v 0 (found vs₀ 0 false) ≡ failed_from (columns times links) (2 * v) (v - w) w (found vs n false)
 
-pub failing_none : {v : ℕ} {times : List ℕ} {links : List ℤ} {vs : List ℤ} → FullStamps v times links → Variables v vs → Failing v times links vs vs 0 0
-failing_none {v} {times} {links} {vs} S R = record {
-  stamped = S;
-  rows = R;
-  size = refl;
-  set = omega arith;
-  left = ap (λ (m : ℕ). failed_from (columns times links) (2 * v) m 0 (found vs 0 false)) (let e : v ≡ v - 0 = omega arith in e);
-}
-
 module _ {v : ℕ} {times : List ℕ} {links vs₀ vs : List ℤ} {w n : ℕ} (F : Failing v times links vs₀ vs w n) where
   pub failing_done : v ≤ w → found vs n false ≡ failed_from (columns times links) (2 * v) v 0 (found vs₀ 0 false)
   failing_done le = sym (F.left ∙ from_none (columns times links) (2 * v) v w (found vs n false) le)
 
   module _ (lt : w < v) where
-    pub failing_able : Failable vs times links w
-    failing_able = record { count = v; stamped = F.stamped; rows = F.rows; below = lt }
-
-    pub failing_few : n ≤ 1024
-    failing_few = omega (arith, F.set, F.stamped.few)
-
     module _ (r : Tally) (vs' : List ℤ) (ensured : (u : ℕ) → FullStamps u times links → w < u → found_of r vs' ≡ failed_at (columns times links) (2 * u) w vs n) where
       at_is : found_of r vs' ≡ failed_at (columns times links) (2 * v) w vs n
       at_is = ensured v F.stamped lt
@@ -135,8 +101,8 @@ module _ {v : ℕ} {times : List ℕ} {links vs₀ vs : List ℤ} {w n : ℕ} (F
       onward = F.left ∙ from_step (columns times links) (2 * v) v w vs n lt ∙ ap (failed_from (columns times links) (2 * v) (v - (w + 1)) (w + 1)) (sym at_is)
 
       -- the opposite value ends it
-      pub failing_ends : r.opposite ≡ true → found vs' r.set true ≡ failed_from (columns times links) (2 * v) v 0 (found vs₀ 0 false)
-      failing_ends o = ap (found vs' r.set) (sym o) ∙ sym (onward ∙ from_opposite (columns times links) (2 * v) (v - (w + 1)) (w + 1) (found_of r vs') o)
+      pub failing_ends : r.opposite ≡ true → found_of r vs' ≡ failed_from (columns times links) (2 * v) v 0 (found vs₀ 0 false)
+      failing_ends o = sym (onward ∙ from_opposite (columns times links) (2 * v) (v - (w + 1)) (w + 1) (found_of r vs') o)
 
       pub failing_goes : r.opposite ≡ false → Failing v times links vs₀ vs' (w + 1) r.set
       failing_goes o = record {

@@ -33,8 +33,7 @@ fn same_start(links: &[i32], s: u32) -> bool
     requires { Rooted links.now s × Rooted links.now (twin s) }
     ensures { (times : List ℕ) → result ≡ same_start (columns times links.now) s }
 {
-    let t = literal::twin_of(s);
-    start_of(links, s) == start_of(links, t)
+    start_of(links, s) == start_of(links, literal::twin_of(s))
 }
 
 // The slot that has failed, where the literal of slot s and its complement have the same start: the first from s along the parents that holds the complement too.
@@ -57,21 +56,21 @@ fn assert_true(variables: &mut [i32], l: i32, n: u32) -> Tally
     ensures { found_of result variables.new ≡ assert l variables.old n }
 {
     if visits::is_true(variables, l) {
-        return Tally {
+        Tally {
             set: n,
             opposite: false,
-        };
-    }
-    if visits::is_false(variables, l) {
-        return Tally {
+        }
+    } else if visits::is_false(variables, l) {
+        Tally {
             set: n,
             opposite: true,
-        };
-    }
-    visits::set_true(variables, l);
-    Tally {
-        set: n + 1,
-        opposite: false,
+        }
+    } else {
+        visits::set_true(variables, l);
+        Tally {
+            set: n + 1,
+            opposite: false,
+        }
     }
 }
 
@@ -99,18 +98,13 @@ fn fail_from(variables: &mut [i32], times: &[u32], links: &[i32], v: u32) -> Tal
     requires { FullStamps v times.now links.now × Variables v variables.old }
     ensures { found_of result variables.new ≡ failed_from (columns times.now links.now) (2 * v) v 0 (found variables.old 0 false) }
 {
-    let mut w: u32 = 0;
-    let mut set: u32 = 0;
-    while w < v {
+    let mut set = 0;
+    for w in 0..v {
         let t = fail_variable(variables, times, links, w, set);
-        w += 1;
-        set = t.set;
         if t.opposite {
-            return Tally {
-                set,
-                opposite: true,
-            };
+            return t;
         }
+        set = t.set;
     }
     Tally {
         set,
@@ -123,9 +117,10 @@ fn state_after(st: State, opposite: bool) -> State
     ensures { result ≡ state_after opposite st }
 {
     if opposite {
-        return st.marked();
+        st.marked()
+    } else {
+        st.closed(true)
     }
-    st.closed(true)
 }
 
 // The call on fresh stamps, for every content of the clause and literal tables, which it does not read. Values are set at class literals, and then every variable gets its own.
@@ -151,11 +146,12 @@ pub fn unless_stale(variables: &mut [i32], times: &[u32], links: &[i32], st: Sta
         ≡ failed_unless_stale st.fresh (lent clauses literals variables.old times.now links.now) st }
 {
     if st.fresh {
-        return failed_fresh(variables, times, links, st);
-    }
-    Outcome {
-        answer: Answer::Refused(Refusal::Stale),
-        state: st,
+        failed_fresh(variables, times, links, st)
+    } else {
+        Outcome {
+            answer: Answer::Refused(Refusal::Stale),
+            state: st,
+        }
     }
 }
 

@@ -1,17 +1,11 @@
 -- `failed::climb` meets its contract. Assumes nothing.
 use native.Mathlib.Omega.{arith}
 use mathlib.Core.Path.{sym, ◌∙◌}
-use borrow.Author.Tests.{not-true, not-false}
 use Rattle.walk.specs.Forest.{discovery_at}
 use Rattle.stamp_columns.specs.Columns.{columns}
 use Rattle.failed.proofs.Climbing.{Climbing, climbing_none, climbing_timed, climbing_twin, climbing_child, Onward, climbing_on, climbing_ends}
 use Rattle.failed.proofs.climb.Statement.{statement}
 use Rattle.failed.proofs.climb.Tie as tie
-use Rattle.failed.proofs.climb.Reads as reads
-use Rattle.failed.proofs.climb.Lts as lts
-use Rattle.hidden.proofs.holds.Reads as holds-reads
-use Rattle.stamp_columns.proofs.parent.Reads as parent-reads
-use Rattle.literal.proofs.twin_of.Reads as twin-of-reads
 
 abbrev invariant-loop : tie.invariant-loop-x
 invariant-loop times links s t x₀ x = Climbing times links s t x

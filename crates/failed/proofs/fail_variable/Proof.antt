@@ -9,7 +9,6 @@ use mir.Facts.{to_z-of_z}
 use lib.IntN.{ℤ}
 use Rattle.literal.specs.Literals.{lit_at, twin}
 use borrow.Author.Rules.{sfits_of, rules}
-use borrow.Author.Tests.{not-true, not-false}
 use Rattle.stamp_columns.specs.Columns.{columns}
 use Rattle.hidden.specs.Failed.{same_start}
 use Rattle.failed.specs.Failed.{assert}
@@ -17,13 +16,6 @@ use Rattle.failed.proofs.Failing.{able_rooted, able_twin, able_shared, failed_sm
 use borrow.Author.Rules.{rules}
 use Rattle.failed.proofs.fail_variable.Statement.{statement}
 use Rattle.failed.proofs.fail_variable.Tie as tie
-use Rattle.failed.proofs.fail_variable.Reads as reads
-use Rattle.failed.proofs.fail_variable.Lts as lts
-use Rattle.failed.proofs.assert_true.Reads as assert-true-reads
-use Rattle.failed.proofs.climb.Reads as climb-reads
-use Rattle.failed.proofs.same_start.Reads as same-start-reads
-use Rattle.literal.proofs.lit_at.Reads as lit-at-reads
-use Rattle.literal.proofs.twin_of.Reads as twin-of-reads
 
 -- the two literals have the same start
 same : (c : tie.Else-not-same_start) → same_start (columns c.args.times.now c.args.links.now) (2 * c.args.w) ≡ true

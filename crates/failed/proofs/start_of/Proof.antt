@@ -11,9 +11,6 @@ use Rattle.stamp_columns.proofs.Columns.{column_starts}
 use borrow.Author.Rules.{rules}
 use Rattle.failed.proofs.start_of.Statement.{statement}
 use Rattle.failed.proofs.start_of.Tie as tie
-use Rattle.failed.proofs.start_of.Reads as reads
-use Rattle.failed.proofs.start_of.Lts as lts
-use Rattle.literal.proofs.slot_of.Reads as slot-of-reads
 
 -- the call's result, of the literal that was read
 slot : (c : tie.After-slot_of) → c.slot_of.result ≡ slot_of (start_in c.args.links.now c.args.s)
