@@ -22,13 +22,11 @@ fn regroup(variables: &mut [i32], rep: &[u32], v: usize)
     requires { Regroups v rep.now variables.old }
     ensures { variables.new ≡ regrouped (through rep.now) v variables.old }
 {
-    let mut w = 0;
-    while w < v {
+    for w in 0..v {
         let at = 2 * w;
         let slot = literal::slot_of(variables[at]);
         let least = rep[slot] as usize;
         variables[at] = literal::lit_at(least);
-        w += 1;
     }
 }
 
@@ -89,7 +87,7 @@ fn merge_from(
         ≡ merge_from fresh steps cursor (lent clauses.old literals.old variables.now times links) st }
 {
     let n = st.n;
-    let visits = visits::fewer(steps, n - cursor);
+    let visits = steps.min(n - cursor);
     let end = cursor + visits;
     let before = visits::count_standing(clauses, n as usize);
     merge_visits::visit_some(clauses, literals, variables, cursor, end);
