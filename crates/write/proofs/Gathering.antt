@@ -138,12 +138,11 @@ module _ {f : ℕ → List (List ℤ)} {n at : ℕ} {out₀ : List ℕ} {i next 
   text_cons : i < n → clauses_text (gathered f (n - i) i) ≡ clauses_text (f i) ++ clauses_text (gathered f (n - (i + 1)) (i + 1))
   text_cons h = ap clauses_text (gathered_cons f n i h) ∙ text_append (f i) (gathered f (n - (i + 1)) (i + 1))
 
-  pub putting_room : i < n → {cs : List (List ℤ)} → f i ≡ cs → at + length (clauses_text (gathered f n 0)) < 2 ^ 63 → next + length (clauses_text cs) < 2 ^ 63
-  putting_room h {cs} e k =
-      omega (arith, p.size, ap length (text_cons h), length-append (clauses_text (f i)) (clauses_text (gathered f (n - (i + 1)) (i + 1))), ap (λ (ds : List (List ℤ)). length (clauses_text ds)) e)
+  pub putting_room : i < n → at + length (clauses_text (gathered f n 0)) < 2 ^ 63 → next + length (clauses_text (f i)) < 2 ^ 63
+  putting_room h k = omega (arith, p.size, ap length (text_cons h), length-append (clauses_text (f i)) (clauses_text (gathered f (n - (i + 1)) (i + 1))))
 
-  putting_one : {next₁ : ℕ} {out₁ : List ℕ} → i < n → Stored (clauses_text (f i)) next out out₁ next₁ → Putting f n at out₀ (i + 1) next₁ out₁
-  putting_one {next₁} {out₁} h s =
+  pub putting_step : {next₁ : ℕ} {out₁ : List ℕ} → i < n → Stored (clauses_text (f i)) next out out₁ next₁ → Putting f n at out₀ (i + 1) next₁ out₁
+  putting_step {next₁} {out₁} h s =
       let rest : List ℕ = clauses_text (gathered f (n - (i + 1)) (i + 1)) in
       record {
         left = (λ j. sets (s.stored j) (s.next j) rest) ∙ sym (sets_append out next (clauses_text (f i)) rest) ∙ ap (sets out next) (sym (text_cons h)) ∙ p.left;
@@ -151,10 +150,13 @@ module _ {f : ℕ → List (List ℤ)} {n at : ℕ} {out₀ : List ℕ} {i next 
         same = ap length s.stored ∙ length-sets out next (clauses_text (f i)) ∙ p.same;
       }
 
-  -- record i's clauses are cs, and j is the next record
-  pub putting_step : i < n → {cs : List (List ℤ)} → f i ≡ cs → {j : ℕ} → j ≡ i + 1 → {next₁ : ℕ} {out₁ : List ℕ} → Stored (clauses_text cs) next out out₁ next₁ → Putting f n at out₀ j next₁ out₁
-  putting_step h {cs} e {j} q {next₁} {out₁} s =
-      subst (λ (k : ℕ). Putting f n at out₀ k next₁ out₁) (sym q) (putting_one h (subst (λ (ds : List (List ℤ)). Stored (clauses_text ds) next out out₁ next₁) (sym e) s))
+  -- the same where record i's clauses are cs, and j is the next record
+  pub putting_room_as : {cs : List (List ℤ)} → f i ≡ cs → i < n → at + length (clauses_text (gathered f n 0)) < 2 ^ 63 → next + length (clauses_text cs) < 2 ^ 63
+  putting_room_as e h k = subst (λ (ds : List (List ℤ)). next + length (clauses_text ds) < 2 ^ 63) e (putting_room h k)
+
+  pub putting_step_as : {cs : List (List ℤ)} → f i ≡ cs → {j : ℕ} → j ≡ i + 1 → {next₁ : ℕ} {out₁ : List ℕ} → i < n → Stored (clauses_text cs) next out out₁ next₁ → Putting f n at out₀ j next₁ out₁
+  putting_step_as {cs} e {j} q {next₁} {out₁} h s =
+      subst (λ (k : ℕ). Putting f n at out₀ k next₁ out₁) (sym q) (putting_step h (subst (λ (ds : List (List ℤ)). Stored (clauses_text ds) next out out₁ next₁) (sym e) s))
 
   pub putting_end : n ≤ i → Stored (clauses_text (gathered f n 0)) at out₀ out next
   unfolding clauses_text

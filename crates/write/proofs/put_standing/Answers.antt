@@ -1,4 +1,3 @@
-use Rattle.std.proofs.Common.{refl}
 use Rattle.tables.specs.Tables.{start_of, length_of}
 use Rattle.write.proofs.Records.{part_small}
 use Rattle.write.proofs.Gathering.{putting_room, putting_step, putting_end}
@@ -12,11 +11,11 @@ put_if_standing-next-requires c =
       tables.parts.inside i h,
       tables.places,
       part_small c.args.literals.now (length_of c.args.clauses.now i) (start_of c.args.clauses.now i) (tables.ranged i h),
-      putting_room c.loop-i.invariant h refl c.requires.1,
+      putting_room c.loop-i.invariant h c.requires.1,
     )
 
 pub loop-i-preserved : goal.loop-i-preserved
-loop-i-preserved c = putting_step c.loop-i.invariant c.loop-i-test.true refl refl c.put_if_standing-next.ensures
+loop-i-preserved c = putting_step c.loop-i.invariant c.loop-i-test.true c.put_if_standing-next.ensures
 
 pub returns : goal.returns
 returns c = putting_end c.loop-i.invariant c.loop-i-test.false
