@@ -35,13 +35,14 @@ fn unless_marked(mark: bool, entry: Entry) -> Result<Entry, Refusal>
 fn entry_by(own: PassName, pass: Pass, mark: bool) -> Result<Entry, Refusal>
     ensures { result ≡ entry_by own pass mark }
 {
-    match (own, pass) {
-        (_, Pass::Idle) => unless_marked(mark, Entry::Opens),
-        (PassName::Propagate, Pass::Propagate(k, changed)) => unless_marked(mark, Entry::Resumes(k, changed)),
-        (PassName::Merge, Pass::Merge(k)) => unless_marked(mark, Entry::Resumes(k, false)),
-        (PassName::Sweep, Pass::Sweep(k)) => unless_marked(mark, Entry::Resumes(k, false)),
-        _ => Err(Refusal::OtherPass),
-    }
+    let entry = match (own, pass) {
+        (_, Pass::Idle) => Entry::Opens,
+        (PassName::Propagate, Pass::Propagate(k, changed)) => Entry::Resumes(k, changed),
+        (PassName::Merge, Pass::Merge(k)) => Entry::Resumes(k, false),
+        (PassName::Sweep, Pass::Sweep(k)) => Entry::Resumes(k, false),
+        _ => return Err(Refusal::OtherPass),
+    };
+    unless_marked(mark, entry)
 }
 
 // The topmost of refusals 1, 4 and 5 that applies, or whether the call opens its pass or resumes it.

@@ -179,8 +179,6 @@ pub fn learn(
     }
     match entry::opening_by(st.pass, st.mark) {
         Err(refusal) => refused(refusal, st, window),
-        Ok(()) => learn_entered(
-            variables, times, links, st, newcomer, sizes, learnt, window,
-        ),
+        Ok(()) => learn_entered(variables, times, links, st, newcomer, sizes, learnt, window),
     }
 }
