@@ -1,6 +1,6 @@
 -- The test of the edges: some edge does not go forward exactly where `forward` says no.
 -- Assumes nothing.
-use Rattle.std.proofs.Common.{◌≡◌, ℕ, ◌<◌, ◌≤◌, Bool, false, not, ◌||◌, leb, List, [], ◌∷◌, get_or, refl, sym, ap, ◌∙◌, arith}
+use Rattle.std.proofs.Common.{◌≡◌, length, ℕ, ◌<◌, ◌≤◌, Bool, false, not, ◌||◌, leb, List, [], ◌∷◌, get_or, refl, sym, ap, ◌∙◌, arith}
 use Rattle.std.specs.List.{list_any}
 use mathlib.Core.Logic.{⊎_elim}
 use borrow.Author.Tests.{lt-ltb, le-ltb, le-leb, lt-leb}
@@ -9,10 +9,22 @@ use Rattle.walk.specs.declared.SlotStamp.{SlotStamp}
 use Rattle.walk.specs.Walk.{Stamps}
 use Rattle.walk.specs.Compressed.{stamps}
 use Rattle.walk.specs.Slots.{finishes_of}
-use Rattle.walk.proofs.Columns.{blank_stamp, finish_at}
+use Rattle.walk.proofs.Columns.{blank_stamp, finish_at, finishes_long}
 use Rattle.implications.specs.declared.Edge.{Edge}
 use Rattle.implications.specs.EdgeList.{froms_of, tos_of}
+use Rattle.implications.proofs.EdgeLists.{many_froms, from_at, to_at}
 use Rattle.scc.specs.Forward.{forward}
+use Rattle.stamp_walk.specs.Stamping.{Finished}
+
+-- the ends of an edge have a stamp
+abbrev pub edge_at : List Edge → ℕ → Edge
+edge_at es i = get_or es i (record { from = 0; to = 0 })
+
+pub tail_in : (es : List Edge) (l : List SlotStamp) (i : ℕ) → Finished (froms_of es) (tos_of es) (finishes_of l) → i < length es → (edge_at es i).from < length l
+tail_in es l i F lt = omega (arith, F.tails i (omega (arith, many_froms es)), from_at es i, finishes_long l)
+
+pub head_in : (es : List Edge) (l : List SlotStamp) (i : ℕ) → Finished (froms_of es) (tos_of es) (finishes_of l) → i < length es → (edge_at es i).to < length l
+head_in es l i F lt = omega (arith, F.heads i (omega (arith, many_froms es)), to_at es i, finishes_long l)
 
 -- when a slot is finished
 abbrev pub finish_of : List SlotStamp → ℕ → ℕ

@@ -1,5 +1,4 @@
 pub mod Backward
-pub mod Stamps
 pub mod Copying
 pub mod Walking
 pub mod Graphing

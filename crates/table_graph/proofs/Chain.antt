@@ -4,11 +4,12 @@ use Prim.Native.Nat.{ℕ, ◌+◌, ◌*◌, ◌<◌}
 use native.Mathlib.Omega.{arith}
 use mathlib.Core.Path.{◌≡◌, sym, ap, subst, ◌∙◌}
 use mathlib.Core.List.{List, Memᴰ}
-use lib.ListN.{length, take, length-map}
+use lib.ListN.{length, take}
 use lib.IntN.{ℤ}
 use Rattle.walk.specs.Compressed.{adj_of, Graph}
 use Rattle.walk.specs.declared.SlotStamp.{SlotStamp}
 use Rattle.walk.specs.Slots.{discoveries_of, finishes_of, parents_of, starts_of}
+use Rattle.walk.proofs.Columns.{discoveries_long, finishes_long, parents_long, starts_long}
 use Rattle.walk.specs.Forest.{Reach, here, on}
 use Rattle.literal.specs.Literals.{twin}
 use Rattle.implications.specs.Skew.{Skew}
@@ -84,10 +85,10 @@ module _ {v n : ℕ} {cs : List ℕ} {ls : List ℤ} (L : ClausesInside v n cs l
 pub own_scratch : (v : ℕ) (l : List SlotStamp) (order rep : List ℕ) → length l ≡ 2 * v → length order ≡ 2 * v → length rep ≡ 2 * v
     → SlotColumns v (discoveries_of l) (finishes_of l) (parents_of l) (starts_of l) order rep
 own_scratch v l order rep many orders reps = record {
-  discs = length-map l (λ (x : SlotStamp). x.discovery) ∙ many;
-  fins = length-map l (λ (x : SlotStamp). x.finish) ∙ many;
-  pars = length-map l (λ (x : SlotStamp). x.parent) ∙ many;
-  starts = length-map l (λ (x : SlotStamp). x.start) ∙ many;
+  discs = discoveries_long l ∙ many;
+  fins = finishes_long l ∙ many;
+  pars = parents_long l ∙ many;
+  starts = starts_long l ∙ many;
   orders = orders;
   reps = reps;
 }

@@ -4,8 +4,7 @@ use Rattle.std.proofs.lemmas.Iterator.Adapters.{serves_from_places}
 use Rattle.std.proofs.lemmas.Iterator.Search.{any_from_yields_List}
 use Rattle.std.proofs.lemmas.List.{get_or_default}
 use Rattle.implications.specs.declared.Edge.{Edge}
-use Rattle.stamp_walk.proofs.Backward.{backward, any_backward_is}
-use Rattle.stamp_walk.proofs.Stamps.{tail_in, head_in}
+use Rattle.stamp_walk.proofs.Backward.{tail_in, head_in, backward, any_backward_is}
 use Rattle.stamp_walk.proofs.any_backward.Goals as goal
 
 pub any-requires-clause-callable : goal.any-requires-clause-callable

@@ -5,9 +5,8 @@ use Rattle.base.specs.Lists.{interleave}
 use Rattle.literal.specs.Literals.{lit_at}
 use Rattle.literal.proofs.Laws.{lit_stored}
 use Rattle.walk.specs.Slots.{parents_of, starts_of}
-use Rattle.walk.proofs.Columns.{blank_stamp, start_at}
+use Rattle.walk.proofs.Columns.{parents_long, starts_long, parent_at, blank_stamp, start_at}
 use Rattle.stamp_walk.proofs.Copying.{copying_as, copying_done}
-use Rattle.stamp_walk.proofs.Stamps.{many_parents, many_starts, parent_at}
 use Rattle.stamp_walk.proofs.copy_links.Goals as goal
 
 pub lit_at-requires : goal.lit_at-requires
@@ -28,13 +27,13 @@ loop-s-preserved c =
     copying_as (map lit_at P) (map lit_at S) c.args.links.now c.loop-s.links s (lit_at 0) (lit_at 0) _ _
     (lit_stored (get_or l s blank_stamp).parent _ (omega (arith, few.0, parent_at l s)) c.lit_at.ensures ∙ ap lit_at (sym (parent_at l s)) ∙ sym (get_or-map lit_at P s 0))
     (lit_stored (get_or l s blank_stamp).start _ (omega (arith, few.1, start_at l s)) c.lit_at-in-loop-s.ensures ∙ ap lit_at (sym (start_at l s)) ∙ sym (get_or-map lit_at S s 0))
-    (omega (arith, many_parents l)) (omega (arith, many_parents l, many_starts l)) c.loop-s.invariant
+    (omega (arith, parents_long l)) (omega (arith, parents_long l, starts_long l)) c.loop-s.invariant
 
 pub returns : goal.returns
 returns c =
     let l = c.args.stamps.now in
     let P = parents_of l in
     let S = starts_of l in
-    let many : length (map lit_at P) ≡ length l = length-map P lit_at ∙ many_parents l in
-    copying_done (map lit_at P) (map lit_at S) c.args.links.now c.loop-s.links c.loop-s.s (omega arith) (omega (arith, length-map S lit_at, many_starts l)) (omega arith) c.loop-s.invariant
+    let many : length (map lit_at P) ≡ length l = length-map P lit_at ∙ parents_long l in
+    copying_done (map lit_at P) (map lit_at S) c.args.links.now c.loop-s.links c.loop-s.s (omega arith) (omega (arith, length-map S lit_at, starts_long l)) (omega arith) c.loop-s.invariant
     ∙ ap (λ (k : ℕ). interleave (map lit_at P) (map lit_at S) ++ drop (2 * k) c.args.links.now) many

@@ -8,6 +8,7 @@ use Rattle.walk.specs.declared.SlotStamp.{SlotStamp}
 use Rattle.walk.specs.Walk.{stamp_all}
 use Rattle.walk.specs.Compressed.{stamps}
 use Rattle.walk.specs.Slots.{discoveries_of, finishes_of, parents_of, starts_of}
+use Rattle.walk.proofs.Columns.{discoveries_long, finishes_long}
 use Rattle.implications.specs.declared.Edge.{Edge}
 use Rattle.implications.specs.Edges.{outs}
 use Rattle.implications.specs.EdgeList.{froms_of, tos_of}
@@ -19,7 +20,6 @@ use Rattle.tables.specs.Clauses.{slots_from}
 use Rattle.table_graph.specs.Pairs.{EdgeRoom}
 use Rattle.table_graph.proofs.Listing.{listed_wider, listed_in, as_listed, as_clauses}
 use Rattle.stamp_walk.specs.Stamping.{ColumnsHold, Columned, WalkableEdges, Finished, Proper, Ordered, WalkRoom, WalkLeaves}
-use Rattle.stamp_walk.proofs.Stamps.{many_discoveries, many_finishes}
 use Rattle.stamp_walk.proofs.Graphing.{own_scratch, room, walkable, finished, cyclic_is}
 use Rattle.stamp_walk.proofs.stamp_columns.Goals as goal
 
@@ -43,7 +43,7 @@ module _ {v n : ℕ} {cs : List ℕ} {ls : List ℤ} (P : Proper v n cs ls) {ord
 
   module _ (l : List SlotStamp) (C : Columned (2 * v) (discoveries_of l) (finishes_of l) (parents_of l) (starts_of l)) where
     size : length l ≡ 2 * v
-    size = sym (many_discoveries l) ∙ C.discs
+    size = sym (discoveries_long l) ∙ C.discs
 
     walks : WalkableEdges (length l) (froms_of (take k es)) (tos_of (take k es)) order (take (2 * v + 1) (replicate 2049 0)) (replicate 8192 0) (take (2 * v) (replicate 2048 false)) (replicate 2048 0)
     walks =
@@ -53,7 +53,7 @@ module _ {v n : ℕ} {cs : List ℕ} {ls : List ℤ} (P : Proper v n cs ls) {ord
     -- and the slots are stamped
     module _ (l' : List SlotStamp) (len : length l' ≡ length l) where
       finishing : Finished (froms_of (take k es)) (tos_of (take k es)) (finishes_of l')
-      finishing = as_listed es₀ spacious k es W (λ f t. Finished f t (finishes_of l')) (finished P A (scratch P) (finishes_of l') (many_finishes l' ∙ len ∙ size))
+      finishing = as_listed es₀ spacious k es W (λ f t. Finished f t (finishes_of l')) (finished P A (scratch P) (finishes_of l') (finishes_long l' ∙ len ∙ size))
 
       leaves : (r : Bool)
           → ColumnsHold (stamp_all (outs (froms_of (take k es)) (tos_of (take k es))) (λ q. absent q (tos_of (take k es))) order (blank (length l) (finishes_of l) (parents_of l) (starts_of l))) (discoveries_of l') (finishes_of l') (parents_of l') (starts_of l')
@@ -64,7 +64,7 @@ module _ {v n : ℕ} {cs : List ℕ} {ls : List ℤ} (P : Proper v n cs ls) {ord
           as_clauses es₀ spacious k es W (λ f t. ColumnsHold (stamp_all (outs f t) (λ q. absent q t) order (blank (2 * v) (finishes_of l) (parents_of l) (starts_of l))) (discoveries_of l') (finishes_of l') (parents_of l') (starts_of l'))
           (subst (λ (m : ℕ). ColumnsHold (stamp_all (outs (froms_of (take k es)) (tos_of (take k es))) (λ q. absent q (tos_of (take k es))) order (blank m (finishes_of l) (parents_of l) (starts_of l))) (discoveries_of l') (finishes_of l') (parents_of l') (starts_of l')) size H) in
           record {
-            cyclic_is = cyclic_is P A C held (many_discoveries l' ∙ len ∙ size) r (λ t d p s. as_clauses es₀ spacious k es W (λ f h. r ≡ not (forward (stamps t d (finishes_of l') p s) f h)) (test t d p s));
+            cyclic_is = cyclic_is P A C held (discoveries_long l' ∙ len ∙ size) r (λ t d p s. as_clauses es₀ spacious k es W (λ f h. r ≡ not (forward (stamps t d (finishes_of l') p s) f h)) (test t d p s));
             stamps_are = held;
           }
 

@@ -6,9 +6,9 @@ use Rattle.walk.specs.declared.SlotStamp.{SlotStamp}
 use Rattle.walk.specs.Walk.{fresh, edges, start_walk}
 use Rattle.walk.specs.Compressed.{Graph, Columns, adj_of}
 use Rattle.walk.specs.Slots.{discoveries_of, stamps_of}
+use Rattle.walk.proofs.Columns.{discoveries_long}
 use Rattle.walk.proofs.Drive.{begun, starts_columns}
 use Rattle.walk.proofs.Run.{mem_below, stamps_eq}
-use Rattle.stamp_walk.proofs.Stamps.{many_discoveries}
 use Rattle.stamp_walk.proofs.Walking.{stamped}
 use Rattle.stamp_walk.proofs.stamp_order.Goals as goal
 
@@ -49,6 +49,6 @@ pub returns : goal.returns
 returns c =
     let a = c.args in
     let e = c.clear.ensures in
-    let len : length (discoveries_of c.start_each-t.new.stamps) ≡ length a.stamps.now = omega (arith, many_discoveries c.start_each-t.new.stamps) in
+    let len : length (discoveries_of c.start_each-t.new.stamps) ≡ length a.stamps.now = omega (arith, discoveries_long c.start_each-t.new.stamps) in
     stamped (adj_of a.graph.offsets.now a.graph.targets.now) (λ q. get_or a.root.now q false) a.order.now _ _ _ _ (length a.stamps.now) (stamps_of 0 c.clear.new.stamps) (stamps_of c.start_each-t.result c.start_each-t.new.stamps) _
     (stamps_eq e.discoveries e.finishes e.parents e.starts refl) len c.list_roots-k.ensures.1 c.start_each-t.ensures c.start_each.ensures
