@@ -7,3 +7,4 @@ pub mod Ranged
 pub mod Zeros
 pub mod Compact
 pub mod Cases
+pub mod Comparing

@@ -10,13 +10,7 @@ ghost use Rattle.literal.specs.Literals.{Small, in_range, sign_by, slot_of, lit_
 pub fn in_range(l: i32, v: u32) -> bool
     ensures { result ≡ in_range l v }
 {
-    if l == 0 {
-        return false;
-    }
-    if l == -2147483648 {
-        return false;
-    }
-    var_of(l) <= v as usize
+    l != 0 && l != i32::MIN && var_of(l) <= v as usize
 }
 
 // The complement. It is asked of literals of a text that was judged to fit, and of a part under the shape rule: neither has the smallest i32.
@@ -75,9 +69,5 @@ pub fn zero_from(part: &mut [i32], from: usize)
     requires { from ≤ length part.old }
     ensures { part.new ≡ take from part.old ++ replicate (length part.old - from) (pos 0) }
 {
-    let mut i = from;
-    while i < part.len() {
-        part[i] = 0;
-        i += 1;
-    }
+    part[from..].fill(0);
 }
