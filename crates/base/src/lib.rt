@@ -7,5 +7,5 @@ ghost use Rattle.std.specs.Prelude.{◌≡◌, ◌||◌};
 pub fn either(a: bool, b: bool) -> bool
     ensures { result ≡ (a || b) }
 {
-    if a { true } else { b }
+    a || b
 }

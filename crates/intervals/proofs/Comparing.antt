@@ -52,23 +52,6 @@ same_false a b = refuted (same a b) (same_true a b)
 encloses_false : (a b : Interval) → (Encloses a b → ⊥) → encloses a b ≡ false
 encloses_false a b = refuted (encloses a b) (encloses_true a b)
 
--- ---- the tests, by the numbers that the code reads
-
-module _ (a b : Interval) where
-  pub begins_differ : (a.begin ≡ b.begin → ⊥) → false ≡ same a b
-  begins_differ d = sym (same_false a b (λ k. d k.0))
-
-  pub begins_agree : a.begin ≡ b.begin → eqb a.end b.end ≡ same a b
-  unfolding same
-  begins_agree e = ap (λ (t : Bool). t && eqb a.end b.end) (sym (eq-eqb a.begin b.begin e))
-
-  pub begins_later : b.begin < a.begin → false ≡ encloses a b
-  begins_later h = sym (encloses_false a b (λ k. omega (arith, h, k.0)))
-
-  pub begins_first_lem : a.begin ≤ b.begin → leb b.end a.end ≡ encloses a b
-  unfolding encloses
-  begins_first_lem h = ap (λ (t : Bool). t && leb b.end a.end) (sym (le-leb a.begin b.begin h))
-
 -- ---- the answer, by the tests
 
 module _ (a b : Interval) where
