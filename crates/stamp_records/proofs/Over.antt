@@ -4,8 +4,8 @@ use native.Mathlib.Omega.{arith}
 use native.Mathlib.Nat.{not-suc-le-zero, le_of_suc-le-suc, zero-min, min-zero, suc-min-suc, min-le_left}
 use native.Mathlib.Numerals.{add-one}
 use Prim.Native.Nat.{ℕ, zero, suc, ◌+◌, ◌*◌, ◌<◌, ◌≤◌, min}
-use mathlib.Core.List.{List, [], ◌∷◌}
-use lib.ListN.{length, get_or, set, take, length-take}
+use mathlib.Core.List.{List, [], ◌∷◌, ◌++◌}
+use lib.ListN.{length, get_or, set, take, drop, length-take, take-append-drop}
 use Rattle.stamp_records.specs.declared.StampRecord.{StampRecord}
 use Rattle.stamp_records.specs.Records.{pairs_in, over, put2}
 
@@ -37,6 +37,14 @@ module _ {A : Type 0} where
   over_own zero ys = refl
   over_own (suc n) [] = refl
   over_own (suc n) (y ∷ ys) = ap (λ (l : List A). y ∷ l) (over_own n ys)
+
+  -- a list laid over the first n elements, with the others behind
+  pub over_front : (n : ℕ) (xs ys : List A) → length xs ≤ n → over xs (take n ys) ++ drop n ys ≡ over xs ys
+  unfolding over
+  over_front n [] ys h = take-append-drop n ys
+  over_front zero (x ∷ xs) ys h = absurd (not-suc-le-zero h)
+  over_front (suc n) (x ∷ xs) [] h = refl
+  over_front (suc n) (x ∷ xs) (y ∷ ys) h = ap (λ (l : List A). x ∷ l) (over_front n xs ys (le_of_suc-le-suc h))
 
   pub take_min : (n : ℕ) (ys : List A) → take (min n (length ys)) ys ≡ take n ys
   take_min zero ys = ap (λ (k : ℕ). take k ys) (zero-min (length ys))

@@ -71,10 +71,8 @@ fn pack(s: &mut [StampRecord], times: &[u32], links: &[i32], n: usize)
     requires { (n ≤ 2048) × (n ≤ length s.old) × (2 * n ≤ length times.now) × (2 * n ≤ length links.now) }
     ensures { s.new ≡ over (take n (records_in times.now links.now)) s.old }
 {
-    let mut i: usize = 0;
-    while i < n {
-        s[i] = record_at(times, links, i);
-        i += 1;
+    for (i, record) in s[..n].iter_mut().enumerate() {
+        *record = record_at(times, links, i);
     }
 }
 
@@ -83,28 +81,16 @@ fn unpack(s: &[StampRecord], times: &mut [u32], links: &mut [i32], n: usize)
     requires { (n ≤ 2048) × (n ≤ length s.now) × (4096 ≤ length times.old) × (4096 ≤ length links.old) }
     ensures { (times.new ≡ over (times_in (take n s.now)) times.old) × (links.new ≡ over (links_in (take n s.now)) links.old) }
 {
-    let mut i: usize = 0;
-    while i < n {
-        put_record(times, links, i, s[i]);
-        i += 1;
+    for (i, record) in s[..n].iter().enumerate() {
+        put_record(times, links, i, *record);
     }
-}
-
-// How many of the lent records are used.
-fn used(lent: usize) -> usize
-    ensures { result ≡ min 2048 lent }
-{
-    if lent < 2048 {
-        return lent;
-    }
-    2048
 }
 
 // The columns of the lent records: of the first 2,048, or of all if there are fewer.
 pub fn columns_of(s: &[StampRecord]) -> Columns
     ensures { (result.count ≡ min 2048 (length s.now)) × (held_times result ≡ times_of s.now) × (held_links result ≡ links_of s.now) }
 {
-    let count = used(s.len());
+    let count = s.len().min(2048);
     let mut times = [0u32; 4096];
     let mut links = [0i32; 4096];
     unpack(s, &mut times, &mut links, count);

@@ -40,10 +40,7 @@ impl Programme {
         ensures { result ≡ constant_programme }
     {
         let mut codes = [0u32; 32];
-        codes[0] = PROGRAMME[0];
-        codes[1] = PROGRAMME[1];
-        codes[2] = PROGRAMME[2];
-        codes[3] = PROGRAMME[3];
+        codes[..4].copy_from_slice(&PROGRAMME);
         Programme { codes, length: 4 }
     }
 }
@@ -256,10 +253,10 @@ impl Answer {
     pub fn number(self) -> u64
         ensures { (result ≡ (reply_of self).number) × (result ≤ 15) }
     {
-        if let Answer::Refused(refusal) = self {
-            return refusal.number();
+        match self {
+            Answer::Refused(refusal) => refusal.number(),
+            _ => 0,
         }
-        0
     }
 
     // The first value: a refusal's place, the visits made, the length written, what becomes of a learnt clause, the verdict on a clause; 0 where there is none.

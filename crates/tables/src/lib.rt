@@ -15,20 +15,9 @@ pub fn long_ok(
 ) -> bool
     ensures { Decides result (Long (lent clauses.now literals.now variables.now times.now links.now)) }
 {
-    if clauses.len() < 12288 {
-        return false;
-    }
-    if literals.len() < 16384 {
-        return false;
-    }
-    if variables.len() < 2048 {
-        return false;
-    }
-    if times.len() < 4096 {
-        return false;
-    }
-    if links.len() < 4096 {
-        return false;
-    }
-    true
+    clauses.len() >= 12288
+        && literals.len() >= 16384
+        && variables.len() >= 2048
+        && times.len() >= 4096
+        && links.len() >= 4096
 }
