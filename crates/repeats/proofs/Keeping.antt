@@ -69,6 +69,22 @@ module _ {p₀ p : List ℤ} {marks : List ℕ} {n : ℕ} {both : Bool} {i : ℕ
     pub says_either : eqb (get_or marks place 0) 1 ≡ has z D
     says_either = ap (λ (m : ℕ). eqb m 1) mark_of_lem ∙ mark_tested D (kept_literals L) z Z
 
+  -- what is read is a literal, as it stood there
+  pub at_hand : ((k : ℕ) → k < length p₀ → Literal 1024 (get_or p₀ k (pos 0))) → i < length p₀ → Literal 1024 (get_or p i (pos 0))
+  at_hand L lt = subst (Literal 1024) (sym unread) (L i lt)
+
+  -- the same loop, by other names of what it holds
+  pub keeping_is : {p' : List ℤ} {marks' : List ℕ} {n' : ℕ} {both' : Bool} → p' ≡ p → marks' ≡ marks → n' ≡ n → both' ≡ both → Keeping p₀ p' marks' n' both' i
+  keeping_is a b c d = record {
+    within = K.within;
+    kept = D;
+    kept_is = K.kept_is;
+    count = c ∙ K.count;
+    both_is = d ∙ K.both_is;
+    held = a ∙ K.held ∙ ap (λ (k : ℕ). D ++ drop k p₀) (sym c);
+    marks_are = b ∙ K.marks_are;
+  }
+
   module _ (lt : i < length p₀) where
     abbrev x : ℤ
     x = get_or p₀ i (pos 0)

@@ -8,14 +8,16 @@ use mathlib.Core.List.{List, [], ◌∷◌, ◌++◌}
 use lib.Dec.{eqb}
 use lib.ListN.{length, get_or, set, length-set, length-replicate}
 use lib.Seq.{get_or-set_same, get_or-set_other, ext_get_or}
-use lib.IntN.{ℤ, pos, negsuc, ◌+ℤ◌}
+use lib.IntN.{ℤ, pos, negsuc, neg_ℤ, ◌+ℤ◌}
+use mir.Syntax.{w32}
+use mir.Val.{of_z, to_z}
 use borrow.Author.Tests.{le-ltb, eq-eqb, ne_eqb, eqb-true}
 use Rattle.base.specs.Decide.{same_or}
 use Rattle.base.proofs.Booleans.{both_ways}
 use Rattle.base.proofs.Lists.{get_d_zeros}
-use Rattle.literal.specs.Literals.{Literal, eq_z}
+use Rattle.literal.specs.Literals.{Small, Literal, eq_z}
 use Rattle.literal.specs.Clauses.{has}
-use Rattle.literal.proofs.Signed.{eq_eq_z, eq_z_true}
+use Rattle.literal.proofs.Signed.{back, abs_neg, eq_eq_z, eq_z_true}
 use Rattle.repeats.specs.Marks.{mark_of, with_mark, no_marks}
 use Rattle.repeats.proofs.Repeats.{All}
 
@@ -28,6 +30,19 @@ mark_plus (negsuc n) X = rw (le-ltb 1024 (suc n) X.within) (ap pos (let e : 1024
 pub mark_below : (x : ℤ) → Literal 1024 x → mark_of x < 2049
 mark_below (pos n) X = omega (arith, X.within)
 mark_below (negsuc n) X = omega arith
+
+-- a literal has a complement, is read back from a local as it was, and so is its complement
+pub literal_small : {z : ℤ} → Literal 1024 z → Small z
+literal_small Z = record { small = omega (arith, Z.within) }
+
+pub literal_turned : {z : ℤ} → Literal 1024 z → Literal 1024 (neg_ℤ z)
+literal_turned Z = record { above = rw abs_neg Z.above; within = rw abs_neg Z.within }
+
+pub literal_read : {z : ℤ} → Literal 1024 z → to_z w32 (of_z w32 z) ≡ z
+literal_read Z = back (literal_small Z)
+
+pub other_read : {z r : ℤ} → Literal 1024 z → r ≡ neg_ℤ (to_z w32 (of_z w32 z)) → to_z w32 (of_z w32 r) ≡ neg_ℤ z
+other_read Z e = ap (λ (y : ℤ). to_z w32 (of_z w32 y)) (e ∙ ap neg_ℤ (literal_read Z)) ∙ literal_read (literal_turned Z)
 
 -- different literals have different places
 mark_same : (x y : ℤ) → Literal 1024 x → Literal 1024 y → mark_of x ≡ mark_of y → x ≡ y

@@ -31,13 +31,12 @@ fn keep_first(part: &mut [i32], marks: &mut [u32]) -> Distinct
 {
     let mut n = 0;
     let mut both = false;
-    let mut i = 0;
-    while i < part.len() {
+    for i in 0..part.len() {
         let l = part[i];
-        i += 1;
         let mark = mark_of(l);
         let other = mark_of(literal::complement(l));
-        if marks[mark] == 0 {
+        let is_new = marks[mark] == 0;
+        if is_new {
             if marks[other] == 1 {
                 both = true;
             }
@@ -54,11 +53,9 @@ fn unmark(part: &[i32], marks: &mut [u32])
     requires { Unmarkable part.now marks.old }
     ensures { marks.new ≡ with_mark 0 part.now marks.old }
 {
-    let mut k = 0;
-    while k < part.len() {
-        let mark = mark_of(part[k]);
+    for &l in part {
+        let mark = mark_of(l);
         marks[mark] = 0;
-        k += 1;
     }
 }
 

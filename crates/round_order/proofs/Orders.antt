@@ -59,9 +59,6 @@ module _ {slot : ℕ} {before part : List ℤ} {i : ℕ} (L : Listing slot befor
         ∙ sym (listed_more slot i) ∙ ap (listed slot) (sym (add-one i));
   }
 
-  pub listing_all : length part ≤ i → part ≡ listed slot (length before)
-  listing_all le = sym (take_all i part le) ∙ L.done ∙ ap (listed slot) (let q : i ≡ length before = omega (arith, L.same, L.within, le) in q)
-
 -- ---- the two parts
 
 turn_is : (k m : ℕ) → 0 < m → turn_by k m ≡ k % m

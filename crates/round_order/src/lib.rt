@@ -11,10 +11,8 @@ fn write_slots(part: &mut [i32], slot: usize)
     requires { slot + length part.old ≤ 2048 }
     ensures { part.new ≡ map lit_at (numbers slot (length part.old)) }
 {
-    let mut i = 0;
-    while i < part.len() {
-        part[i] = literal::lit_at(slot + i);
-        i += 1;
+    for (i, place) in part.iter_mut().enumerate() {
+        *place = literal::lit_at(slot + i);
     }
 }
 

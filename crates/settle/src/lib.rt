@@ -24,11 +24,9 @@ fn count_own(variables: &[i32], v: u32) -> u32
     ensures { result ≡ owns v variables.now }
 {
     let mut count: u32 = 0;
-    let mut w: u32 = 0;
-    while w < v {
+    for w in 0..v {
         let at = 2 * w as usize;
         let slot = literal::slot_of(variables[at]);
-        w += 1;
         if slot == at {
             count += 1;
         }
@@ -103,8 +101,7 @@ pub fn settle(clauses: &mut [u32], literals: &mut [i32], variables: &mut [i32], 
     let mut state = st;
     loop {
         let step = settle_once(clauses, literals, variables, state);
-        let next = step.state;
-        state = next;
+        state = step.state;
         if !step.again {
             return state;
         }
