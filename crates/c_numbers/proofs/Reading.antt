@@ -7,16 +7,11 @@ use mathlib.Core.List.{List}
 use lib.ListN.{length}
 use lib.Dec.{leb}
 use borrow.Author.Tests.{leb-true, le-leb}
-use Rattle.state.specs.declared.Pass.TheVariants.{Sweep}
-use Rattle.c_numbers.specs.StateNumbers.{pass_of, pass_readable, readable}
+use Rattle.c_numbers.specs.StateNumbers.{readable}
 use Rattle.c_numbers.specs.CCalls.{ready}
 use Rattle.c_numbers.specs.WindowCalls.{ready_with}
 
--- a test that fails, and one that passes
-pub fails : (a b : Bool) → a ≡ false → false ≡ (a && b)
-fails true b e = absurd (let z : ◌≡◌ {A = ℕ} 0 1 = cc in omega arith)
-fails false b e = refl
-
+-- a test that passes
 pub passes : (a b r : Bool) → a ≡ true → r ≡ b → r ≡ (a && b)
 passes true b r e f = f
 passes false b r e f = absurd (let z : ◌≡◌ {A = ℕ} 0 1 = cc in omega arith)
@@ -24,21 +19,6 @@ passes false b r e f = absurd (let z : ◌≡◌ {A = ℕ} 0 1 = cc in omega ari
 both : (a b : Bool) → (a && b) ≡ true → (a ≡ true) × (b ≡ true)
 both true b e = (refl, e)
 both false b e = absurd (let z : ◌≡◌ {A = ℕ} 0 1 = cc in omega arith)
-
--- PASS above 3
-pub pass_above : (pass cursor changed : ℕ) → (pass ≡ 0 → ⊥) → (pass ≡ 1 → ⊥) → (pass ≡ 2 → ⊥) → (pass ≡ 3 → ⊥) → false ≡ pass_readable pass cursor changed
-pass_above zero cursor changed n₀ n₁ n₂ n₃ = absurd (n₀ refl)
-pass_above (suc zero) cursor changed n₀ n₁ n₂ n₃ = absurd (n₁ refl)
-pass_above (suc (suc zero)) cursor changed n₀ n₁ n₂ n₃ = absurd (n₂ refl)
-pass_above (suc (suc (suc zero))) cursor changed n₀ n₁ n₂ n₃ = absurd (n₃ refl)
-pass_above (suc (suc (suc (suc _)))) cursor changed n₀ n₁ n₂ n₃ = refl
-
--- PASS none of 0, 1 and 2 is read as Sweep
-pub pass_other : (pass cursor changed : ℕ) → (pass ≡ 0 → ⊥) → (pass ≡ 1 → ⊥) → (pass ≡ 2 → ⊥) → Sweep cursor ≡ pass_of pass cursor changed
-pass_other zero cursor changed n₀ n₁ n₂ = absurd (n₀ refl)
-pass_other (suc zero) cursor changed n₀ n₁ n₂ = absurd (n₁ refl)
-pass_other (suc (suc zero)) cursor changed n₀ n₁ n₂ = absurd (n₂ refl)
-pass_other (suc (suc (suc _))) cursor changed n₀ n₁ n₂ = refl
 
 pub ready_readable : (s a : List ℕ) → ready s a ≡ true → readable s ≡ true
 unfolding ready

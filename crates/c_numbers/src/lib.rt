@@ -19,15 +19,9 @@ fn pass_readable(pass: u32, cursor: u32, changed: u32) -> bool
     ensures { result ≡ pass_readable pass cursor changed }
 {
     match pass {
-        0 => {
-            if cursor != 0 {
-                return false;
-            }
-            changed == 0
-        }
+        0 => cursor == 0 && changed == 0,
         1 => changed <= 1,
-        2 => changed == 0,
-        3 => changed == 0,
+        2 | 3 => changed == 0,
         _ => false,
     }
 }
@@ -36,26 +30,17 @@ fn pass_readable(pass: u32, cursor: u32, changed: u32) -> bool
 fn readable(state: &[u32]) -> bool
     ensures { result ≡ readable state.now }
 {
-    if state.len() < 40 {
-        return false;
-    }
-    if state[5] > 1 {
-        return false;
-    }
-    if state[6] > 1 {
-        return false;
-    }
-    pass_readable(state[2], state[3], state[4])
+    state.len() >= 40
+        && state[5] <= 1
+        && state[6] <= 1
+        && pass_readable(state[2], state[3], state[4])
 }
 
 // What a call asks of the numbers before it looks at anything else.
 pub fn ready(state: &[u32], answer: &[u64]) -> bool
     ensures { result ≡ ready state.now answer.now }
 {
-    if answer.len() < 4 {
-        return false;
-    }
-    readable(state)
+    answer.len() >= 4 && readable(state)
 }
 
 // Of PASS, CURSOR and CHANGED that were found readable.
@@ -76,7 +61,7 @@ fn programme_at(state: &[u32]) -> Programme
     ensures { result ≡ programme_at state.now }
 {
     let mut codes = [0u32; 32];
-    slices::copy_numbers(&state[8..40], &mut codes);
+    codes.copy_from_slice(&state[8..40]);
     Programme {
         codes,
         length: state[7],
@@ -103,7 +88,7 @@ pub fn state_at(state: &[u32]) -> State
 fn digit(flag: bool) -> u32
     ensures { result ≡ digit flag }
 {
-    if flag { 1 } else { 0 }
+    u32::from(flag)
 }
 
 fn pass_number(pass: Pass) -> u32
@@ -122,9 +107,7 @@ fn cursor_number(pass: Pass) -> u32
 {
     match pass {
         Pass::Idle => 0,
-        Pass::Propagate(cursor, _) => cursor,
-        Pass::Merge(cursor) => cursor,
-        Pass::Sweep(cursor) => cursor,
+        Pass::Propagate(cursor, _) | Pass::Merge(cursor) | Pass::Sweep(cursor) => cursor,
     }
 }
 
@@ -132,10 +115,8 @@ fn changed_number(pass: Pass) -> u32
     ensures { result ≡ changed_number pass }
 {
     match pass {
-        Pass::Idle => 0,
         Pass::Propagate(_, changed) => digit(changed),
-        Pass::Merge(_) => 0,
-        Pass::Sweep(_) => 0,
+        Pass::Idle | Pass::Merge(_) | Pass::Sweep(_) => 0,
     }
 }
 
@@ -143,9 +124,8 @@ fn put_programme(state: &mut [u32], programme: Programme)
     requires { 40 ≤ length state.old }
     ensures { state.new ≡ put_programme programme state.old }
 {
-    let codes = programme.codes;
     state[7] = programme.length;
-    slices::copy_numbers(&codes, &mut state[8..40]);
+    state[8..40].copy_from_slice(&programme.codes);
 }
 
 // Numbers behind the fortieth stay.
@@ -249,10 +229,7 @@ pub fn finish(state: &mut [u32], answer: &mut [u64], outcome: Outcome) -> i64
 pub fn ready_with(state: &[u32], answer: &[u64], window: &[u32]) -> bool
     ensures { result ≡ ready_with state.now answer.now window.now }
 {
-    if window.len() < 2 {
-        return false;
-    }
-    ready(state, answer)
+    window.len() >= 2 && ready(state, answer)
 }
 
 // The window's numbers; `ready_with` has seen that they are there.

@@ -9,6 +9,3 @@ use Rattle.explain.specs.Asking.{Timed, Clause}
 module _ {times : List ℕ} {links C : List ℤ} (K : Clause times links C) where
   pub clause_timed : Timed times C
   clause_timed = record { long = K.long; lits = record { each = λ k lt. record { above = (K.each k lt).above; within = omega (arith, (K.each k lt).within, K.stamped.few) } } }
-
-  pub clause_judged : Judged times links C
-  clause_judged = record { vars = K.vars; stamped = K.stamped; long = K.long; each = K.each }

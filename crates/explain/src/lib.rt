@@ -196,7 +196,7 @@ fn judge(part: &[i32], times: &[u32], links: &[i32], row: &mut [i32]) -> Visited
     let n = part.len();
     let mut slots = [0u32; 1024];
     let mut twins = [0u32; 1024];
-    slices::copy_literals(part, row);
+    row.copy_from_slice(part);
     sweep_visits::visit_part(row, times, links, &mut slots[..n], &mut twins[..n])
 }
 

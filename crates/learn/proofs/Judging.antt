@@ -3,8 +3,8 @@ use Prim.Native.Nat.{ℕ, ◌+◌, ◌-◌, ◌≤◌}
 use native.Mathlib.Omega.{arith}
 use mathlib.Core.Path.{◌≡◌, sym, ap, ◌∙◌}
 use mathlib.Core.List.{List, [], ◌++◌, append_assoc}
-use lib.ListN.{length, take, drop, replicate, length-append, length-replicate, replicate-append-replicate}
-use lib.Seq.{take_all, take_at, drop_at, length-take-le}
+use lib.ListN.{length, take, drop, replicate, length-replicate, replicate-append-replicate}
+use lib.Seq.{take_at, drop_at}
 use lib.IntN.{ℤ, pos}
 use Rattle.base.proofs.Lists.{sub_length}
 use Rattle.literal.specs.Holding.{holding}
@@ -46,28 +46,13 @@ drop_zeros n m h =
     ∙ drop_at (replicate n (pos 0)) (replicate (m - n) (pos 0)) n (length-replicate {A = ℤ} n (pos 0))
 
 module _ (C row : List ℤ) (few : length C ≤ 64) (empty : row ≡ replicate 64 (pos 0)) where
-  row_length : length row ≡ 64
-  row_length = ap length empty ∙ length-replicate {A = ℤ} 64 (pos 0)
-
-  pub lent_length : length (take (length C) row) ≡ length C
-  lent_length = length-take-le (length C) row (omega (arith, few, row_length))
-
-  pub lent_fits : length C ≤ length row
-  lent_fits = omega (arith, few, row_length)
-
-  module _ (copied : List ℤ) (is : copied ≡ take (length (take (length C) row)) C) where
-    -- the newcomer is copied whole
-    pub copied_is : copied ≡ C
-    copied_is = is ∙ take_all (length (take (length C) row)) C (omega (arith, lent_length))
-
+  -- the newcomer is copied whole into the front
+  module _ (copied : List ℤ) (is : copied ≡ C) where
     pub front_is : take (length C) (copied ++ drop (length C) row) ≡ C
-    front_is = take_at copied (drop (length C) row) (length C) (ap length copied_is) ∙ copied_is
-
-    pub front_room : length C ≤ length (copied ++ drop (length C) row)
-    front_room = omega (arith, length-append copied (drop (length C) row), ap length copied_is)
+    front_is = take_at copied (drop (length C) row) (length C) (ap length is) ∙ is
 
     rest_is : drop (length C) (copied ++ drop (length C) row) ≡ replicate (64 - length C) (pos 0)
-    rest_is = drop_at copied (drop (length C) row) (length C) (ap length copied_is) ∙ ap (drop (length C)) empty ∙ drop_zeros (length C) 64 few
+    rest_is = drop_at copied (drop (length C) row) (length C) (ap length is) ∙ ap (drop (length C)) empty ∙ drop_zeros (length C) 64 few
 
     -- a part that holds D, with the rest behind it
     record_is : (D part : List ℤ) → length D ≤ length C → part ≡ holding D C → part ++ drop (length C) (copied ++ drop (length C) row) ≡ record_of D

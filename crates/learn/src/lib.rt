@@ -40,7 +40,7 @@ fn judge(newcomer: &[i32], times: &[u32], links: &[i32], row: &mut [i32]) -> Vis
     let n = newcomer.len();
     let mut slots = [0u32; 64];
     let mut twins = [0u32; 64];
-    slices::copy_literals(newcomer, &mut row[..n]);
+    row[..n].copy_from_slice(newcomer);
     sweep_visits::visit_part(
         &mut row[..n],
         times,

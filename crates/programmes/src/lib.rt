@@ -84,7 +84,7 @@ pub fn programme_of(codes: &[u32]) -> Programme
 {
     let count = codes.len();
     let mut places = [0u32; 32];
-    slices::copy_numbers(codes, &mut places[..count]);
+    places[..count].copy_from_slice(codes);
     Programme {
         codes: places,
         length: count as u32,

@@ -1,14 +1,17 @@
 -- No clause, class or value differs: the three comparisons of the code, and what stood before a round from its copies. Assumes nothing.
 use Prim.Native.Nat.{ℕ, zero, suc, ◌+◌, ◌*◌, ◌-◌, ◌≤◌, ◌<◌}
+use native.Mathlib.Numerals.{add-one}
 use native.Mathlib.Omega.{arith}
 use mathlib.Core.Path.{◌≡◌, refl, sym, ap, ap₂, subst, ◌∙◌}
 use mathlib.Core.Bool.{Bool, true, false, ◌&&◌}
+use mathlib.Core.Logic.{⊎_elim}
 use mathlib.Core.List.{List, [], ◌∷◌}
 use lib.ListN.{length, get_or, take, drop}
 use lib.Seq.{get_or-take, take-take, take-nil, length-take-le}
 use lib.Dec.{eqb}
 use lib.IntN.{ℤ}
 use borrow.Author.Tests.{eqb-true}
+use Rattle.base.specs.Decide.{same_or}
 use Rattle.base.specs.Lists.{all_below, same_list}
 use Rattle.literal.specs.Literals.{eq_z}
 use Rattle.state.specs.declared.State.{State}
@@ -36,6 +39,28 @@ below_same : (f g : ℕ → Bool) (n : ℕ) → ((i : ℕ) → i < n → f i ≡
 unfolding all_below
 below_same f g zero h = refl
 below_same f g (suc n) h = (λ j. elim (h n (omega arith) j) as (λ u. Bool) [ true ↦ all_below n f | false ↦ false ]) ∙ ap (λ (r : Bool). elim (g n) as (λ u. Bool) [ true ↦ r | false ↦ false ]) (below_same f g n (λ i lt. h i (omega arith)))
+
+-- every number so far passes, and the next one too; or one fails
+pub below_none : (test : ℕ → Bool) → all_below 0 test ≡ true
+unfolding all_below
+below_none test = refl
+
+pub below_next : (test : ℕ → Bool) (i : ℕ) → all_below i test ≡ true → test i ≡ true → all_below (i + 1) test ≡ true
+unfolding all_below
+below_next test i e h = ap (λ (n : ℕ). all_below n test) (add-one i) ∙ ap (λ (b : Bool). elim b as (λ u. Bool) [ true ↦ all_below i test | false ↦ false ]) h ∙ e
+
+pub below_fails : (test : ℕ → Bool) (n i : ℕ) → i < n → test i ≡ false → all_below n test ≡ false
+unfolding all_below
+below_fails test zero i lt e = absurd (omega arith)
+below_fails test (suc n) i lt e =
+    ⊎_elim
+    (λ (q : i ≡ n). ap (λ (b : Bool). elim b as (λ u. Bool) [ true ↦ all_below n test | false ↦ false ]) (ap test (sym q) ∙ e))
+    (λ (d : i ≡ n → ⊥). go (test n) (below_fails test n i (omega arith) e))
+    (same_or i n)
+  where
+    go : (b : Bool) → all_below n test ≡ false → elim b as (λ u. Bool) [ true ↦ all_below n test | false ↦ false ] ≡ false
+    go true h = h
+    go false h = refl
 
 -- a part that lies in the front of a list
 part_of_front : (l : List ℤ) (s n m : ℕ) → s + n ≤ m → take n (drop s (take m l)) ≡ take n (drop s l)

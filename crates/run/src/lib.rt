@@ -50,9 +50,9 @@ fn save(
     requires { Saves clauses.now literals.now variables.now kept.old parts.old rows.old }
     ensures { Saved clauses.now literals.now variables.now kept.new parts.new rows.new }
 {
-    slices::copy_numbers(clauses, kept);
-    slices::copy_literals(literals, parts);
-    slices::copy_literals(variables, rows);
+    kept.copy_from_slice(&clauses[..kept.len()]);
+    parts.copy_from_slice(&literals[..parts.len()]);
+    rows.copy_from_slice(&variables[..rows.len()]);
 }
 
 // Whether each of n clauses has the same literals in two literal tables.
@@ -60,12 +60,10 @@ fn same_parts(clauses: &[u32], old: &[i32], new: &[i32], n: usize) -> bool
     requires { PartsInside n clauses.now old.now new.now }
     ensures { result ≡ all_below n (λ i. same_list eq_z (literals_of clauses.now old.now i) (literals_of clauses.now new.now i)) }
 {
-    let mut i = n;
-    while i > 0 {
-        i -= 1;
+    for i in 0..n {
         let start = clauses[3 * i] as usize;
         let end = start + clauses[3 * i + 1] as usize;
-        if !slices::same_literals(&old[start..end], &new[start..end]) {
+        if old[start..end] != new[start..end] {
             return false;
         }
     }
@@ -89,14 +87,10 @@ fn same_tables(
         (standing_in (lent clauses.now literals.now variables.now times' links') st') }
 {
     let records = 3 * n as usize;
-    if !slices::same_numbers(&kept[..records], &clauses[..records]) {
-        return false;
-    }
-    if !same_parts(kept, parts, literals, n as usize) {
-        return false;
-    }
     let places = 2 * v as usize;
-    slices::same_literals(&rows[..places], &variables[..places])
+    kept[..records] == clauses[..records]
+        && same_parts(kept, parts, literals, n as usize)
+        && rows[..places] == variables[..places]
 }
 
 // ---- the codes
@@ -211,19 +205,13 @@ fn follow(
     requires { Runs (standing_in (handed clauses.old literals.old variables.old times.old links.old) st) }
     ensures { standing_in (returned clauses.new literals.new variables.new times.new links.new) result ≡ follow k code (standing_in (lent clauses.old literals.old variables.old times.old links.old) st) }
 {
-    if code == SETTLE {
-        return settle::settle(clauses, literals, variables, st);
+    match code {
+        SETTLE => settle::settle(clauses, literals, variables, st),
+        STAMP => follow_stamp(k, clauses, literals, variables, times, links, st),
+        FAILED => follow_failed(variables, times, links, st),
+        SWEEP => follow_sweep(clauses, literals, times, links, st),
+        _ => st,
     }
-    if code == STAMP {
-        return follow_stamp(k, clauses, literals, variables, times, links, st);
-    }
-    if code == FAILED {
-        return follow_failed(variables, times, links, st);
-    }
-    if code == SWEEP {
-        return follow_sweep(clauses, literals, times, links, st);
-    }
-    st
 }
 
 // ---- rounds
@@ -245,11 +233,8 @@ fn round(
     let codes = programme.codes;
     let count = programme.length as usize;
     let mut state = st;
-    let mut i = 0;
-    while i < count {
-        let code = codes[i];
-        i += 1;
-        state = follow(code, k, clauses, literals, variables, times, links, state);
+    for code in &codes[..count] {
+        state = follow(*code, k, clauses, literals, variables, times, links, state);
         if state.mark {
             return state;
         }
@@ -280,8 +265,10 @@ fn make_round(
     let n = st.n;
     let after = round(k, clauses, literals, variables, times, links, st, programme);
     let same = same_tables(v, n, kept, parts, rows, clauses, literals, variables);
-    let stop = base::either(after.mark, same);
-    Turn { state: after, stop }
+    Turn {
+        state: after,
+        stop: after.mark || same,
+    }
 }
 
 // At most so many rounds, from round 0 on.
@@ -302,19 +289,16 @@ fn make_rounds(
     ensures { rounds result.made (standing_in (returned clauses.new literals.new variables.new times.new links.new) result.state) ≡ run_from (codes_of programme) count 0 (standing_in (lent clauses.old literals.old variables.old times.old links.old) st) }
 {
     let mut state = st;
-    let mut k: u32 = 0;
-    while k < count {
+    for k in 0..count {
         let turn = make_round(
             k, clauses, literals, variables, times, links, state, programme, kept, parts, rows,
         );
-        let next = turn.state;
-        state = next;
-        k += 1;
+        state = turn.state;
         if turn.stop {
-            return Made { made: k, state };
+            return Made { made: k + 1, state };
         }
     }
-    Made { made: k, state }
+    Made { made: count, state }
 }
 
 // The same with places of its own.

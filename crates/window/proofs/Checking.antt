@@ -18,18 +18,6 @@ use Rattle.shape.specs.Row.{Below}
 use Rattle.window.specs.Window.{Places, size_of, total_of}
 use Rattle.window.specs.Rule.{Learnable, LongWindow, WindowRule, Clauses}
 
--- ---- one clause, by the shape rule's check of the literals of a clause that is not settled
-
-module _ {v : ℕ} {literals variables : List ℤ} {start len : ℕ} where
-  learnable_from : len ≤ 64 → Literals v literals variables false start len → Learnable v literals start len
-  learnable_from few L = record { few = few; ranged = L.ranged; once = L.once }
-
-  learnable_to : Learnable v literals start len → Literals v literals variables false start len
-  learnable_to L = record { ranged = L.ranged; once = L.once; own = λ e. absurd (false≢true e) }
-
-  pub learnable_decided : {b : Bool} → len ≤ 64 → Decides b (Literals v literals variables false start len) → Decides b (Learnable v literals start len)
-  learnable_decided few d = decides_map (learnable_from few) learnable_to d
-
 -- a table of 1,024 places, all 0, has no clause's number
 pub none_below : (number : ℕ) → 0 < number → (last : List ℕ) → last ≡ replicate 1024 0 → (length last ≡ 1024) × Below number last
 none_below number some last e = (ap length e ∙ length-replicate {A = ℕ} 1024 0, record { each = λ w. rw e (omega (arith, some, get_d_zeros 1024 w)) })
@@ -60,13 +48,6 @@ checking_next {v} {w} {k} {total} C L same B = record {
   small = omega (arith, C.small, L.few);
   size = same ∙ C.size;
   below = B;
-}
-
--- all clauses are right, and the total decides
-pub checking_end : {v : ℕ} {w : Places} {total : ℕ} {last : List ℕ} → Checking v w w.window.clauses total last → Decides (eqb total w.window.literals) (Clauses v w)
-checking_end {v} {w} {total} C = record {
-  holds = λ e. record { each = C.so_far; total = sym (eqb-true total w.window.literals e) ∙ C.counted };
-  fails = λ e R. eqb-false total w.window.literals e (C.counted ∙ sym R.total);
 }
 
 -- the rule, by its halves

@@ -4,8 +4,8 @@ use native.Mathlib.Omega.{arith}
 use mathlib.Core.Path.{◌≡◌, sym, ap, ◌∙◌}
 use mathlib.Core.Bool.{Bool, true, false}
 use mathlib.Core.List.{List, ◌++◌, append_assoc}
-use lib.ListN.{length, take, drop, set, length-drop}
-use lib.Seq.{sets, sets-eq, take_all, length-take-le}
+use lib.ListN.{length, take, drop, set}
+use lib.Seq.{sets, sets-eq}
 use borrow.Author.Tests.{eq-eqb, ne_eqb}
 use borrow.Rule.Slice.PartMut.{put_mid, Post-is}
 use lib.IntN.{ℤ}
@@ -35,21 +35,15 @@ module _ (C row : List ℤ) (size : ℕ) (w : Places) (r : row ≡ record_of C) 
   keep_room n = put_is C row size w r s ∙ ap (λ (b : Bool). elim b as (λ x. Places) [ true ↦ put C (eldest_left w) | false ↦ put C w ]) (sym (ne_eqb w.window.clauses 64 n))
 
 -- the row of a clause copied into its places
-pub put_back : (w : Places) (row : List ℤ) (size : ℕ) (copied : List ℤ) → Room w → length row ≡ 64 → copied ≡ take (length (take (64 * w.window.clauses + 64 - 64 * w.window.clauses) (drop (64 * w.window.clauses) w.learnt))) row
+pub put_back : (w : Places) (row : List ℤ) (size : ℕ) (copied : List ℤ) → Room w → length row ≡ 64 → copied ≡ row
     → places (set w.sizes w.window.clauses size) (put_mid (64 * w.window.clauses) (64 * w.window.clauses + 64 - 64 * w.window.clauses) w.learnt copied) (window_of (w.window.clauses + 1) (w.window.literals + size)) ≡ put_record row size w
-put_back w row size copied R n e = λ i. places (set w.sizes w.window.clauses size) (laid i) (window_of (w.window.clauses + 1) (w.window.literals + size))
+put_back w row size copied R n whole = λ i. places (set w.sizes w.window.clauses size) (laid i) (window_of (w.window.clauses + 1) (w.window.literals + size))
   where
     start : ℕ
     start = 64 * w.window.clauses
 
     room : start + 64 ≤ length w.learnt
     room = omega (arith, R.some, R.long.learnt)
-
-    places_lent : length (take (start + 64 - start) (drop start w.learnt)) ≡ 64
-    places_lent = length-take-le (start + 64 - start) (drop start w.learnt) (omega (arith, room, length-drop start w.learnt)) ∙ omega arith
-
-    whole : copied ≡ row
-    whole = e ∙ take_all (length (take (start + 64 - start) (drop start w.learnt))) row (omega (arith, n, places_lent))
 
     laid : put_mid start (start + 64 - start) w.learnt copied ≡ sets w.learnt start row
     laid =

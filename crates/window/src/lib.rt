@@ -43,13 +43,7 @@ impl Window {
 pub fn long_ok(sizes: &[u32], learnt: &[i32]) -> bool
     ensures { (window : Window) → Decides result (LongWindow (places sizes.now learnt.now window)) }
 {
-    if sizes.len() < 64 {
-        return false;
-    }
-    if learnt.len() < 4096 {
-        return false;
-    }
-    true
+    sizes.len() >= 64 && learnt.len() >= 4096
 }
 
 // A clause that 11 does not forbid, the `len` literals from `start` on, by the check that the shape rule has for the literals of a clause
@@ -66,10 +60,7 @@ fn clause_ok(
     requires { (len ≤ 64 → start + len ≤ length literals.now) × (v ≤ 1024) × (2 * v ≤ length variables.now) × (length last.old ≡ 1024) × Below number last.old }
     ensures { Decides result (Learnable v literals.now start len) × Below (number + 1) last.new }
 {
-    if 64 < len {
-        return false;
-    }
-    shape::literals_ok(literals, variables, start, len, v, false, number, last)
+    len <= 64 && shape::literals_ok(literals, variables, start, len, v, false, number, last)
 }
 
 // A newcomer that 11 does not forbid. The variable records are not looked at; that there are V of them, the shape rule has checked.
@@ -94,23 +85,14 @@ fn clauses_ok(
     ensures { Decides result (Clauses v (places sizes.now learnt.now window)) }
 {
     let n = window.clauses as usize;
-    let mut k = 0;
     let mut total: u32 = 0;
-    while k < n {
-        let size = sizes[k];
-        if !clause_ok(
-            learnt,
-            variables,
-            64 * k,
-            size as usize,
-            v,
-            k as u32 + 1,
-            last,
-        ) {
+    for (k, size) in sizes[..n].iter().enumerate() {
+        let len = *size as usize;
+        let number = k as u32 + 1;
+        if !clause_ok(learnt, variables, 64 * k, len, v, number, last) {
             return false;
         }
-        total += size;
-        k += 1;
+        total += *size;
     }
     total == window.literals
 }
@@ -120,10 +102,7 @@ pub fn window_ok(sizes: &[u32], learnt: &[i32], window: Window, variables: &[i32
     requires { (v ≤ 1024) × (2 * v ≤ length variables.now) }
     ensures { Decides result (WindowRule v (places sizes.now learnt.now window)) }
 {
-    if !long_ok(sizes, learnt) {
-        return false;
-    }
-    if 64 < window.clauses {
+    if !long_ok(sizes, learnt) || window.clauses > 64 {
         return false;
     }
     let mut last = [0u32; 1024];
@@ -132,38 +111,15 @@ pub fn window_ok(sizes: &[u32], learnt: &[i32], window: Window, variables: &[i32
 
 // ---- a clause kept
 
-// The sizes behind the first move down by one place.
-fn move_sizes(sizes: &mut [u32])
-    requires { 64 ≤ length sizes.old }
-    ensures { sizes.new ≡ moved_down 1 64 sizes.old }
-{
-    let mut i = 0;
-    while i < 63 {
-        sizes[i] = sizes[i + 1];
-        i += 1;
-    }
-}
-
-// The records behind the first move down by one record.
-fn move_records(learnt: &mut [i32])
-    requires { 4096 ≤ length learnt.old }
-    ensures { learnt.new ≡ moved_down 64 4096 learnt.old }
-{
-    let mut i = 0;
-    while i < 4032 {
-        learnt[i] = learnt[i + 64];
-        i += 1;
-    }
-}
-
-// The eldest leaves a window that has one, and its literals leave the total.
+// The eldest leaves a window that has one, and its literals leave the total: the sizes behind the first move down by one place, and the
+// records behind the first by one record.
 fn leave(sizes: &mut [u32], learnt: &mut [i32], window: Window) -> Window
     requires { Full (places sizes.old learnt.old window) }
     ensures { places sizes.new learnt.new result ≡ eldest_left (places sizes.old learnt.old window) }
 {
     let gone = sizes[0];
-    move_sizes(sizes);
-    move_records(learnt);
+    sizes.copy_within(1..64, 0);
+    learnt.copy_within(64..4096, 0);
     Window {
         clauses: window.clauses - 1,
         literals: window.literals - gone,
@@ -179,7 +135,7 @@ fn put(sizes: &mut [u32], learnt: &mut [i32], window: Window, row: &[i32], size:
     let k = window.clauses as usize;
     let start = 64 * k;
     sizes[k] = size;
-    slices::copy_literals(row, &mut learnt[start..start + 64]);
+    learnt[start..start + 64].copy_from_slice(row);
     Window {
         clauses: window.clauses + 1,
         literals: window.literals + size,
