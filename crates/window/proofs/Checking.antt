@@ -3,17 +3,11 @@ use Prim.Native.Nat.{ℕ, ◌+◌, ◌*◌, ◌≤◌, ◌<◌}
 use native.Mathlib.Nat.{not-suc-le-zero}
 use native.Mathlib.Omega.{arith}
 use native.Mathlib.Numerals.{add-one}
-use mathlib.Core.Path.{◌≡◌, refl, sym, ap, ◌∙◌}
-use mathlib.Core.Bool.{Bool, false, false≢true}
+use mathlib.Core.Path.{◌≡◌, refl, ap, ◌∙◌}
 use mathlib.Core.List.{List}
 use lib.ListN.{length, replicate, length-replicate}
-use lib.Dec.{eqb}
-use lib.IntN.{ℤ}
 use borrow.Author.Count.{below_more}
-use borrow.Author.Tests.{eqb-true, eqb-false}
-use Rattle.base.specs.Decide.{Decides, decides_map}
 use Rattle.base.proofs.Lists.{get_d_zeros}
-use Rattle.shape.specs.Shape.{Literals}
 use Rattle.shape.specs.Row.{Below}
 use Rattle.window.specs.Window.{Places, size_of, total_of}
 use Rattle.window.specs.Rule.{Learnable, LongWindow, WindowRule, Clauses}

@@ -1,12 +1,10 @@
 -- A table that was moved down: its length, and the places that moved. Assumes nothing.
 use Prim.Native.Nat.{ℕ, ◌+◌, ◌-◌, ◌≤◌, ◌<◌}
 use native.Mathlib.Omega.{arith}
-use mathlib.Core.Path.{◌≡◌, refl, sym, ap, subst, ◌∙◌}
-use mathlib.Core.Logic.{⊎_elim}
+use mathlib.Core.Path.{◌≡◌, ◌∙◌}
 use mathlib.Core.List.{List}
-use lib.ListN.{length, get_or, take, drop, set, length-set, length-append, length-drop, get_or-append}
-use lib.Seq.{ext_get_or, get_or-take, get_or-drop, get_or-append-add, get_or-set_same, get_or-set_other, length-take-le}
-use Rattle.base.specs.Decide.{same_or, le_or}
+use lib.ListN.{length, get_or, take, drop, length-append, length-drop, get_or-append}
+use lib.Seq.{get_or-take, get_or-drop, length-take-le}
 use Rattle.window.specs.Window.{moved_down}
 
 module _ {A : Type 0} (d : A) (step size : ℕ) (xs : List A) (le : step ≤ size) (room : size ≤ length xs) where

@@ -2,7 +2,7 @@
 use Rattle.std.proofs.Common.{arith, ◌∙◌}
 use Rattle.tables.specs.Lent.{lent}
 use Rattle.settle.specs.Steps.{standing_in}
-use Rattle.run.proofs.Running.{runs_formed, runs_callable, runs_sweepable, code_settle, code_stamp, code_failed, code_sweep, code_none}
+use Rattle.run.proofs.Running.{code_settle, code_stamp, code_failed, code_sweep, code_none}
 use Rattle.run.proofs.follow.Goals as goal
 
 pub returns-in-1 : goal.returns-in-1

@@ -1,5 +1,5 @@
 -- The round, and the comparison with what stood before it. Assumes nothing.
-use Rattle.std.proofs.Common.{refl, true, ap, sym, ◌∙◌, Bool, ◌||◌}
+use Rattle.std.proofs.Common.{refl, ap, sym, ◌∙◌, Bool, ◌||◌}
 use Rattle.tables.specs.Tables.{tables}
 use Rattle.settle.specs.Steps.{standing_in}
 use Rattle.run.specs.Run.{unchanged}
@@ -20,6 +20,6 @@ returns-else-after c =
     let left = standing_in (tables r.new.clauses r.new.literals r.new.variables r.new.times r.new.links) r.result in (
       r.ensures,
       c.same_tables-same.ensures a.st r.result a.times.now r.new.times a.links.now r.new.links refl refl
-      ∙ copies_tell c.requires.0 left c.save.ensures
-      ∙ ap (λ (b : Bool). b || unchanged stood left) (sym c.if-after.false),
+          ∙ copies_tell c.requires.0 left c.save.ensures
+          ∙ ap (λ (b : Bool). b || unchanged stood left) (sym c.if-after.false),
     )

@@ -25,7 +25,7 @@ loop-k-preserved c =
     let left = standing_in (tables x.new.clauses x.new.literals x.new.variables x.new.times x.new.links) x.result.state in
     let i = c.loop-k.invariant.1 in (
       rounding_more c.loop-k.invariant.0 c.loop-k-test.true left x.ensures.0 x.result.stop x.ensures.1 c.if-turn.false
-      (record { clauses = x.auto.clauses; literals = x.auto.literals; variables = x.auto.variables; times = x.auto.times; links = x.auto.links }),
+          (record { clauses = x.auto.clauses; literals = x.auto.literals; variables = x.auto.variables; times = x.auto.times; links = x.auto.links }),
       record { first = x.auto.kept ∙ i.first; second = x.auto.parts ∙ i.second; third = x.auto.rows ∙ i.third },
     )
 

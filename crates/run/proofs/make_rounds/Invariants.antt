@@ -1,4 +1,3 @@
-use Rattle.std.proofs.Common.{◌≡◌}
 use Rattle.state.specs.Programmes.{codes_of}
 use Rattle.tables.specs.Tables.{tables}
 use Rattle.settle.specs.Steps.{standing_in}

@@ -1,5 +1,4 @@
 -- One code more is followed, or the mark stops the round. Assumes nothing.
-use Rattle.std.proofs.Common.{arith}
 use Rattle.tables.specs.Tables.{tables}
 use Rattle.settle.specs.Steps.{standing_in}
 use Rattle.run.proofs.Rounds.{following_none, following_stops, following_more, following_done}

@@ -1,10 +1,10 @@
 -- The part of a clause as it is compared is the part that its record says. Assumes nothing.
-use Rattle.std.proofs.Common.{ℕ, ◌≡◌, ◌+◌, ◌-◌, Bool, true, false, List, ℤ, take, drop, sym, ap, ap₂, ◌∙◌}
+use Rattle.std.proofs.Common.{ℕ, ◌≡◌, ◌+◌, ◌-◌, Bool, List, ℤ, take, drop, sym, ap, ◌∙◌}
 use mathlib.Core.Bool.{not}
 use lib.Pointwise.{pointwise}
 use borrow.Author.Tests.{not-true, not-false}
 use Rattle.std.specs.Ordering.{int_eq}
-use Rattle.base.specs.Lists.{all_below, same_list}
+use Rattle.base.specs.Lists.{same_list}
 use Rattle.literal.specs.Literals.{eq_z}
 use Rattle.literal.proofs.Comparing.{literals_same}
 use Rattle.literal.proofs.Zeros.{mid}

@@ -1,5 +1,5 @@
 -- The three comparisons are those of the definition. Assumes nothing.
-use Rattle.std.proofs.Common.{◌≡◌, ◌*◌, true, take, sym, ◌∙◌}
+use Rattle.std.proofs.Common.{◌*◌, take, sym, ◌∙◌}
 use Rattle.base.proofs.Booleans.{clash}
 use Rattle.literal.proofs.Comparing.{numbers_same, literals_same}
 use Rattle.run.proofs.Unchanged.{records_differ, parts_differ, variables_tell}
@@ -10,13 +10,13 @@ pub returns-then-same_parts : goal.returns-then-same_parts
 returns-then-same_parts c = λ st st' times times' links links' ev en.
     let a = c.args in
     elim c.if-eq.branch [
-      then-eq w ↦
+      | then-eq w ↦
           c.eq-then-same_parts.ensures
           ∙ literals_same (take (2 * a.v) a.rows.now) (take (2 * a.v) a.variables.now)
           ∙ variables_tell a.v a.n a.kept.now a.clauses.now a.parts.now a.literals.now a.rows.now a.variables.now st st' times times' links links' ev en
           (sym (c.eq.ensures ∙ numbers_same (take (3 * a.n) a.kept.now) (take (3 * a.n) a.clauses.now)) ∙ w.if-eq.true)
           (sym w.same_parts.ensures ∙ sym w.value-is ∙ c.if-same_parts.true)
-    | else-eq w ↦ clash c.if-same_parts.true (w.value-is ∙ w.if-eq.false)
+      | else-eq w ↦ clash c.if-same_parts.true (w.value-is ∙ w.if-eq.false)
     ]
 
 pub returns-else-same_parts : goal.returns-else-same_parts
@@ -24,9 +24,9 @@ returns-else-same_parts c = λ st st' times times' links links' ev en.
     let a = c.args in
     c.if-same_parts.false
     ∙ elim c.if-eq.branch [
-      then-eq w ↦ parts_differ a.v a.n a.kept.now a.clauses.now a.parts.now a.literals.now a.rows.now a.variables.now st st' times times' links links' ev en
+      | then-eq w ↦ parts_differ a.v a.n a.kept.now a.clauses.now a.parts.now a.literals.now a.rows.now a.variables.now st st' times times' links links' ev en
           (sym (c.eq.ensures ∙ numbers_same (take (3 * a.n) a.kept.now) (take (3 * a.n) a.clauses.now)) ∙ w.if-eq.true)
           (sym w.same_parts.ensures ∙ sym w.value-is ∙ c.if-same_parts.false)
-    | else-eq w ↦ records_differ a.v a.n a.kept.now a.clauses.now a.parts.now a.literals.now a.rows.now a.variables.now st st' times times' links links' ev en
+      | else-eq w ↦ records_differ a.v a.n a.kept.now a.clauses.now a.parts.now a.literals.now a.rows.now a.variables.now st st' times times' links links' ev en
           (sym (c.eq.ensures ∙ numbers_same (take (3 * a.n) a.kept.now) (take (3 * a.n) a.clauses.now)) ∙ w.if-eq.false)
     ]

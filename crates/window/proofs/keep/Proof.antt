@@ -8,10 +8,6 @@ use native.Mathlib.Omega.{arith}
 use borrow.Author.Rules.{rules}
 use Rattle.window.proofs.keep.Statement.{statement}
 use Rattle.window.proofs.keep.Tie as tie
-use Rattle.window.proofs.keep.Reads as reads
-use Rattle.window.proofs.keep.Lts as lts
-use Rattle.window.proofs.leave.Reads as leave-reads
-use Rattle.window.proofs.put.Reads as put_reads
 
 leave-requires : tie.Need-leave-left-requires
 leave-requires c κs = rule_full c.requires.0.rule c.if-window-eq64.true

@@ -6,9 +6,6 @@ use Rattle.window.proofs.Checking.{none_below}
 use borrow.Author.Rules.{rules}
 use Rattle.window.proofs.newcomer_ok.Statement.{statement}
 use Rattle.window.proofs.newcomer_ok.Tie as tie
-use Rattle.window.proofs.newcomer_ok.Reads as reads
-use Rattle.window.proofs.newcomer_ok.Lts as lts
-use Rattle.window.proofs.clause_ok.Reads as clause-ok-reads
 
 slice-aggregate-clause-ok : tie.Need-slice_bounds-clause_ok-end
 slice-aggregate-clause-ok c = search rules
