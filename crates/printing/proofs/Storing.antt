@@ -3,19 +3,20 @@ use Prim.Native.Nat.{ℕ, zero, suc, ◌+◌, ◌/◌, ◌%◌, ◌^◌, ◌≤�
 use native.Mathlib.Omega.{arith}
 use native.Mathlib.Numerals.{add-one}
 use native.Mathlib.Nat.{add-zero}
-use mathlib.Core.Path.{◌≡◌, refl, sym, ap, ◌∙◌}
+use mathlib.Core.Path.{◌≡◌, refl, sym, ap, subst, ◌∙◌}
 use mathlib.Core.Bool.{Bool, true, false}
 use mathlib.Core.List.{List, [], ◌∷◌, ◌++◌}
 use mathlib.Core.Logic.{⊎_elim}
-use lib.ListN.{length, get_or, take, drop, set, length-append, length-set, drop_of_length-le}
-use lib.Seq.{sets, length-sets, sets-eq, take_at, drop-cons}
+use lib.ListN.{length, get_or, take, drop, set, length-append, drop_of_length-le}
+use lib.Seq.{sets, sets-eq, take_at, drop-cons}
 use lib.IntN.{ℤ, pos, nat_abs}
 use lib.Signed.{non_neg}
 use lib.Dec.{ltb}
 use borrow.Author.Tests.{lt-ltb, le-ltb, ltb-false}
 use Rattle.base.specs.Decide.{le_or}
 use Rattle.dimacs.specs.Header.{p_cnf}
-use Rattle.printing.specs.Stored.{Stored}
+use Rattle.printing.specs.Stored.{Stored, Wrote}
+use Rattle.printing.specs.declared.Writer.{Writer}
 use Rattle.printing.specs.Printing.{digits_by, digits, literal_text, clause_text, line_text, header_text, refused_word, refused_line}
 
 pub sets_append : (l : List ℕ) (i : ℕ) (xs ys : List ℕ) → sets l i (xs ++ ys) ≡ sets (sets l i xs) (i + length xs) ys
@@ -51,80 +52,12 @@ digits_more n h =
 pub digits_length : (n : ℕ) → 10 ≤ n → length (digits n) ≡ length (digits (n / 10)) + 1
 digits_length n h = ap length (digits_more n h) ∙ length-append (digits (n / 10)) ((48 + n % 10) ∷ [])
 
-pub digits_stored : (l : List ℕ) (at n : ℕ) → 10 ≤ n → set (sets l at (digits (n / 10))) (at + length (digits (n / 10))) (48 + n % 10) ≡ sets l at (digits n)
-digits_stored l at n h = sym (ap (sets l at) (digits_more n h) ∙ sets_append l at (digits (n / 10)) ((48 + n % 10) ∷ []))
-
 -- ---- literals and clauses
 pub text_neg : (l : ℤ) → non_neg l ≡ false → literal_text l ≡ 45 ∷ digits (nat_abs l)
 text_neg l e = rw (e, literal_text)
 
 pub text_pos : (l : ℤ) → non_neg l ≡ true → literal_text l ≡ digits (nat_abs l)
 text_pos l e = rw (e, literal_text)
-
-pub stored_neg : {at p r : ℕ} {o o₁ o₂ : List ℕ} (l : ℤ) → non_neg l ≡ false → (p ≡ at + 1) × (o₁ ≡ set o at 45)
-    → (r ≡ p + length (digits (nat_abs l))) × (o₂ ≡ sets o₁ p (digits (nat_abs l))) → Stored (literal_text l) at o o₂ r
-stored_neg {at} {p} {r} {o} {o₁} {o₂} l e a b =
-    let ds : List ℕ = digits (nat_abs l) in
-    let q : p ≡ suc at = a.0 ∙ add-one at in
-    record {
-      next = b.0 ∙ omega (arith, a.0, ap length (text_neg l e));
-      stored = b.1 ∙ (λ i. sets (a.1 i) (q i) ds) ∙ ap (sets o at) (sym (text_neg l e));
-    }
-
-pub stored_pos : {at r : ℕ} {o o₂ : List ℕ} (l : ℤ) → non_neg l ≡ true → (r ≡ at + length (digits (nat_abs l))) × (o₂ ≡ sets o at (digits (nat_abs l))) → Stored (literal_text l) at o o₂ r
-stored_pos {at} {r} {o} {o₂} l e b = record { next = b.0 ∙ omega (arith, ap length (text_pos l e)); stored = b.1 ∙ ap (sets o at) (sym (text_pos l e)) }
-
--- the literals from i on are still to be written, from `next` on
-pub record Storing (clause : List ℤ) (at : ℕ) (out₀ : List ℕ) (i next : ℕ) (out : List ℕ) : Type 0 where
-  pub left : sets out next (clause_text (drop i clause)) ≡ sets out₀ at (clause_text clause)
-  pub size : next + length (clause_text (drop i clause)) ≡ at + length (clause_text clause)
-  pub same : length out ≡ length out₀
-
-clause_cons : (clause : List ℤ) (i : ℕ) → i < length clause → clause_text (drop i clause) ≡ literal_text (get_or clause i (pos 0)) ++ (32 ∷ clause_text (drop (i + 1) clause))
-unfolding clause_text
-clause_cons clause i h = rw (drop-cons clause i (pos 0) h, add-one i)
-
-pub storing_room : {clause : List ℤ} {at : ℕ} {out₀ : List ℕ} {i next : ℕ} {out : List ℕ} → Storing clause at out₀ i next out → i < length clause
-    → at + length (clause_text clause) < 2 ^ 63 → next + length (literal_text (get_or clause i (pos 0))) + 1 < 2 ^ 63
-storing_room {clause} {at} {out₀} {i} {next} {out} s h k =
-    let w : List ℕ = literal_text (get_or clause i (pos 0)) in
-    omega (arith, s.size, ap length (clause_cons clause i h), length-append w (32 ∷ clause_text (drop (i + 1) clause)))
-
-pub storing_step : {clause : List ℤ} {at : ℕ} {out₀ : List ℕ} {i next next₁ next₂ : ℕ} {out out₁ out₂ : List ℕ} → Storing clause at out₀ i next out → i < length clause
-    → Stored (literal_text (get_or clause i (pos 0))) next out out₁ next₁ → (next₂ ≡ next₁ + 1) × (out₂ ≡ set out₁ next₁ 32) → Storing clause at out₀ (i + 1) next₂ out₂
-storing_step {clause} {at} {out₀} {i} {next} {next₁} {next₂} {out} {out₁} {out₂} s h a b =
-    let w : List ℕ = literal_text (get_or clause i (pos 0)) in
-    let rest : List ℕ = clause_text (drop (i + 1) clause) in
-    let q : next₂ ≡ suc (next + length w) = b.0 ∙ add-one next₁ ∙ ap suc a.next in
-    record {
-      left = (λ j. sets (b.1 j) (q j) rest) ∙ (λ j. sets (set (a.stored j) (a.next j) 32) (suc (next + length w)) rest)
-          ∙ sym (sets_append out next w (32 ∷ rest)) ∙ ap (sets out next) (sym (clause_cons clause i h)) ∙ s.left;
-      size = omega (arith, q, s.size, ap length (clause_cons clause i h), length-append w (32 ∷ rest));
-      same = ap length b.1 ∙ length-set out₁ next₁ 32 ∙ ap length a.stored ∙ length-sets out next w ∙ s.same;
-    }
-
-pub storing_end : {clause : List ℤ} {at : ℕ} {out₀ : List ℕ} {i next next₁ next₂ : ℕ} {out out₁ out₂ : List ℕ} → Storing clause at out₀ i next out → length clause ≤ i
-    → (next₁ ≡ next + 1) × (out₁ ≡ set out next 48) → (next₂ ≡ next₁ + 1) × (out₂ ≡ set out₁ next₁ 10) → Stored (clause_text clause) at out₀ out₂ next₂
-unfolding clause_text
-storing_end {clause} {at} {out₀} {i} {next} {next₁} {next₂} {out} {out₁} {out₂} s h a b =
-    let e : clause_text (drop i clause) ≡ 48 ∷ 10 ∷ [] = ap clause_text (drop_of_length-le clause h) in
-    let q : next₁ ≡ suc next = a.0 ∙ add-one next in
-    record {
-      next = omega (arith, b.0, a.0, s.size, ap length e);
-      stored = b.1 ∙ (λ j. set (a.1 j) (q j) 10) ∙ sym (ap (sets out next) e) ∙ s.left;
-    }
-
-pub storing_two : {clause : List ℤ} {at : ℕ} {out₀ : List ℕ} {i next : ℕ} {out : List ℕ} → Storing clause at out₀ i next out → length clause ≤ i
-    → at + length (clause_text clause) < 2 ^ 63 → next + 1 < 2 ^ 63
-unfolding clause_text
-storing_two {clause} {at} {out₀} {i} {next} {out} s h k =
-    let e : clause_text (drop i clause) ≡ 48 ∷ 10 ∷ [] = ap clause_text (drop_of_length-le clause h) in
-    omega (arith, s.size, ap length e)
-
--- ---- on an empty output nothing is stored
-pub sets_nil : (i : ℕ) (xs : List ℕ) → sets [] i xs ≡ []
-sets_nil i [] = refl
-sets_nil i (x ∷ xs) = sets_nil (suc i) xs
 
 -- ---- one piece behind another
 pub stored_then : {a b : List ℕ} {at p r : ℕ} {o o₁ o₂ : List ℕ} → Stored a at o o₁ p → Stored b p o₁ o₂ r → Stored (a ++ b) at o o₂ r
@@ -133,33 +66,84 @@ stored_then {a} {b} {at} {p} {r} {o} {o₁} {o₂} s t = record {
   stored = t.stored ∙ (λ i. sets (s.stored i) (s.next i) b) ∙ sym (sets_append o at a b);
 }
 
-pub stored_byte : {at r : ℕ} {o o₁ : List ℕ} (b : ℕ) → (r ≡ at + 1) × (o₁ ≡ set o at b) → Stored (b ∷ []) at o o₁ r
-stored_byte b e = record { next = e.0; stored = e.1 }
+pub wrote_then : {a b : List ℕ} {w v u : Writer} → Wrote a w v → Wrote b v u → Wrote (a ++ b) w u
+wrote_then s t = record { bytes_stored = stored_then s.bytes_stored t.bytes_stored; same_reference = t.same_reference ∙ s.same_reference }
 
-pub stored_number : {at r : ℕ} {o o₁ : List ℕ} (n : ℕ) → (r ≡ at + length (digits n)) × (o₁ ≡ sets o at (digits n)) → Stored (digits n) at o o₁ r
-stored_number n e = record { next = e.0; stored = e.1 }
+-- equal bytes
+pub wrote_as : {a b : List ℕ} {w v : Writer} → Wrote a w v → b ≡ a → Wrote b w v
+wrote_as {a} {b} {w} {v} s e = subst (λ (bytes : List ℕ). Wrote bytes w v) (sym e) s
 
--- the bytes from i on are still to be written
-pub record Copying (s : List ℕ) (at : ℕ) (out₀ : List ℕ) (i next : ℕ) (out : List ℕ) : Type 0 where
-  pub left : sets out next (drop i s) ≡ sets out₀ at s
-  pub size : next + length (drop i s) ≡ at + length s
-  pub same : length out ≡ length out₀
+-- the writer w₀ is to write the whole, and at w the rest is still to be written
+pub record Remains (rest whole : List ℕ) (w₀ w : Writer) : Type 0 where
+  pub left : sets w.out.now w.at rest ≡ sets w₀.out.now w₀.at whole
+  pub size : w.at + length rest ≡ w₀.at + length whole
+  pub same_reference : w.out.ghost_name ≡ w₀.out.ghost_name
 
-pub copying_step : {s : List ℕ} {at : ℕ} {out₀ : List ℕ} {i next next₁ : ℕ} {out out₁ : List ℕ} → Copying s at out₀ i next out → i < length s
-    → (next₁ ≡ next + 1) × (out₁ ≡ set out next (get_or s i 0)) → Copying s at out₀ (i + 1) next₁ out₁
-copying_step {s} {at} {out₀} {i} {next} {next₁} {out} {out₁} c h b =
-    let e : drop i s ≡ get_or s i 0 ∷ drop (i + 1) s = rw (add-one i) (drop-cons s i 0 h) in
-    let q : next₁ ≡ suc next = b.0 ∙ add-one next in
-    record {
-      left = (λ j. sets (b.1 j) (q j) (drop (i + 1) s)) ∙ ap (sets out next) (sym e) ∙ c.left;
-      size = omega (arith, q, c.size, ap length e);
-      same = ap length b.1 ∙ length-set out next (get_or s i 0) ∙ c.same;
-    }
+pub remains_all : (whole : List ℕ) (w : Writer) → Remains whole whole w w
+remains_all whole w = record { left = refl; size = refl; same_reference = refl }
 
-pub copying_end : {s : List ℕ} {at : ℕ} {out₀ : List ℕ} {i next : ℕ} {out : List ℕ} → Copying s at out₀ i next out → length s ≤ i → Stored s at out₀ out next
-copying_end {s} {at} {out₀} {i} {next} {out} c h =
-    let e : drop i s ≡ [] = drop_of_length-le s h in
-    record { next = omega (arith, c.size, ap length e); stored = sym (ap (sets out next) e) ∙ c.left }
+pub remains_as : {a b whole : List ℕ} {w₀ w : Writer} → Remains a whole w₀ w → a ≡ b → Remains b whole w₀ w
+remains_as {a} {b} {whole} {w₀} {w} R e = subst (λ (rest : List ℕ). Remains rest whole w₀ w) e R
+
+pub remains_then : {a rest whole : List ℕ} {w₀ w v : Writer} → Remains (a ++ rest) whole w₀ w → Wrote a w v → Remains rest whole w₀ v
+remains_then {a} {rest} {whole} {w₀} {w} {v} R s = record {
+  left = (λ i. sets (s.bytes_stored.stored i) (s.bytes_stored.next i) rest) ∙ sym (sets_append w.out.now w.at a rest) ∙ R.left;
+  size = omega (arith, s.bytes_stored.next, R.size, length-append a rest);
+  same_reference = s.same_reference ∙ R.same_reference;
+}
+
+pub remains_none : {whole : List ℕ} {w₀ w : Writer} → Remains [] whole w₀ w → Wrote whole w₀ w
+remains_none R = record { bytes_stored = record { next = omega (arith, R.size); stored = R.left }; same_reference = R.same_reference }
+
+-- the next piece ends before the whole does
+pub remains_room : (a rest : List ℕ) {whole : List ℕ} {w₀ w : Writer} → Remains (a ++ rest) whole w₀ w → w₀.at + length whole < 2 ^ 63 → w.at + length a + length rest < 2 ^ 63
+remains_room a rest R k = omega (arith, R.size, length-append a rest)
+
+-- ---- the loop over a clause's literals
+clause_cons : (clause : List ℤ) (i : ℕ) → i < length clause → clause_text (drop i clause) ≡ literal_text (get_or clause i (pos 0)) ++ (32 ∷ clause_text (drop (i + 1) clause))
+unfolding clause_text
+clause_cons clause i h = rw (drop-cons clause i (pos 0) h, add-one i)
+
+module _ (clause : List ℤ) (i : ℕ) {w₀ w : Writer} (R : Remains (clause_text (drop i clause)) (clause_text clause) w₀ w) where
+  -- a literal, and its space
+  clause_next : i < length clause → Remains (literal_text (get_or clause i (pos 0)) ++ (32 ∷ clause_text (drop (i + 1) clause))) (clause_text clause) w₀ w
+  clause_next h = remains_as R (clause_cons clause i h)
+
+  pub clause_room : i < length clause → w₀.at + length (clause_text clause) < 2 ^ 63 → w.at + length (literal_text (get_or clause i (pos 0))) + 1 < 2 ^ 63
+  clause_room h k = omega (arith, remains_room (literal_text (get_or clause i (pos 0))) (32 ∷ clause_text (drop (i + 1) clause)) (clause_next h) k)
+
+  pub clause_step : {v u : Writer} → i < length clause → Wrote (literal_text (get_or clause i (pos 0))) w v → Wrote (32 ∷ []) v u → Remains (clause_text (drop (i + 1) clause)) (clause_text clause) w₀ u
+  clause_step h s t = remains_then (remains_then (clause_next h) s) t
+
+  -- `0` and LF
+  clause_last : length clause ≤ i → Remains (48 ∷ 10 ∷ []) (clause_text clause) w₀ w
+  unfolding clause_text
+  clause_last h = remains_as R (ap clause_text (drop_of_length-le clause h))
+
+  pub clause_room_end : length clause ≤ i → w₀.at + length (clause_text clause) < 2 ^ 63 → w.at + 1 < 2 ^ 63
+  clause_room_end h k = omega (arith, (clause_last h).size)
+
+  pub clause_end : {v u : Writer} → length clause ≤ i → Wrote (48 ∷ []) w v → Wrote (10 ∷ []) v u → Wrote (clause_text clause) w₀ u
+  clause_end h s t = remains_none (remains_then (remains_then (clause_last h) s) t)
+
+-- ---- the loop over bytes
+module _ {s : List ℕ} {i : ℕ} {w₀ w : Writer} (R : Remains (drop i s) s w₀ w) where
+  text_next : i < length s → Remains (get_or s i 0 ∷ drop (i + 1) s) s w₀ w
+  text_next h = remains_as R (rw (add-one i) (drop-cons s i 0 h))
+
+  pub text_room : i < length s → w₀.at + length s < 2 ^ 63 → w.at < 2 ^ 63
+  text_room h k = omega (arith, (text_next h).size)
+
+  pub text_step : {v : Writer} → i < length s → Wrote (get_or s i 0 ∷ []) w v → Remains (drop (i + 1) s) s w₀ v
+  text_step h t = remains_then (text_next h) t
+
+  pub text_end : length s ≤ i → Wrote s w₀ w
+  text_end h = remains_none (remains_as R (drop_of_length-le s h))
+
+-- ---- on an empty output nothing is stored
+pub sets_nil : (i : ℕ) (xs : List ℕ) → sets [] i xs ≡ []
+sets_nil i [] = refl
+sets_nil i (x ∷ xs) = sets_nil (suc i) xs
 
 pub line_length : (word : List ℕ) (a b : ℕ) → length (line_text word a b) ≡ length word + length (digits a) + 1 + length (digits b) + 1
 line_length word a b =

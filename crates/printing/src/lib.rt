@@ -1,95 +1,105 @@
-// The text of literals, clauses, the header and a refusal. A function here stores its bytes from `at` on, as far as `out` reaches, and gives the
-// place behind them; on an empty `out` it only measures.
+// The text of literals, clauses, the header and a refusal, stored by a writer.
 #![tactic(auto)]
 
-ghost use Rattle.std.specs.Prelude.{◌≡◌, ◌+◌, ◌<◌, ◌^◌, length, set};
-ghost use Rattle.std.proofs.lemmas.List.Edits.{sets};
+ghost use Rattle.std.specs.Prelude.{◌≡◌, ◌+◌, ◌<◌, ◌^◌, [], ◌∷◌, length};
 ghost use Rattle.literal.specs.Literals.{Small, EachSmall};
 ghost use Rattle.printing.specs.Printing.{digits, literal_text, clause_text, line_text, header_text, refused_line};
-ghost use Rattle.printing.specs.Stored.{Stored};
+ghost use Rattle.printing.specs.Stored.{Wrote};
 
-fn put_byte(out: &mut [u8], at: usize, b: u8) -> usize
-    requires { at < 2 ^ 63 }
-    ensures { (result ≡ at + 1) × (out.new ≡ set out.old at b) }
-{
-    if at < out.len() {
-        out[at] = b;
+// Where a text is stored: the output, and the place behind what is stored already. Past the end of the output, and on an empty output, it only
+// measures.
+#[derive(Drop)]
+pub struct Writer<'a> {
+    pub out: &'a mut [u8],
+    pub at: usize,
+}
+
+impl<'a> Writer<'a> {
+    pub fn new(out: &'a mut [u8]) -> Writer<'a>
+        ensures { (result.at ≡ 0) × (result.out.now ≡ out.old) × (result.out.ghost_name ≡ out.entry.ghost_name) }
+    {
+        Writer { out, at: 0 }
     }
-    at + 1
-}
 
-// The decimal digits of n; one call for each digit.
-fn put_number(out: &mut [u8], at: usize, n: u64) -> usize
-    requires { at + length (digits n) < 2 ^ 63 }
-    ensures { (result ≡ at + length (digits n)) × (out.new ≡ sets out.old at (digits n)) }
-{
-    if n < 10 {
-        return put_byte(out, at, b'0' + n as u8);
+    fn put_byte(&mut self, b: u8)
+        requires { self.old.at < 2 ^ 63 }
+        ensures { Wrote (b ∷ []) self.old self.new }
+    {
+        if self.at < self.out.len() {
+            self.out[self.at] = b;
+        }
+        self.at += 1;
     }
-    let next = put_number(out, at, n / 10);
-    put_byte(out, next, b'0' + (n % 10) as u8)
-}
 
-fn put_literal(out: &mut [u8], at: usize, l: i32) -> usize
-    requires { Small l × (at + length (literal_text l) < 2 ^ 63) }
-    ensures { Stored (literal_text l) at out.old out.new result }
-{
-    if l < 0 {
-        let next = put_byte(out, at, b'-');
-        return put_number(out, next, (-l) as u64);
+    // The decimal digits of n; one call for each digit.
+    fn put_number(&mut self, n: u64)
+        requires { self.old.at + length (digits n) < 2 ^ 63 }
+        ensures { Wrote (digits n) self.old self.new }
+    {
+        if n < 10 {
+            return self.put_byte(b'0' + n as u8);
+        }
+        self.put_number(n / 10);
+        self.put_byte(b'0' + (n % 10) as u8);
     }
-    put_number(out, at, l as u64)
-}
 
-// Each literal and a space, then `0` and LF. Its literals come from tables that keep the shape rule, and what is written is far shorter than 2^63 bytes.
-pub fn put_clause(out: &mut [u8], at: usize, clause: &[i32]) -> usize
-    requires { EachSmall clause.now × (at + length (clause_text clause.now) < 2 ^ 63) }
-    ensures { Stored (clause_text clause.now) at out.old out.new result }
-{
-    let mut next = at;
-    for &l in clause {
-        next = put_literal(out, next, l);
-        next = put_byte(out, next, b' ');
+    fn put_literal(&mut self, l: i32)
+        requires { Small l × (self.old.at + length (literal_text l) < 2 ^ 63) }
+        ensures { Wrote (literal_text l) self.old self.new }
+    {
+        if l < 0 {
+            self.put_byte(b'-');
+        }
+        self.put_number(l.unsigned_abs() as u64);
     }
-    next = put_byte(out, next, b'0');
-    put_byte(out, next, b'\n')
-}
 
-fn put_text(out: &mut [u8], at: usize, s: &[u8]) -> usize
-    requires { at + length s.now < 2 ^ 63 }
-    ensures { Stored s.now at out.old out.new result }
-{
-    let mut next = at;
-    for &b in s {
-        next = put_byte(out, next, b);
+    // Each literal and a space, then `0` and LF. Its literals come from tables that keep the shape rule, and what is written is far shorter than 2^63 bytes.
+    pub fn put_clause(&mut self, clause: &[i32])
+        requires { EachSmall clause.now × (self.old.at + length (clause_text clause.now) < 2 ^ 63) }
+        ensures { Wrote (clause_text clause.now) self.old self.new }
+    {
+        for &l in clause {
+            self.put_literal(l);
+            self.put_byte(b' ');
+        }
+        self.put_byte(b'0');
+        self.put_byte(b'\n');
     }
-    next
-}
 
-// A word, and two numbers with a space between them: a whole line.
-fn put_line(out: &mut [u8], at: usize, word: &[u8], a: u64, b: u64) -> usize
-    requires { at + length (line_text word.now a b) < 2 ^ 63 }
-    ensures { Stored (line_text word.now a b) at out.old out.new result }
-{
-    let first = put_text(out, at, word);
-    let space = put_number(out, first, a);
-    let second = put_byte(out, space, b' ');
-    let end = put_number(out, second, b);
-    put_byte(out, end, b'\n')
-}
+    fn put_text(&mut self, s: &[u8])
+        requires { self.old.at + length s.now < 2 ^ 63 }
+        ensures { Wrote s.now self.old self.new }
+    {
+        for &b in s {
+            self.put_byte(b);
+        }
+    }
 
-// The line `p cnf V N`. What is written is far shorter than 2^63 bytes.
-pub fn put_header(out: &mut [u8], at: usize, v: u32, n: u32) -> usize
-    requires { at + length (header_text v n) < 2 ^ 63 }
-    ensures { Stored (header_text v n) at out.old out.new result }
-{
-    put_line(out, at, b"p cnf ", v as u64, n as u64)
-}
+    // A word, and two numbers with a space between them: a whole line.
+    fn put_line(&mut self, word: &[u8], a: u64, b: u64)
+        requires { self.old.at + length (line_text word.now a b) < 2 ^ 63 }
+        ensures { Wrote (line_text word.now a b) self.old self.new }
+    {
+        self.put_text(word);
+        self.put_number(a);
+        self.put_byte(b' ');
+        self.put_number(b);
+        self.put_byte(b'\n');
+    }
 
-// The line `refused NUMBER PLACE`. It is written at the front.
-pub fn put_refusal(out: &mut [u8], at: usize, number: u64, place: u64) -> usize
-    requires { at + length (refused_line number place) < 2 ^ 63 }
-    ensures { Stored (refused_line number place) at out.old out.new result }
-{
-    put_line(out, at, b"refused ", number, place)
+    // The line `p cnf V N`. What is written is far shorter than 2^63 bytes.
+    pub fn put_header(&mut self, v: u32, n: u32)
+        requires { self.old.at + length (header_text v n) < 2 ^ 63 }
+        ensures { Wrote (header_text v n) self.old self.new }
+    {
+        self.put_line(b"p cnf ", v as u64, n as u64);
+    }
+
+    // The line `refused NUMBER PLACE`. It is written at the front.
+    pub fn put_refusal(&mut self, number: u64, place: u64)
+        requires { self.old.at + length (refused_line number place) < 2 ^ 63 }
+        ensures { Wrote (refused_line number place) self.old self.new }
+    {
+        self.put_line(b"refused ", number, place);
+    }
 }

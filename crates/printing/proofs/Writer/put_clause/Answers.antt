@@ -1,0 +1,27 @@
+-- The room for a literal and its space, and for the two bytes of the line's end, is part of the whole clause's text.
+use Rattle.std.proofs.Common.{arith}
+use Rattle.literal.proofs.Signed.{back}
+use Rattle.printing.proofs.Storing.{clause_room, clause_step, clause_room_end, clause_end}
+use Rattle.printing.proofs.Writer.put_clause.Goals as goal
+
+pub put_literal-requires : goal.put_literal-requires
+put_literal-requires c =
+    let small = c.requires.0.each c.loop-l.l-index c.loop-l-test.true in
+    rw (back small) (small, omega (arith, clause_room c.args.clause.now c.loop-l.l-index c.loop-l.invariant c.loop-l-test.true c.requires.1))
+
+pub put_byte-requires : goal.put_byte-requires
+put_byte-requires c =
+    let e = rw (back (c.requires.0.each c.loop-l.l-index c.loop-l-test.true)) at c.put_literal.ensures in
+    omega (arith, e.bytes_stored.next, clause_room c.args.clause.now c.loop-l.l-index c.loop-l.invariant c.loop-l-test.true c.requires.1)
+
+pub loop-l-preserved : goal.loop-l-preserved
+loop-l-preserved c =
+    let e = rw (back (c.requires.0.each c.loop-l.l-index c.loop-l-test.true)) at c.put_literal.ensures in
+    clause_step c.args.clause.now c.loop-l.l-index c.loop-l.invariant c.loop-l-test.true e c.put_byte.ensures
+
+pub put_byte-requires-3 : goal.put_byte-requires-3
+put_byte-requires-3 c =
+    omega (arith, c.put_byte-2.ensures.bytes_stored.next, clause_room_end c.args.clause.now c.loop-l.l-index c.loop-l.invariant c.loop-l-test.false c.requires.1)
+
+pub returns : goal.returns
+returns c = clause_end c.args.clause.now c.loop-l.l-index c.loop-l.invariant c.loop-l-test.false c.put_byte-2.ensures c.put_byte-3.ensures
