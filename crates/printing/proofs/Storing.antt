@@ -73,6 +73,13 @@ wrote_then s t = record { bytes_stored = stored_then s.bytes_stored t.bytes_stor
 pub wrote_as : {a b : List ℕ} {w v : Writer} → Wrote a w v → b ≡ a → Wrote b w v
 wrote_as {a} {b} {w} {v} s e = subst (λ (bytes : List ℕ). Wrote bytes w v) (sym e) s
 
+-- what a writer at the front wrote is stored in the output that it leaves
+pub stored_anew : {bytes out out' : List ℕ} {w v : Writer} → w.at ≡ 0 → w.out.now ≡ out → Wrote bytes w v → out' ≡ v.out.now → Stored bytes 0 out out' v.at
+stored_anew {bytes} a o s e = record {
+  next = s.bytes_stored.next ∙ ap (λ (k : ℕ). k + length bytes) a;
+  stored = e ∙ s.bytes_stored.stored ∙ (λ i. sets (o i) (a i) bytes);
+}
+
 -- the writer w₀ is to write the whole, and at w the rest is still to be written
 pub record Remains (rest whole : List ℕ) (w₀ w : Writer) : Type 0 where
   pub left : sets w.out.now w.at rest ≡ sets w₀.out.now w₀.at whole

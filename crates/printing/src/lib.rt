@@ -16,7 +16,9 @@ pub struct Writer<'a> {
 
 impl<'a> Writer<'a> {
     pub fn new(out: &'a mut [u8]) -> Writer<'a>
-        ensures { (result.at ≡ 0) × (result.out.now ≡ out.old) × (result.out.ghost_name ≡ out.entry.ghost_name) }
+        ensures front { result.at ≡ 0 }
+        ensures output { result.out.now ≡ out.old }
+        ensures same_reference { result.out.ghost_name ≡ out.entry.ghost_name }
     {
         Writer { out, at: 0 }
     }

@@ -6,14 +6,15 @@ use mathlib.Core.Path.{◌≡◌, refl, sym, ap, ◌∙◌, subst}
 use mathlib.Core.Bool.{Bool, true, false}
 use mathlib.Core.List.{List, [], ◌∷◌, ◌++◌, append_assoc}
 use lib.ListN.{length, take, drop, length-append}
-use lib.Seq.{sets, length-sets, drop-cons}
+use lib.Seq.{drop-cons}
 use lib.IntN.{ℤ, pos, neg_ℤ, nat_abs}
 use lib.Signed.{non_neg}
 use Rattle.literal.specs.Literals.{eq_z, lit_by}
 use Rattle.tables.specs.Tables.{start_of, length_of, standing, class_of, value_of}
 use Rattle.printing.specs.Printing.{clause_text, clauses_text, header_text, text_of}
-use Rattle.printing.specs.Stored.{Stored}
-use Rattle.printing.proofs.Storing.{sets_append}
+use Rattle.printing.specs.Stored.{Wrote}
+use Rattle.printing.specs.declared.Writer.{Writer}
+use Rattle.printing.proofs.Storing.{Remains, remains_all, remains_as, remains_then, remains_none, remains_room, wrote_as}
 use Rattle.write.specs.Write.{units_of, class_clauses, standing_clauses}
 use Rattle.write.specs.Gathered.{gathered, own_value, unit_for, class_for, clause_for, unit_at, class_at, written_at}
 
@@ -125,44 +126,30 @@ class_clauses_of xs w h = ap (λ (k : ℕ). class_for k (class_of xs k)) (before
 
 -- ---- a loop that stores
 
--- records from i on are still to be written, from `next` on
-pub record Putting (f : ℕ → List (List ℤ)) (n at : ℕ) (out₀ : List ℕ) (i next : ℕ) (out : List ℕ) : Type 0 where
-  pub left : sets out next (clauses_text (gathered f (n - i) i)) ≡ sets out₀ at (clauses_text (gathered f n 0))
-  pub size : next + length (clauses_text (gathered f (n - i) i)) ≡ at + length (clauses_text (gathered f n 0))
-  pub same : length out ≡ length out₀
+-- the writer w₀ is to write what all n records give, and at w records from i on are still to be written
+pub record Putting (f : ℕ → List (List ℤ)) (n : ℕ) (w₀ : Writer) (i : ℕ) (w : Writer) : Type 0 where
+  pub remains : Remains (clauses_text (gathered f (n - i) i)) (clauses_text (gathered f n 0)) w₀ w
 
-pub putting_begin : (f : ℕ → List (List ℤ)) (n at : ℕ) (out₀ : List ℕ) → Putting f n at out₀ 0 at out₀
-putting_begin f n at out₀ = let e : n - 0 ≡ n = omega arith in record { left = rw e; size = rw e; same = refl }
+pub putting_begin : (f : ℕ → List (List ℤ)) (n : ℕ) (w : Writer) → Putting f n w 0 w
+putting_begin f n w = let e : n - 0 ≡ n = omega arith in record { remains = rw e (remains_all (clauses_text (gathered f n 0)) w) }
 
-module _ {f : ℕ → List (List ℤ)} {n at : ℕ} {out₀ : List ℕ} {i next : ℕ} {out : List ℕ} (p : Putting f n at out₀ i next out) where
-  text_cons : i < n → clauses_text (gathered f (n - i) i) ≡ clauses_text (f i) ++ clauses_text (gathered f (n - (i + 1)) (i + 1))
-  text_cons h = ap clauses_text (gathered_cons f n i h) ∙ text_append (f i) (gathered f (n - (i + 1)) (i + 1))
+module _ {f : ℕ → List (List ℤ)} {n : ℕ} {w₀ : Writer} {i : ℕ} {w : Writer} (p : Putting f n w₀ i w) where
+  putting_next : i < n → Remains (clauses_text (f i) ++ clauses_text (gathered f (n - (i + 1)) (i + 1))) (clauses_text (gathered f n 0)) w₀ w
+  putting_next h = remains_as p.remains (ap clauses_text (gathered_cons f n i h) ∙ text_append (f i) (gathered f (n - (i + 1)) (i + 1)))
 
-  pub putting_room : i < n → at + length (clauses_text (gathered f n 0)) < 2 ^ 63 → next + length (clauses_text (f i)) < 2 ^ 63
-  putting_room h k = omega (arith, p.size, ap length (text_cons h), length-append (clauses_text (f i)) (clauses_text (gathered f (n - (i + 1)) (i + 1))))
+  pub putting_room : i < n → {cs : List (List ℤ)} → f i ≡ cs → w₀.at + length (clauses_text (gathered f n 0)) < 2 ^ 63 → w.at + length (clauses_text cs) < 2 ^ 63
+  putting_room h {cs} e k =
+      omega (arith, remains_room (clauses_text (f i)) (clauses_text (gathered f (n - (i + 1)) (i + 1))) (putting_next h) k, ap (λ (ds : List (List ℤ)). length (clauses_text ds)) e)
 
-  pub putting_step : {next₁ : ℕ} {out₁ : List ℕ} → i < n → Stored (clauses_text (f i)) next out out₁ next₁ → Putting f n at out₀ (i + 1) next₁ out₁
-  putting_step {next₁} {out₁} h s =
-      let rest : List ℕ = clauses_text (gathered f (n - (i + 1)) (i + 1)) in
-      record {
-        left = (λ j. sets (s.stored j) (s.next j) rest) ∙ sym (sets_append out next (clauses_text (f i)) rest) ∙ ap (sets out next) (sym (text_cons h)) ∙ p.left;
-        size = omega (arith, s.next, p.size, ap length (text_cons h), length-append (clauses_text (f i)) rest);
-        same = ap length s.stored ∙ length-sets out next (clauses_text (f i)) ∙ p.same;
-      }
+  -- record i's clauses are cs, and j is the next record
+  pub putting_step : i < n → {cs : List (List ℤ)} → f i ≡ cs → {j : ℕ} → j ≡ i + 1 → {v : Writer} → Wrote (clauses_text cs) w v → Putting f n w₀ j v
+  putting_step h {cs} e {j} q {v} s =
+      let next : Putting f n w₀ (i + 1) v = record { remains = remains_then (putting_next h) (wrote_as s (ap clauses_text e)) } in
+      subst (λ (k : ℕ). Putting f n w₀ k v) (sym q) next
 
-  -- the same where record i's clauses are cs, and j is the next record
-  pub putting_room_as : {cs : List (List ℤ)} → f i ≡ cs → i < n → at + length (clauses_text (gathered f n 0)) < 2 ^ 63 → next + length (clauses_text cs) < 2 ^ 63
-  putting_room_as e h k = subst (λ (ds : List (List ℤ)). next + length (clauses_text ds) < 2 ^ 63) e (putting_room h k)
-
-  pub putting_step_as : {cs : List (List ℤ)} → f i ≡ cs → {j : ℕ} → j ≡ i + 1 → {next₁ : ℕ} {out₁ : List ℕ} → i < n → Stored (clauses_text cs) next out out₁ next₁ → Putting f n at out₀ j next₁ out₁
-  putting_step_as {cs} e {j} q {next₁} {out₁} h s =
-      subst (λ (k : ℕ). Putting f n at out₀ k next₁ out₁) (sym q) (putting_step h (subst (λ (ds : List (List ℤ)). Stored (clauses_text ds) next out out₁ next₁) (sym e) s))
-
-  pub putting_end : n ≤ i → Stored (clauses_text (gathered f n 0)) at out₀ out next
+  pub putting_end : n ≤ i → Wrote (clauses_text (gathered f n 0)) w₀ w
   unfolding clauses_text
-  putting_end h =
-      let e : clauses_text (gathered f (n - i) i) ≡ [] = ap clauses_text (gathered_end f n i h) in
-      record { next = omega (arith, p.size, ap length e); stored = sym (ap (sets out next) e) ∙ p.left }
+  putting_end h = remains_none (remains_as p.remains (ap clauses_text (gathered_end f n i h)))
 
 -- ---- a loop that counts
 

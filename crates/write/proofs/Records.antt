@@ -11,8 +11,9 @@ use lib.Signed.{non_neg}
 use Rattle.literal.specs.Literals.{Small, Literal, lit_by, EachSmall}
 use Rattle.literal.proofs.Signed.{eq_eq_z, ne_eq_z}
 use Rattle.printing.specs.Printing.{clause_text, clauses_text}
-use Rattle.printing.specs.Stored.{Stored}
-use Rattle.printing.proofs.Storing.{stored_then}
+use Rattle.printing.specs.Stored.{Wrote}
+use Rattle.printing.specs.declared.Writer.{Writer}
+use Rattle.printing.proofs.Storing.{wrote_then, wrote_as}
 use Rattle.write.specs.Gathered.{own_value, unit_for, class_for, clause_for}
 
 pub own_value_lem : (w : ℕ) (class value : ℤ) → class ≡ pos w → own_value w class value ≡ value
@@ -44,9 +45,9 @@ clause_some (suc flag) c n = refl
 
 -- ---- no clause, one clause, two clauses
 
-pub stored_none : {cs : List (List ℤ)} {at : ℕ} {o : List ℕ} → cs ≡ [] → Stored (clauses_text cs) at o o at
+pub wrote_none : {cs : List (List ℤ)} {w : Writer} → cs ≡ [] → Wrote (clauses_text cs) w w
 unfolding clauses_text
-stored_none {cs} {at} {o} e = rw e (record { next = sym (add-zero at); stored = refl })
+wrote_none {cs} {w} e = rw e (record { bytes_stored = record { next = sym (add-zero w.at); stored = refl }; same_reference = refl })
 
 one_text : (c : List ℤ) → clauses_text (c ∷ []) ≡ clause_text c
 unfolding clauses_text
@@ -60,15 +61,15 @@ module _ {cs : List (List ℤ)} {c : List ℤ} (e : cs ≡ c ∷ []) where
   pub one_length : length (clauses_text cs) ≡ length (clause_text c)
   one_length = ap length (ap clauses_text e ∙ one_text c)
 
-  pub stored_one : {at r : ℕ} {o o₁ : List ℕ} → Stored (clause_text c) at o o₁ r → Stored (clauses_text cs) at o o₁ r
-  stored_one {at} {r} {o} {o₁} s = subst (λ (t : List ℕ). Stored t at o o₁ r) (sym (ap clauses_text e ∙ one_text c)) s
+  pub wrote_one : {w v : Writer} → Wrote (clause_text c) w v → Wrote (clauses_text cs) w v
+  wrote_one s = wrote_as s (ap clauses_text e ∙ one_text c)
 
 module _ {cs : List (List ℤ)} {c d : List ℤ} (e : cs ≡ c ∷ d ∷ []) where
   pub two_length : length (clauses_text cs) ≡ length (clause_text c) + length (clause_text d)
   two_length = ap length (ap clauses_text e ∙ two_text c d) ∙ length-append (clause_text c) (clause_text d)
 
-  pub stored_two : {at p r : ℕ} {o o₁ o₂ : List ℕ} → Stored (clause_text c) at o o₁ p → Stored (clause_text d) p o₁ o₂ r → Stored (clauses_text cs) at o o₂ r
-  stored_two {at} {p} {r} {o} {o₁} {o₂} s t = subst (λ (x : List ℕ). Stored x at o o₂ r) (sym (ap clauses_text e ∙ two_text c d)) (stored_then s t)
+  pub wrote_two : {w v u : Writer} → Wrote (clause_text c) w v → Wrote (clause_text d) v u → Wrote (clauses_text cs) w u
+  wrote_two s t = wrote_as (wrote_then s t) (ap clauses_text e ∙ two_text c d)
 
 -- ---- literals that an i32 holds with their complements
 

@@ -1,7 +1,7 @@
 -- The whole text from its pieces, and into an output: all of it, or refusal 10. Assumes nothing.
 use Prim.Native.Nat.{ℕ, ◌+◌, ◌≤◌, ◌<◌}
 use native.Mathlib.Omega.{arith}
-use mathlib.Core.Path.{◌≡◌, refl, sym, ap, ◌∙◌, subst}
+use mathlib.Core.Path.{◌≡◌, refl, sym, ap, ◌∙◌}
 use mathlib.Core.Bool.{true, false}
 use mathlib.Core.List.{List, [], ◌∷◌, ◌++◌}
 use lib.ListN.{length, drop, length-append}
@@ -15,9 +15,10 @@ use Rattle.state.specs.declared.Refusal.TheVariants.{Shape, Short}
 use Rattle.tables.specs.Tables.{Tables}
 use Rattle.shape.specs.Decision.{shape_ok}
 use Rattle.printing.specs.Printing.{clause_text, clauses_text, header_text, text_of}
-use Rattle.printing.specs.Stored.{Stored}
+use Rattle.printing.specs.Stored.{Stored, Wrote}
+use Rattle.printing.specs.declared.Writer.{Writer}
 use Rattle.literal.specs.Literals.{EachSmall}
-use Rattle.printing.proofs.Storing.{stored_then, sets_nil}
+use Rattle.printing.proofs.Storing.{sets_nil, wrote_then, wrote_as}
 use Rattle.write.specs.Write.{written_clauses, write_text, after_write, text_into, write_into, write_call}
 use Rattle.write.specs.Gathered.{gathered, unit_at, class_at, written_at, formula}
 use Rattle.write.specs.Printable.{PrintableClauses, Printable}
@@ -79,8 +80,8 @@ text_marked : (t : Tables) (st : State) → st.mark ≡ true → write_text t st
 unfolding write_text clause_text clauses_text
 text_marked t st e = ap (text_of st.v) (written_marked t st e) ∙ header_then st.v ([] ∷ [])
 
-pub stored_marked : (t : Tables) (st : State) {o o₁ o₂ : List ℕ} {p r : ℕ} → st.mark ≡ true → Stored (header_text st.v 1) 0 o o₁ p → Stored (clause_text []) p o₁ o₂ r → Stored (write_text t st) 0 o o₂ r
-stored_marked t st {o} {o₁} {o₂} {p} {r} e a b = subst (λ (s : List ℕ). Stored s 0 o o₂ r) (sym (text_marked t st e)) (stored_then a b)
+pub wrote_marked : (t : Tables) (st : State) {w v u : Writer} → st.mark ≡ true → Wrote (header_text st.v 1) w v → Wrote (clause_text []) v u → Wrote (write_text t st) w u
+wrote_marked t st e a b = wrote_as (wrote_then a b) (text_marked t st e)
 
 module _ (t : Tables) (st : State) (R : Printable t.clauses t.literals t.variables st.v st.n) where
   abbrev units : List (List ℤ)
@@ -99,11 +100,10 @@ module _ (t : Tables) (st : State) (R : Printable t.clauses t.literals t.variabl
       ap (text_of st.v) (written_unmarked t st e R) ∙ header_then st.v (formula t.clauses t.literals t.variables st.v st.n)
       ∙ (λ i. header_text st.v (sym k i) ++ (text_append units (classes ++ standing) ∙ ap (λ (s : List ℕ). clauses_text units ++ s) (text_append classes standing)) i)
 
-  pub stored_unmarked : {count : ℕ} {o o₁ o₂ o₃ o₄ : List ℕ} {p₁ p₂ p₃ r : ℕ} → st.mark ≡ false → count ≡ length (formula t.clauses t.literals t.variables st.v st.n)
-      → Stored (header_text st.v count) 0 o o₁ p₁ → Stored (clauses_text units) p₁ o₁ o₂ p₂ → Stored (clauses_text classes) p₂ o₂ o₃ p₃ → Stored (clauses_text standing) p₃ o₃ o₄ r
-      → Stored (write_text t st) 0 o o₄ r
-  stored_unmarked {count} {o} {o₁} {o₂} {o₃} {o₄} {p₁} {p₂} {p₃} {r} e k a b c d =
-      subst (λ (s : List ℕ). Stored s 0 o o₄ r) (sym (text_unmarked count e k)) (stored_then a (stored_then b (stored_then c d)))
+  pub wrote_unmarked : {count : ℕ} {w₀ w₁ w₂ w₃ w₄ : Writer} → st.mark ≡ false → count ≡ length (formula t.clauses t.literals t.variables st.v st.n)
+      → Wrote (header_text st.v count) w₀ w₁ → Wrote (clauses_text units) w₁ w₂ → Wrote (clauses_text classes) w₂ w₃ → Wrote (clauses_text standing) w₃ w₄
+      → Wrote (write_text t st) w₀ w₄
+  wrote_unmarked {count} e k a b c d = wrote_as (wrote_then a (wrote_then b (wrote_then c d))) (text_unmarked count e k)
 
 -- ---- measured on an empty part of the output, then written
 

@@ -1,5 +1,4 @@
-// Writing what stands as text. A function `put_..` stores its bytes from `at` on, as far as `out` reaches, and gives the place behind
-// them; on an empty `out` it only measures. So the text is measured and written by the same functions.
+// Writing what stands as text. On an empty output the functions only measure, so the text is measured and written by the same functions.
 #![tactic(auto)]
 
 ghost use Rattle.std.specs.Prelude.{◌≡◌, ℕ, ◌+◌, ◌*◌, ◌≤◌, ◌<◌, ◌^◌, List, length, take, drop, ℤ};
@@ -8,12 +7,12 @@ ghost use Rattle.literal.specs.Literals.{Literal, lit_by, EachSmall};
 ghost use Rattle.tables.specs.Tables.{class_of, value_of};
 ghost use Rattle.tables.specs.Lent.{lent};
 ghost use Rattle.printing.specs.Printing.{clauses_text};
-ghost use Rattle.printing.specs.Stored.{Stored};
+ghost use Rattle.printing.specs.Stored.{Stored, Wrote};
 ghost use Rattle.write.specs.Write.{write_text, after_write, write_into, write_call};
 ghost use Rattle.write.specs.Gathered.{gathered, own_value, unit_for, class_for, clause_for, unit_at, class_at, written_at, formula};
 ghost use Rattle.write.specs.Printable.{PrintableClauses, Printable};
 
-use printing::{put_clause, put_header};
+use printing::Writer;
 use state::{Answer, Refusal, State};
 
 // ---- what one record gives
@@ -38,90 +37,70 @@ fn literal_of(w: usize, value: i32) -> i32
 }
 
 // The unit of variable w, if it has a value.
-fn put_unit(out: &mut [u8], at: usize, w: usize, value: i32) -> usize
-    requires { (w ≤ 1024) × (at + length (clauses_text (unit_for w value)) < 2 ^ 63) }
-    ensures { Stored (clauses_text (unit_for w value)) at out.old out.new result }
+fn put_unit(writer: &mut Writer<'_>, w: usize, value: i32)
+    requires { (w ≤ 1024) × (writer.old.at + length (clauses_text (unit_for w value)) < 2 ^ 63) }
+    ensures { Wrote (clauses_text (unit_for w value)) writer.old writer.new }
 {
-    if value == 0 {
-        return at;
+    if value != 0 {
+        writer.put_clause(&[literal_of(w, value)]);
     }
-    let unit = [literal_of(w, value)];
-    put_clause(out, at, &unit)
 }
 
 // The two clauses of variable w, if its class is another literal: together they say that the variable equals its class.
-fn put_class(out: &mut [u8], at: usize, w: usize, class: i32) -> usize
-    requires { (w ≤ 1024) × Literal w class × (at + length (clauses_text (class_for w class)) < 2 ^ 63) }
-    ensures { Stored (clauses_text (class_for w class)) at out.old out.new result }
+fn put_class(writer: &mut Writer<'_>, w: usize, class: i32)
+    requires { (w ≤ 1024) × Literal w class × (writer.old.at + length (clauses_text (class_for w class)) < 2 ^ 63) }
+    ensures { Wrote (clauses_text (class_for w class)) writer.old writer.new }
 {
     let l = w as i32;
-    if class == l {
-        return at;
+    if class != l {
+        writer.put_clause(&[l, -class]);
+        writer.put_clause(&[-l, class]);
     }
-    let first = [l, -class];
-    let next = put_clause(out, at, &first);
-    let second = [-l, class];
-    put_clause(out, next, &second)
 }
 
 // A clause, if it stands.
-fn put_if_standing(
-    out: &mut [u8],
-    at: usize,
-    literals: &[i32],
-    start: usize,
-    len: usize,
-    flag: u32,
-) -> usize
-    requires { (start + len ≤ 16384) × (16384 ≤ length literals.now) × EachSmall (take len (drop start literals.now)) × (at + length (clauses_text (clause_for flag (take len (drop start literals.now)))) < 2 ^ 63) }
-    ensures { Stored (clauses_text (clause_for flag (take len (drop start literals.now)))) at out.old out.new result }
+fn put_if_standing(writer: &mut Writer<'_>, literals: &[i32], start: usize, len: usize, flag: u32)
+    requires { (start + len ≤ 16384) × (16384 ≤ length literals.now) × EachSmall (take len (drop start literals.now)) × (writer.old.at + length (clauses_text (clause_for flag (take len (drop start literals.now)))) < 2 ^ 63) }
+    ensures { Wrote (clauses_text (clause_for flag (take len (drop start literals.now)))) writer.old writer.new }
 {
-    if flag == 0 {
-        return at;
+    if flag != 0 {
+        writer.put_clause(&literals[start..start + len]);
     }
-    let end = start + len;
-    put_clause(out, at, &literals[start..end])
 }
 
 // ---- what all records give
 
 // A unit for each value of a variable that is its own class, by rising variable.
-fn put_units(out: &mut [u8], at: usize, variables: &[i32], v: usize) -> usize
-    requires { (v ≤ 1024) × (2 * v ≤ length variables.now) × (at + length (clauses_text (gathered (unit_at variables.now) v 0)) < 2 ^ 63) }
-    ensures { Stored (clauses_text (gathered (unit_at variables.now) v 0)) at out.old out.new result }
+fn put_units(writer: &mut Writer<'_>, variables: &[i32], v: usize)
+    requires { (v ≤ 1024) × (2 * v ≤ length variables.now) × (writer.old.at + length (clauses_text (gathered (unit_at variables.now) v 0)) < 2 ^ 63) }
+    ensures { Wrote (clauses_text (gathered (unit_at variables.now) v 0)) writer.old writer.new }
 {
-    let mut next = at;
     for w in 1..=v {
-        next = put_unit(out, next, w, own_value(variables, w));
+        put_unit(writer, w, own_value(variables, w));
     }
-    next
 }
 
 // Two clauses for each class that is another literal, by rising variable.
-fn put_classes(out: &mut [u8], at: usize, variables: &[i32], v: usize) -> usize
-    requires { (v ≤ 1024) × (2 * v ≤ length variables.now) × ((w : ℕ) → w < v → Literal (w + 1) (class_of variables.now (w + 1))) × (at + length (clauses_text (gathered (class_at variables.now) v 0)) < 2 ^ 63) }
-    ensures { Stored (clauses_text (gathered (class_at variables.now) v 0)) at out.old out.new result }
+fn put_classes(writer: &mut Writer<'_>, variables: &[i32], v: usize)
+    requires { (v ≤ 1024) × (2 * v ≤ length variables.now) × ((w : ℕ) → w < v → Literal (w + 1) (class_of variables.now (w + 1))) × (writer.old.at + length (clauses_text (gathered (class_at variables.now) v 0)) < 2 ^ 63) }
+    ensures { Wrote (clauses_text (gathered (class_at variables.now) v 0)) writer.old writer.new }
 {
-    let mut next = at;
     for w in 1..=v {
-        next = put_class(out, next, w, variables[2 * w - 2]);
+        put_class(writer, w, variables[2 * w - 2]);
     }
-    next
 }
 
 // The clauses that stand, by rising number.
-fn put_standing(out: &mut [u8], at: usize, clauses: &[u32], literals: &[i32], n: usize) -> usize
-    requires { PrintableClauses clauses.now literals.now n × (at + length (clauses_text (gathered (written_at clauses.now literals.now) n 0)) < 2 ^ 63) }
-    ensures { Stored (clauses_text (gathered (written_at clauses.now literals.now) n 0)) at out.old out.new result }
+fn put_standing(writer: &mut Writer<'_>, clauses: &[u32], literals: &[i32], n: usize)
+    requires { PrintableClauses clauses.now literals.now n × (writer.old.at + length (clauses_text (gathered (written_at clauses.now literals.now) n 0)) < 2 ^ 63) }
+    ensures { Wrote (clauses_text (gathered (written_at clauses.now literals.now) n 0)) writer.old writer.new }
 {
-    let mut next = at;
     for i in 0..n {
         let start = clauses[3 * i] as usize;
         let len = clauses[3 * i + 1] as usize;
         let flag = clauses[3 * i + 2];
-        next = put_if_standing(out, next, literals, start, len, flag);
+        put_if_standing(writer, literals, start, len, flag);
     }
-    next
 }
 
 // ---- how many clauses they give: the header says it, and comes before them
@@ -177,7 +156,7 @@ fn count_clauses(clauses: &[u32], variables: &[i32], v: usize, n: usize) -> u32
     units + classes + count_standing(clauses, n)
 }
 
-// The header and the clauses; under the mark the empty clause is the only one.
+// The header and the clauses, from the front of the output on; how long they are. Under the mark the empty clause is the only one.
 fn put_formula(
     out: &mut [u8],
     clauses: &[u32],
@@ -188,18 +167,19 @@ fn put_formula(
     requires { Printable clauses.now literals.now variables.now st.v st.n }
     ensures { (times : List ℕ) (links : List ℤ) → Stored (write_text (lent clauses.now literals.now variables.now times links) st) 0 out.old out.new result }
 {
+    let mut writer = Writer::new(out);
     if st.mark {
-        let none = 0;
-        let next = put_header(out, 0, st.v, 1);
-        return put_clause(out, next, &literals[..none]);
+        writer.put_header(st.v, 1);
+        writer.put_clause(&[]);
+        return writer.at;
     }
     let v = st.v as usize;
     let n = st.n as usize;
-    let count = count_clauses(clauses, variables, v, n);
-    let units = put_header(out, 0, st.v, count);
-    let classes = put_units(out, units, variables, v);
-    let standing = put_classes(out, classes, variables, v);
-    put_standing(out, standing, clauses, literals, n)
+    writer.put_header(st.v, count_clauses(clauses, variables, v, n));
+    put_units(&mut writer, variables, v);
+    put_classes(&mut writer, variables, v);
+    put_standing(&mut writer, clauses, literals, n);
+    writer.at
 }
 
 // Write for tables and a state that are known to be as the shape rule has them: the text, or refusal 10 with the length needed.
@@ -214,13 +194,11 @@ fn write_text(
     ensures { (times : List ℕ) (links : List ℤ) → after_write result out.new ≡ write_into (write_text (lent clauses.now literals.now variables.now times links) st) out.old }
 {
     // measured first, on an empty part of the output, so that a refused call stores nothing
-    let none = 0;
-    let needed = put_formula(&mut out[..none], clauses, literals, variables, st);
+    let needed = put_formula(&mut out[..0], clauses, literals, variables, st);
     if out.len() < needed {
         return Answer::Refused(Refusal::Short(needed));
     }
-    let written = put_formula(out, clauses, literals, variables, st);
-    Answer::Written(written)
+    Answer::Written(put_formula(out, clauses, literals, variables, st))
 }
 
 // The call: refusal 1 unless the shape rule holds, then as `write_text`.

@@ -2,26 +2,26 @@ use Rattle.std.proofs.Common.{arith, ◌≡◌, ◌*◌, ◌-◌, ◌+◌, subst
 use Rattle.literal.specs.Literals.{Literal}
 use Rattle.literal.proofs.Signed.{read}
 use Rattle.tables.specs.Tables.{class_of}
-use Rattle.write.proofs.Gathering.{class_clauses_of, putting_room_as, putting_step_as, putting_end}
+use Rattle.write.proofs.Gathering.{class_clauses_of, putting_room, putting_step, putting_end}
 use Rattle.write.proofs.put_classes.Goals as goal
 
-pub put_class-next-requires : goal.put_class-next-requires
-put_class-next-requires c =
+pub put_class-requires : goal.put_class-requires
+put_class-requires c =
     let w = c.loop-w.w in
     let xs = c.args.variables.now in
     let e : w - 1 + 1 ≡ w = omega arith in
     rw (read xs (2 * w - 2) (search rules)) (
       omega arith,
       subst (λ (k : ℕ). Literal k (class_of xs k)) e (c.requires.2 (w - 1) (omega arith)),
-      putting_room_as c.loop-w.invariant (class_clauses_of xs w (omega arith)) (omega arith) c.requires.3,
+      putting_room c.loop-w.invariant (omega arith) (class_clauses_of xs w (omega arith)) c.requires.3,
     )
 
 pub loop-w-preserved : goal.loop-w-preserved
 loop-w-preserved c =
     let w = c.loop-w.w in
     let xs = c.args.variables.now in
-    let stored = rw (read xs (2 * w - 2) (search rules)) at c.put_class-next.ensures in
-    putting_step_as c.loop-w.invariant (class_clauses_of xs w (omega arith)) (omega arith) (omega arith) stored
+    let stored = rw (read xs (2 * w - 2) (search rules)) at c.put_class.ensures in
+    putting_step c.loop-w.invariant (omega arith) (class_clauses_of xs w (omega arith)) (omega arith) stored
 
 pub returns : goal.returns
 returns c = putting_end c.loop-w.invariant (omega arith)
@@ -31,5 +31,5 @@ pub returns-2 : goal.returns-2
 returns-2 c =
     let w = c.loop-w.w in
     let xs = c.args.variables.now in
-    let stored = rw (read xs (2 * w - 2) (search rules)) at c.put_class-next.ensures in
-    putting_end (putting_step_as c.loop-w.invariant (class_clauses_of xs w (omega arith)) {j = w} (omega arith) (omega arith) stored) (omega arith)
+    let stored = rw (read xs (2 * w - 2) (search rules)) at c.put_class.ensures in
+    putting_end (putting_step c.loop-w.invariant (omega arith) (class_clauses_of xs w (omega arith)) {j = w} (omega arith) stored) (omega arith)

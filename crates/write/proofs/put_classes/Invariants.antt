@@ -5,4 +5,4 @@ use Rattle.write.proofs.Gathering.{Putting}
 use Rattle.write.proofs.put_classes.Given as goal
 
 abbrev pub invariant-loop-w : goal.invariant-loop-w
-invariant-loop-w l = Putting (class_at l.variables) l.v l.fn.at l.fn.out (l.w - 1) l.next l.out
+invariant-loop-w l = Putting (class_at l.variables) l.v l.fn.writer (l.w - 1) l.writer

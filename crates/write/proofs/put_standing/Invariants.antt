@@ -4,4 +4,4 @@ use Rattle.write.proofs.Gathering.{Putting}
 use Rattle.write.proofs.put_standing.Given as goal
 
 abbrev pub invariant-loop-i : goal.invariant-loop-i
-invariant-loop-i l = Putting (written_at l.clauses l.literals) l.n l.fn.at l.fn.out l.i l.next l.out
+invariant-loop-i l = Putting (written_at l.clauses l.literals) l.n l.fn.writer l.i l.writer
