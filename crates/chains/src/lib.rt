@@ -5,10 +5,12 @@ ghost use Rattle.std.specs.Prelude.{◌≡◌, ◌+◌, ◌≤◌, ◌<◌, ◌^
 ghost use Rattle.literal.specs.Literals.{slot_of};
 ghost use Rattle.stamps.specs.Fresh.{parent_in};
 ghost use Rattle.printing.specs.Printing.{clause_text, clauses_text};
-ghost use Rattle.printing.specs.Stored.{Stored};
+ghost use Rattle.printing.specs.Stored.{Stored, Wrote};
 ghost use Rattle.write.specs.Gathered.{gathered};
 ghost use Rattle.chains.specs.Chains.{ends, chain_of, chain_at};
 ghost use Rattle.chains.specs.Climbing.{Climbable, Parented, Chained};
+
+use printing::Writer;
 
 // The two ends of a chain: the interval of `top` holds that of `bottom`.
 #[derive(Clone, Copy)]
@@ -42,13 +44,13 @@ fn climb(links: &[i32], top: i32, bottom: i32, row: &mut [i32]) -> usize
 }
 
 // The line of one chain. What is written is far shorter than 2^63 bytes.
-fn put_chain(out: &mut [u8], at: usize, links: &[i32], top: i32, bottom: i32) -> usize
-    requires { Climbable links.now (ends top bottom) × (at + length (clause_text (chain_of links.now (ends top bottom))) < 2 ^ 63) }
-    ensures { Stored (clause_text (chain_of links.now (ends top bottom))) at out.old out.new result }
+fn put_chain(writer: &mut Writer<'_>, links: &[i32], top: i32, bottom: i32)
+    requires { Climbable links.now (ends top bottom) × (writer.old.at + length (clause_text (chain_of links.now (ends top bottom))) < 2 ^ 63) }
+    ensures { Wrote (clause_text (chain_of links.now (ends top bottom))) writer.old writer.new }
 {
     let mut row = [0i32; 2048];
     let begin = climb(links, top, bottom, &mut row);
-    printing::put_clause(out, at, &row[begin..])
+    writer.put_clause(&row[begin..]);
 }
 
 // The lines of n chains, whose ends stand in `ends` one pair behind the other; returns how long they are. On an empty `out` they are only measured.
@@ -56,9 +58,9 @@ pub fn put_chains(out: &mut [u8], links: &[i32], ends: &[i32], n: usize) -> usiz
     requires { Chained links.now ends.now n }
     ensures { Stored (clauses_text (gathered (chain_at links.now ends.now) n 0)) 0 out.old out.new result }
 {
-    let mut next = 0;
+    let mut writer = Writer::new(out);
     for k in 0..n {
-        next = put_chain(out, next, links, ends[2 * k], ends[2 * k + 1]);
+        put_chain(&mut writer, links, ends[2 * k], ends[2 * k + 1]);
     }
-    next
+    writer.at
 }

@@ -253,14 +253,12 @@ fn write_chains(links: &[i32], ends: &[i32], found: Found, out: &mut [u8]) -> An
     requires { Chained links.now ends.now found.chains }
     ensures { (why : Reasons) → Says found ends.now why → after_write result out.new ≡ explain_into links.now why out.old }
 {
-    let none = 0;
-    let needed = chains::put_chains(&mut out[..none], links, ends, found.chains);
+    let needed = chains::put_chains(&mut out[..0], links, ends, found.chains);
     if out.len() < needed {
         return Answer::Refused(Refusal::Short(needed));
     }
     let written = chains::put_chains(out, links, ends, found.chains);
-    let verdict = found.verdict;
-    Answer::Explained(verdict, found.out, written)
+    Answer::Explained(found.verdict, found.out, written)
 }
 
 fn explain_part(part: &[i32], times: &[u32], links: &[i32], out: &mut [u8]) -> Answer

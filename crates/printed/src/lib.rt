@@ -11,7 +11,7 @@ pub fn print_into(input: &[u8], out: &mut [u8]) -> usize
 {
     let is_long = 65535 < input.len();
     if is_long {
-        return printing::put_refusal(out, 0, 3, 65535);
+        return printing::put_refusal(out, 3, 65535);
     }
     let answer = simplify::simplify_text(input, 1, out);
     let number = answer.number();
@@ -19,5 +19,5 @@ pub fn print_into(input: &[u8], out: &mut [u8]) -> usize
     if number == 0 {
         return value as usize;
     }
-    printing::put_refusal(out, 0, number, value)
+    printing::put_refusal(out, number, value)
 }

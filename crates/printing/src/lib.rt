@@ -4,7 +4,7 @@
 ghost use Rattle.std.specs.Prelude.{◌≡◌, ◌+◌, ◌<◌, ◌^◌, [], ◌∷◌, length};
 ghost use Rattle.literal.specs.Literals.{Small, EachSmall};
 ghost use Rattle.printing.specs.Printing.{digits, literal_text, clause_text, line_text, header_text, refused_line};
-ghost use Rattle.printing.specs.Stored.{Wrote};
+ghost use Rattle.printing.specs.Stored.{Stored, Wrote};
 
 // Where a text is stored: the output, and the place behind what is stored already. Past the end of the output, and on an empty output, it only
 // measures.
@@ -96,12 +96,14 @@ impl<'a> Writer<'a> {
     {
         self.put_line(b"p cnf ", v as u64, n as u64);
     }
+}
 
-    // The line `refused NUMBER PLACE`. It is written at the front.
-    pub fn put_refusal(&mut self, number: u64, place: u64)
-        requires { self.old.at + length (refused_line number place) < 2 ^ 63 }
-        ensures { Wrote (refused_line number place) self.old self.new }
-    {
-        self.put_line(b"refused ", number, place);
-    }
+// The line `refused NUMBER PLACE`, from the front of the output on; how long it is.
+pub fn put_refusal(out: &mut [u8], number: u64, place: u64) -> usize
+    requires { length (refused_line number place) < 2 ^ 63 }
+    ensures { Stored (refused_line number place) 0 out.old out.new result }
+{
+    let mut writer = Writer::new(out);
+    writer.put_line(b"refused ", number, place);
+    writer.at
 }
