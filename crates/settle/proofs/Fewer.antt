@@ -1,10 +1,10 @@
 -- A Merge that finds a group and does not set the mark leaves fewer variables their own class. Of two literals that reach each other the one with the larger variable has an edge, so it stands in a clause, where it was its own class;
 -- now its class is a smaller variable. And no variable becomes its own class that was not, since a class only gets smaller. Assumes nothing.
-use Prim.Native.Nat.{ℕ, ◌+◌, ◌*◌, ◌-◌, ◌/◌, ◌%◌, ◌≤◌, ◌<◌}
+use Prim.Native.Nat.{ℕ, ◌+◌, ◌*◌, ◌/◌, ◌%◌, ◌≤◌, ◌<◌}
 use native.Mathlib.Omega.{arith}
 use mathlib.Core.Path.{◌≡◌, refl, sym, ap, subst, ◌∙◌}
 use mathlib.Core.Bool.{Bool, true, false, false≢true}
-use mathlib.Core.Logic.{◌⊎◌, ⊎_elim}
+use mathlib.Core.Logic.{⊎_elim}
 use mathlib.Core.List.{List}
 use lib.IntN.{ℤ, pos, nat_abs}
 use Rattle.base.specs.Decide.{same_or, le_or}

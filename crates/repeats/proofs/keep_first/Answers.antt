@@ -6,7 +6,7 @@ use borrow.Author.Tests.{eq-eqb, ne_eqb}
 use Rattle.literal.specs.Literals.{Literal}
 use Rattle.repeats.specs.Marks.{mark_of}
 use Rattle.repeats.proofs.Marks.{mark_inside, literal_small, literal_turned, literal_read, other_read}
-use Rattle.repeats.proofs.Keeping.{keeping_none, keeping_is, behind, same_size, unread, at_hand, marks_size, says_new, says_kept, says_either, keeping_repeat, keeping_new, all_kept}
+use Rattle.repeats.proofs.Keeping.{keeping_is, behind, same_size, unread, at_hand, marks_size, says_new, says_kept, says_either, keeping_repeat, keeping_new}
 use Rattle.repeats.proofs.keep_first.Goals as goal
 use Rattle.repeats.proofs.keep_first.Goals.{then-is_new, then-marks-other-eq1, else-marks-other-eq1, else-is_new}
 

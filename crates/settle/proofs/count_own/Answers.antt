@@ -21,8 +21,8 @@ loop-w-preserved c =
     let K = counting_class c.requires c.loop-w.invariant c.loop-w-test.true in
     let is : c.slot_of-slot.result ≡ slot_of (get_or c.args.variables.now (2 * w) (pos 0)) = c.slot_of-slot.ensures ∙ ap slot_of (back K.1) in
     elim c.if-slot-at.branch [
-      then-slot-at e ↦ subst (λ (n : ℕ). Counting c.args.v c.args.variables.now n (w + 1)) (sym e.count-is) (counting_in c.requires c.loop-w.invariant c.loop-w-test.true (sym is ∙ e.if-slot-at.true))
-    | else-slot-at e ↦ subst (λ (n : ℕ). Counting c.args.v c.args.variables.now n (w + 1)) (sym e.count-is) (counting_out c.requires c.loop-w.invariant c.loop-w-test.true (λ q. e.if-slot-at.false (is ∙ q)))
+      | then-slot-at e ↦ subst (λ (n : ℕ). Counting c.args.v c.args.variables.now n (w + 1)) (sym e.count-is) (counting_in c.requires c.loop-w.invariant c.loop-w-test.true (sym is ∙ e.if-slot-at.true))
+      | else-slot-at e ↦ subst (λ (n : ℕ). Counting c.args.v c.args.variables.now n (w + 1)) (sym e.count-is) (counting_out c.requires c.loop-w.invariant c.loop-w-test.true (λ q. e.if-slot-at.false (is ∙ q)))
     ]
 
 pub returns : goal.returns
