@@ -230,10 +230,9 @@ fn round(
     requires { Runs (standing_in (handed clauses.old literals.old variables.old times.old links.old) st) × (programme.length ≤ 32) }
     ensures { standing_in (returned clauses.new literals.new variables.new times.new links.new) result ≡ round k (codes_of programme) (standing_in (lent clauses.old literals.old variables.old times.old links.old) st) }
 {
-    let codes = programme.codes;
     let count = programme.length as usize;
     let mut state = st;
-    for code in &codes[..count] {
+    for code in &programme.codes[..count] {
         state = follow(*code, k, clauses, literals, variables, times, links, state);
         if state.mark {
             return state;

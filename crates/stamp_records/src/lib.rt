@@ -60,10 +60,8 @@ fn put_record(times: &mut [u32], links: &mut [i32], i: usize, r: StampRecord)
 {
     times[2 * i] = r.discovery;
     times[2 * i + 1] = r.finish;
-    let parent = r.parent;
-    let start = r.start;
-    links[2 * i] = parent;
-    links[2 * i + 1] = start;
+    links[2 * i] = r.parent;
+    links[2 * i + 1] = r.start;
 }
 
 // The first n records, from the columns.
