@@ -97,9 +97,6 @@ module _ {times : List ℕ} {links : List ℤ} {s t x : ℕ} (C : Climbing times
   pub climbing_timed : 2 * x + 1 < length times
   climbing_timed = stamped_timed C.shared.stamped x C.below
 
-  pub climbing_child : Child links x
-  climbing_child = stamped_child C.shared.stamped x C.below
-
   twin_within : twin s < size
   twin_within = twin_below C.shared.count s C.shared.below
 

@@ -14,7 +14,7 @@ use Rattle.stamp_columns.specs.Columns.{columns}
 use Rattle.hidden.specs.Failed.{same_start, failed_slot}
 use Rattle.visits.specs.Formed.{Variables, Known}
 use Rattle.failed.specs.Failed.{Found, found, assert, failed_at, failed_from}
-use Rattle.failed.specs.Steps.{found_of, Rooted, FullStamps, Shared, Failable}
+use Rattle.failed.specs.Steps.{found_of, Rooted, FullStamps, Failable}
 use Rattle.failed.specs.declared.Tally.{Tally}
 use Rattle.failed.proofs.Climbing.{stamped_rooted, failed_below, slot_ranged}
 use Rattle.failed.proofs.Valuing.{Kept, kept_at, at_most}
@@ -33,9 +33,6 @@ module _ {vs : List ℤ} {times : List ℕ} {links : List ℤ} {w : ℕ} (F : Fa
   able_twin = stamped_rooted F.stamped (twin (2 * w)) (twin_below F.count (2 * w) first_below)
 
   module _ (same : same_start (columns times links) (2 * w) ≡ true) where
-    pub able_shared : Shared times links (2 * w)
-    able_shared = record { count = F.count; stamped = F.stamped; below = first_below; same = same }
-
     module _ (x : ℕ) (ensured : (v : ℕ) → FullStamps v times links → 2 * w < 2 * v → x ≡ failed_slot (columns times links) (2 * v) (2 * w)) where
       failed_within : x < 2 * F.count
       failed_within = subst (λ (k : ℕ). k < 2 * F.count) (sym (ensured F.count F.stamped first_below)) (failed_below F.stamped (2 * w) first_below same)

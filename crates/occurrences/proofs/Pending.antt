@@ -9,7 +9,7 @@ use lib.ListN.{length, get_or, set, length-set}
 use lib.Seq.{get_or-set_same, get_or-set_other}
 use Rattle.base.specs.Decide.{same_or, le_or}
 use Rattle.occurrences.specs.Chains.{next_of, owner_of}
-use Rattle.occurrences.specs.Pending.{Covered, WalkableChains, HasChain, PendingAll}
+use Rattle.occurrences.specs.Pending.{Covered, WalkableChains, HasChain}
 
 -- ---- one clause
 
@@ -43,15 +43,6 @@ pub record Walking (w p : ℕ) (heads places : List ℕ) (pending₀ : List Bool
   pub still : (i : ℕ) → get_or pending₀ i false ≡ true → get_or pending i false ≡ true
   pub here : (vs : List ℕ) → WalkableChains vs heads places → (q : ℕ) → p ≡ q + 1 → get_or vs q 0 ≡ w
   pub behind : (vs : List ℕ) → WalkableChains vs heads places → (q : ℕ) → get_or vs q 0 ≡ w → p ≤ q → get_or pending (owner_of places q) false ≡ true
-
-pub walking_none : {w : ℕ} {heads places : List ℕ} {pending blocks : List Bool} → HasChain w heads places pending blocks → Walking w (get_or heads w 0) heads places pending pending blocks
-walking_none {w} {heads} A = record {
-  sizes = (refl, A.room.1);
-  covered = A.covered;
-  still = λ i e. e;
-  here = λ vs W q e. W.chained.head w q A.variable.0 e;
-  behind = λ vs W q e h. absurd (omega (arith, h, W.chained.last w q A.variable.0 e));
-}
 
 module _ {w p : ℕ} {heads places : List ℕ} {pending₀ pending blocks blocks₀ : List Bool} (A : HasChain w heads places pending₀ blocks₀) (W : Walking w p heads places pending₀ pending blocks) (more : 0 < p) where
   at : p ≡ p - 1 + 1
@@ -96,6 +87,3 @@ module _ {w p : ℕ} {heads places : List ℕ} {pending₀ pending blocks blocks
           (λ (z : p ≤ q). z)
           (λ (z : q < p). absurd (omega (arith, h, X.chained.before (p - 1) q (omega (arith, y, A.variable.0)) (e ∙ sym y) (omega (arith, z, d)))))
           (le_or p q)
-
-pub walking_done : {w p : ℕ} {heads places : List ℕ} {pending₀ pending blocks : List Bool} → Walking w p heads places pending₀ pending blocks → p ≤ 0 → PendingAll w heads places pending₀ pending blocks
-walking_done W h = record { covered = W.covered; still = W.still; all = λ vs X q e. W.behind vs X q e (omega (arith, h)) }

@@ -145,11 +145,17 @@ fn clauses_ok(
     requires { (v ≤ 1024) × (n ≤ 4096) × (3 * n ≤ length clauses.now) × (16384 ≤ length literals.now) × (2 * v ≤ length variables.now) }
     ensures { Decides result (Clauses v n settled mark clauses.now literals.now variables.now) }
 {
-    if !rows_ok(clauses, n) {
-        return false;
-    }
-    let mut last = [0u32; 1024];
-    clauses_by(clauses, literals, variables, v, n, settled, mark, &mut last)
+    rows_ok(clauses, n)
+        && clauses_by(
+            clauses,
+            literals,
+            variables,
+            v,
+            n,
+            settled,
+            mark,
+            &mut [0; 1024],
+        )
 }
 
 // ---- the variables
