@@ -50,15 +50,8 @@ fn visit_clause(
     ensures { ((times : List ℕ) (links : List ℤ) → visit_of result (returned clauses.new literals.new variables.now times links)
         ≡ visit_at (merge_clause variables.now) k (lent clauses.old literals.old variables.now times links)) × (marks.new ≡ no_marks) }
 {
-    let flag = visits::flag_of(clauses, k);
-    if flag == 0 {
-        return Visited::Kept;
-    }
-    let start = visits::part_start(clauses, k);
-    let end = visits::part_end(clauses, k);
-    let seen = visit_part(&mut literals[start..end], variables, marks);
-    visits::put_record(clauses, k, seen);
-    seen
+    let mut visit = |part: &mut [i32]| visit_part(part, variables, marks);
+    visits::visit_clause(clauses, literals, k, &mut visit)
 }
 
 // The visits to the clauses from `k` on, up to clause `end`. They share the marks, which each leaves as it found them. The tables keep the shape rule: `entry::entry_of` has checked it, and the opening of Merge keeps it.

@@ -88,15 +88,8 @@ pub fn visit_clause(
     ensures { (times : List ℕ) (links : List ℤ) → visit_of result (returned clauses.new literals.new variables.new times links)
         ≡ visit_at (propagate_clause variables.old) k (lent clauses.old literals.old variables.old times links) }
 {
-    let flag = visits::flag_of(clauses, k);
-    if flag == 0 {
-        return Visited::Kept;
-    }
-    let start = visits::part_start(clauses, k);
-    let end = visits::part_end(clauses, k);
-    let seen = visit_part(&mut literals[start..end], variables);
-    visits::put_record(clauses, k, seen);
-    seen
+    let mut visit = |part: &mut [i32]| visit_part(part, variables);
+    visits::visit_clause(clauses, literals, k, &mut visit)
 }
 
 // Where the pass goes on after the visit before clause k: through the clauses again if this time changed something.

@@ -59,7 +59,7 @@ module _ {k : ℕ} {c : List ℕ} {start end : ℕ} (L : Bounds k c start end) w
   pub lent_is : (l : List ℤ) → take (end - start) (drop start l) ≡ literals_of c l k
   lent_is l = (λ i. take (L.ends i - L.starts i) (drop (L.starts i) l)) ∙ ap (λ (n : ℕ). take n (drop (start_of c k) l)) (mid (start_of c k) (length_of c k))
 
-  back_is : (l q : List ℤ) → take start l ++ (q ++ drop (end - start) (drop start l)) ≡ replaced (start_of c k) (length_of c k) q l
+  pub back_is : (l q : List ℤ) → take start l ++ (q ++ drop (end - start) (drop start l)) ≡ replaced (start_of c k) (length_of c k) q l
   back_is l q = (λ i. take (L.starts i) l ++ (q ++ drop (L.ends i - L.starts i) (drop (L.starts i) l))) ∙ put_part (start_of c k) (length_of c k) l q q refl
 
   -- THE LAW: what the functions of a visit have said of the part, the variables and the record is the visit
@@ -76,6 +76,26 @@ module _ {k : ℕ} {c : List ℕ} {start end : ℕ} (L : Bounds k c start end) w
         ∙ ap (λ (C : List ℤ). visit_of (part_after (rule C) C).visited (tables (record_after k (part_after (rule C) C).visited c) (replaced (start_of c k) (length_of c k) (part_after (rule C) C).part l) (variables_after (rule C) w) times links)) (lent_is l)
         ∙ fated k c l w times links inside (rule (literals_of c l k))
         ∙ ap (λ (f : Fate). visit_by k f (tables c l w times links)) (sym (fate_standing rule k (tables c l w times links) stands))
+
+-- the same by the clause itself, with its part put back
+module _ (k : ℕ) (c : List ℕ) (l w : List ℤ) (inside : start_of c k + length_of c k ≤ length l) (rule : List ℤ → Fate) (stands : standing c k ≡ 0 → ⊥) (r : Visited) (c' : List ℕ) (l' q w' : List ℤ) where
+  abbrev now : List ℤ
+  now = literals_of c l k
+
+  pub visited_is : part_of r q ≡ part_after (rule now) now → w' ≡ variables_after (rule now) w → c' ≡ record_after k r c → l' ≡ take (start_of c k) l ++ (q ++ drop (start_of c k + length_of c k) l)
+      → (times : List ℕ) (links : List ℤ) → visit_of r (tables c' l' w' times links) ≡ visit_at rule k (tables c l w times links)
+  unfolding visit_at
+  visited_is part values records places times links =
+      (λ i. visit_of r (tables (records i) (places i) (values i) times links))
+      ∙ ap (λ (x : Part). visit_of x.visited (tables (record_after k x.visited c) (replaced (start_of c k) (length_of c k) x.part l) (variables_after (rule now) w) times links)) part
+      ∙ fated k c l w times links inside (rule now)
+      ∙ ap (λ (f : Fate). visit_by k f (tables c l w times links)) (sym (fate_standing rule k (tables c l w times links) stands))
+
+-- and of a dropped clause, which nothing changes
+pub visited_gone : (k : ℕ) (c : List ℕ) (l w : List ℤ) (rule : List ℤ → Fate) → standing c k ≡ 0 → (r : Visited) (c' : List ℕ) (l' w' : List ℤ) → r ≡ Kept → c' ≡ c → l' ≡ l → w' ≡ w
+    → (times : List ℕ) (links : List ℤ) → visit_of r (tables c' l' w' times links) ≡ visit_at rule k (tables c l w times links)
+visited_gone k c l w rule z r c' l' w' answer records places values times links =
+    (λ i. visit_of (answer i) (tables (records i) (places i) (values i) times links)) ∙ visit_none rule k (tables c l w times links) z
 
 -- ---- what a clause that is to be visited has
 

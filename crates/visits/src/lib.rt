@@ -1,9 +1,11 @@
 // Classes and values of literals, and the clauses in the tables: what the passes that visit clauses share.
 #![tactic(auto)]
 
-ghost use Rattle.std.specs.Prelude.{◌≡◌, ◌*◌, ◌-◌, ◌≤◌, min, ℕ, ◌+◌, ◌<◌, take, length, set, List, ℤ};
+ghost use Rattle.std.specs.Prelude.{◌≡◌, ◌*◌, ◌-◌, ◌≤◌, min, ℕ, ◌+◌, ◌<◌, ◌++◌, take, drop, length, set, List, ℤ};
+ghost use Rattle.std.specs.Fn.{Takes, CalledAtMut};
+ghost use denote.Ref.{MutBor};
 ghost use Rattle.tables.specs.Values.{class_literal, own_truth, truth, is_true, is_false, set_true};
-ghost use Rattle.tables.specs.Clauses.{standing_count, literal_count};
+ghost use Rattle.tables.specs.Clauses.{literals_of, standing_count, literal_count};
 ghost use Rattle.visits.specs.Formed.{Known, Counted, EachKnown};
 ghost use Rattle.base.specs.Lists.{any};
 ghost use Rattle.tables.specs.Lent.{lent};
@@ -12,6 +14,7 @@ ghost use Rattle.tables.specs.Tables.{Tables, start_of, length_of, standing};
 ghost use Rattle.tables.specs.Calls.{after};
 ghost use Rattle.visits.specs.Settled.{Asked};
 ghost use Rattle.visits.specs.Visited.{Placed, record_after, stands_at};
+ghost use Rattle.visits.specs.declared.Visited.TheVariants.{Kept};
 
 use state::{Answer, Counts, Outcome, Pass, State};
 
@@ -132,6 +135,31 @@ pub fn put_record(clauses: &mut [u32], k: usize, seen: Visited)
         Visited::Dropped | Visited::MadeTrue(_) => drop_record(clauses, k),
         Visited::Conflict => set_length(clauses, k, 0),
     }
+}
+
+// A visit to clause k: `visit` gets its part of the literal table, and the record is put by what it answers. A dropped clause has no part, and its visit changes nothing.
+// The closure is lent and not given: so its caller knows what it holds after the call.
+pub fn visit_clause<F: FnMut(&mut [i32]) -> Visited>(
+    clauses: &mut [u32],
+    literals: &mut [i32],
+    k: usize,
+    visit: &mut F,
+) -> Visited
+    requires placed { Placed k clauses.old }
+    requires inside { start_of clauses.old k + length_of clauses.old k ≤ length literals.old }
+    requires callable { (part : MutBor (List ℤ)) → part.now ≡ literals_of clauses.old literals.old k → Takes F.FnMut visit.old (part, tt) }
+    ensures gone { standing clauses.old k ≡ 0 → (result ≡ Kept) × (clauses.new ≡ clauses.old) × (literals.new ≡ literals.old) × (visit.new ≡ visit.old) }
+    ensures seen { (standing clauses.old k ≡ 0 → ⊥) → (part : List ℤ) × CalledAtMut F.FnMut visit.old (literals_of clauses.old literals.old k) result visit.new part × (clauses.new ≡ record_after k result clauses.old)
+        × (literals.new ≡ take (start_of clauses.old k) literals.old ++ (part ++ drop (start_of clauses.old k + length_of clauses.old k) literals.old)) }
+{
+    if flag_of(clauses, k) == 0 {
+        return Visited::Kept;
+    }
+    let start = part_start(clauses, k);
+    let end = part_end(clauses, k);
+    let seen = visit(&mut literals[start..end]);
+    put_record(clauses, k, seen);
+    seen
 }
 
 // ---- counts

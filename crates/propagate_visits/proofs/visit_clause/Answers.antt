@@ -1,24 +1,38 @@
 -- `propagate_visits::visit_clause` meets its contract. Assumes nothing.
-use Rattle.std.proofs.Common.{◌≡◌, arith}
-use Rattle.tables.specs.Tables.{tables, standing}
-use Rattle.visits.proofs.Composing.{visit_none, Bounds, visit_is, visitable_inside, lent_short, lent_known}
+use Rattle.std.proofs.Common.{◌≡◌, ◌≤◌, inl, inr, arith, rules, subst, sym, length}
+use Rattle.base.specs.Decide.{zero_or}
+use Rattle.tables.specs.Tables.{standing}
+use Rattle.tables.specs.Clauses.{literals_of}
+use Rattle.visits.specs.Formed.{EachKnown}
+use Rattle.visits.specs.Visited.{part_of, part_after, variables_after}
+use Rattle.visits.proofs.Forming.{clause_known, part_short}
+use Rattle.visits.proofs.Composing.{visited_gone, visited_is, visitable_inside}
 use Rattle.propagate_visits.specs.Visits.{propagate_clause}
 use Rattle.propagate_visits.proofs.visit_clause.Goals as goal
 
-pub returns-then-flag-eq0 : goal.returns-then-flag-eq0
-returns-then-flag-eq0 c = λ times links. let a = c.args in visit_none (propagate_clause a.variables.now) a.k (tables a.clauses.now a.literals.now a.variables.now times links) (let z : standing a.clauses.now a.k ≡ 0 = omega arith in z)
+pub visit_clause-requires-clause-callable : goal.visit_clause-requires-clause-callable
+visit_clause-requires-clause-callable c = λ p is.
+    let R = c.requires in
+    let known : EachKnown c.args.variables.now p.now = subst (EachKnown c.args.variables.now) (sym is) (clause_known R.formed c.args.k R.below) in
+    let short : length p.now ≤ 16384 = rw is (part_short R.formed c.args.k R.below) in
+    search rules
 
-pub visit_part-seen-requires : goal.visit_part-seen-requires
-visit_part-seen-requires c =
-    let b : Bounds c.args.k c.args.clauses.now c.part_start-start.result c.part_end-end.result = record { starts = c.part_start-start.ensures; ends = c.part_end-end.ensures } in
-    (lent_known c.requires b, lent_short c.requires b)
-
--- a clause that the test has let through stands
 pub returns : goal.returns
 returns c =
     let a = c.args in
-    let v = c.visit_part-seen in
-    let r = c.put_record in
-    let b : Bounds a.k a.clauses.now c.part_start-start.result c.part_end-end.result = record { starts = c.part_start-start.ensures; ends = c.part_end-end.ensures } in
-    visit_is b a.literals.now a.variables.now (visitable_inside c.requires) (propagate_clause a.variables.now) (λ e. omega (arith, e)) v.result r.new.clauses v.new.part v.new.variables
-    v.ensures.0 v.ensures.1 r.ensures
+    let w = a.variables.now in
+    let v = c.visit_clause in
+    let now = literals_of a.clauses.now a.literals.now a.k in
+    elim (zero_or (standing a.clauses.now a.k)) [
+      | inl z ↦
+          let same = v.ensures.gone z in
+          visited_gone a.k a.clauses.now a.literals.now w (propagate_clause w) z v.result v.new.clauses v.new.literals _ same.0 same.1 same.2 (search rules)
+      | inr h ↦
+          let it = v.ensures.seen (λ e. omega (arith, e, h)) in
+          let at = it.1 in
+          let said : part_of v.result at.left.now ≡ part_after (propagate_clause w at.shown.now) at.shown.now = search rules in
+          let part : part_of v.result it.0 ≡ part_after (propagate_clause w now) now = cc in
+          let shown : v.new.visit.0.now ≡ variables_after (propagate_clause w at.shown.now) w = search rules in
+          let values : v.new.visit.0.now ≡ variables_after (propagate_clause w now) w = cc in
+          visited_is a.k a.clauses.now a.literals.now w (visitable_inside c.requires) (propagate_clause w) (λ e. omega (arith, e, h)) v.result v.new.clauses v.new.literals it.0 _ part (search rules) it.2 it.3
+    ]
