@@ -9,8 +9,7 @@ use mathlib.Core.List.{List, [], ◌∷◌, ◌++◌}
 use mathlib.Core.Logic.{⊎_elim}
 use lib.ListN.{length, get_or, take, drop, set, length-append, drop_of_length-le}
 use lib.Seq.{sets, sets-eq, take_at, drop-cons}
-use lib.IntN.{ℤ, pos, nat_abs}
-use lib.Signed.{non_neg}
+use lib.IntN.{ℤ, pos}
 use lib.Dec.{ltb}
 use borrow.Author.Tests.{lt-ltb, le-ltb, ltb-false}
 use Rattle.base.specs.Decide.{le_or}
@@ -52,22 +51,15 @@ digits_more n h =
 pub digits_length : (n : ℕ) → 10 ≤ n → length (digits n) ≡ length (digits (n / 10)) + 1
 digits_length n h = ap length (digits_more n h) ∙ length-append (digits (n / 10)) ((48 + n % 10) ∷ [])
 
--- ---- literals and clauses
-pub text_neg : (l : ℤ) → non_neg l ≡ false → literal_text l ≡ 45 ∷ digits (nat_abs l)
-text_neg l e = rw (e, literal_text)
-
-pub text_pos : (l : ℤ) → non_neg l ≡ true → literal_text l ≡ digits (nat_abs l)
-text_pos l e = rw (e, literal_text)
-
 -- ---- one piece behind another
-pub stored_then : {a b : List ℕ} {at p r : ℕ} {o o₁ o₂ : List ℕ} → Stored a at o o₁ p → Stored b p o₁ o₂ r → Stored (a ++ b) at o o₂ r
-stored_then {a} {b} {at} {p} {r} {o} {o₁} {o₂} s t = record {
-  next = omega (arith, s.next, t.next, length-append a b);
-  stored = t.stored ∙ (λ i. sets (s.stored i) (s.next i) b) ∙ sym (sets_append o at a b);
-}
-
 pub wrote_then : {a b : List ℕ} {w v u : Writer} → Wrote a w v → Wrote b v u → Wrote (a ++ b) w u
-wrote_then s t = record { bytes_stored = stored_then s.bytes_stored t.bytes_stored; same_reference = t.same_reference ∙ s.same_reference }
+wrote_then {a} {b} {w} s t = record {
+  bytes_stored = record {
+    next = omega (arith, s.bytes_stored.next, t.bytes_stored.next, length-append a b);
+    stored = t.bytes_stored.stored ∙ (λ i. sets (s.bytes_stored.stored i) (s.bytes_stored.next i) b) ∙ sym (sets_append w.out.now w.at a b);
+  };
+  same_reference = t.same_reference ∙ s.same_reference;
+}
 
 -- equal bytes
 pub wrote_as : {a b : List ℕ} {w v : Writer} → Wrote a w v → b ≡ a → Wrote b w v
@@ -85,9 +77,6 @@ pub record Remains (rest whole : List ℕ) (w₀ w : Writer) : Type 0 where
   pub left : sets w.out.now w.at rest ≡ sets w₀.out.now w₀.at whole
   pub size : w.at + length rest ≡ w₀.at + length whole
   pub same_reference : w.out.ghost_name ≡ w₀.out.ghost_name
-
-pub remains_all : (whole : List ℕ) (w : Writer) → Remains whole whole w w
-remains_all whole w = record { left = refl; size = refl; same_reference = refl }
 
 pub remains_as : {a b whole : List ℕ} {w₀ w : Writer} → Remains a whole w₀ w → a ≡ b → Remains b whole w₀ w
 remains_as {a} {b} {whole} {w₀} {w} R e = subst (λ (rest : List ℕ). Remains rest whole w₀ w) e R
@@ -132,20 +121,6 @@ module _ (clause : List ℤ) (i : ℕ) {w₀ w : Writer} (R : Remains (clause_te
 
   pub clause_end : {v u : Writer} → length clause ≤ i → Wrote (48 ∷ []) w v → Wrote (10 ∷ []) v u → Wrote (clause_text clause) w₀ u
   clause_end h s t = remains_none (remains_then (remains_then (clause_last h) s) t)
-
--- ---- the loop over bytes
-module _ {s : List ℕ} {i : ℕ} {w₀ w : Writer} (R : Remains (drop i s) s w₀ w) where
-  text_next : i < length s → Remains (get_or s i 0 ∷ drop (i + 1) s) s w₀ w
-  text_next h = remains_as R (rw (add-one i) (drop-cons s i 0 h))
-
-  pub text_room : i < length s → w₀.at + length s < 2 ^ 63 → w.at < 2 ^ 63
-  text_room h k = omega (arith, (text_next h).size)
-
-  pub text_step : {v : Writer} → i < length s → Wrote (get_or s i 0 ∷ []) w v → Remains (drop (i + 1) s) s w₀ v
-  text_step h t = remains_then (text_next h) t
-
-  pub text_end : length s ≤ i → Wrote s w₀ w
-  text_end h = remains_none (remains_as R (drop_of_length-le s h))
 
 -- ---- on an empty output nothing is stored
 pub sets_nil : (i : ℕ) (xs : List ℕ) → sets [] i xs ≡ []

@@ -6,8 +6,7 @@ ghost use Rattle.literal.specs.Literals.{Small, EachSmall};
 ghost use Rattle.printing.specs.Printing.{digits, literal_text, clause_text, line_text, header_text, refused_line};
 ghost use Rattle.printing.specs.Stored.{Stored, Wrote};
 
-// Where a text is stored: the output, and the place behind what is stored already. Past the end of the output, and on an empty output, it only
-// measures.
+// Where a text is stored: the output, and the place behind what is stored already. Past the end of the output, and on an empty output, it only measures.
 #[derive(Drop)]
 pub struct Writer<'a> {
     pub out: &'a mut [u8],

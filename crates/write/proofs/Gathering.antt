@@ -14,7 +14,7 @@ use Rattle.tables.specs.Tables.{start_of, length_of, standing, class_of, value_o
 use Rattle.printing.specs.Printing.{clause_text, clauses_text, header_text, text_of}
 use Rattle.printing.specs.Stored.{Wrote}
 use Rattle.printing.specs.declared.Writer.{Writer}
-use Rattle.printing.proofs.Storing.{Remains, remains_all, remains_as, remains_then, remains_none, remains_room, wrote_as}
+use Rattle.printing.proofs.Storing.{Remains, remains_as, remains_then, remains_none, remains_room, wrote_as}
 use Rattle.write.specs.Write.{units_of, class_clauses, standing_clauses}
 use Rattle.write.specs.Gathered.{gathered, own_value, unit_for, class_for, clause_for, unit_at, class_at, written_at}
 
@@ -129,9 +129,6 @@ class_clauses_of xs w h = ap (λ (k : ℕ). class_for k (class_of xs k)) (before
 -- the writer w₀ is to write what all n records give, and at w records from i on are still to be written
 pub record Putting (f : ℕ → List (List ℤ)) (n : ℕ) (w₀ : Writer) (i : ℕ) (w : Writer) : Type 0 where
   pub remains : Remains (clauses_text (gathered f (n - i) i)) (clauses_text (gathered f n 0)) w₀ w
-
-pub putting_begin : (f : ℕ → List (List ℤ)) (n : ℕ) (w : Writer) → Putting f n w 0 w
-putting_begin f n w = let e : n - 0 ≡ n = omega arith in record { remains = rw e (remains_all (clauses_text (gathered f n 0)) w) }
 
 module _ {f : ℕ → List (List ℤ)} {n : ℕ} {w₀ : Writer} {i : ℕ} {w : Writer} (p : Putting f n w₀ i w) where
   putting_next : i < n → Remains (clauses_text (f i) ++ clauses_text (gathered f (n - (i + 1)) (i + 1))) (clauses_text (gathered f n 0)) w₀ w
