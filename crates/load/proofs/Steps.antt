@@ -5,16 +5,14 @@ use mathlib.Core.List.{List, [], ◌∷◌, ◌++◌, append_assoc}
 use lib.Dec.{eqb}
 use Prim.Native.Nat.{ℕ, zero, suc, ◌+◌, ◌-◌, ◌≤◌, ◌<◌}
 use native.Mathlib.Omega.{arith}
-use native.Mathlib.Numerals.{add-one}
-use lib.ListN.{length, take, drop, get_or, set, replicate, length-set, length-append, length-replicate}
-use lib.Seq.{drop-cons, sets, sets-eq, length-sets, length-take-le, take_at, drop_at}
+use lib.ListN.{length, take, drop, get_or, replicate, length-append, length-replicate}
+use lib.Seq.{sets, sets-eq, length-sets, length-take-le, take_at, drop_at}
 use lib.IntN.{ℤ, pos}
 use borrow.Rule.Slice.PartMut.{put_mid}
 use Rattle.literal.specs.Literals.{Literal}
 use Rattle.literal.specs.Clauses.{distinct, tautology}
 use Rattle.literal.specs.Holding.{holding}
 use Rattle.literal.specs.Ranged.{InClause}
-use Rattle.literal.proofs.Signed.{ne_eq_z}
 use Rattle.repeats.proofs.Repeats.{distinct_short, tautology_distinct}
 use Rattle.dimacs.specs.Numbers.{first_clause}
 use Rattle.load.specs.Laid.{written, kept_size, flag, put_clause_record, progress, next_clause}
@@ -27,21 +25,6 @@ pub record Collecting (ns : List ℤ) (at start : ℕ) (l₀ l : List ℤ) (i en
   pub stores : sets l end (first_clause (drop i ns)) ≡ sets l₀ start (first_clause (drop at ns))
   pub size : length l ≡ length l₀
   pub room : (start + length (first_clause (drop at ns)) ≤ length l₀) × (start + length (first_clause (drop at ns)) ≤ 16384)
-
--- a clause that begins with a literal
-clause_more : (ns : List ℤ) (i : ℕ) → i < length ns → (get_or ns i (pos 0) ≡ pos 0 → ⊥) → first_clause (drop i ns) ≡ get_or ns i (pos 0) ∷ first_clause (drop (i + 1) ns)
-clause_more ns i h n = rw (drop-cons ns i (pos 0) h, first_clause, ne_eq_z (get_or ns i (pos 0)) (pos 0) n, add-one i)
-
-module _ {ns : List ℤ} {at start : ℕ} {l₀ l : List ℤ} {i end : ℕ} (C : Collecting ns at start l₀ l i end) where
-  pub collect_more : i < length ns → (get_or ns i (pos 0) ≡ pos 0 → ⊥) → {x : ℤ} → x ≡ get_or ns i (pos 0) → Collecting ns at start l₀ (set l end x) (i + 1) (end + 1)
-  collect_more h n {x} e =
-      let m = clause_more ns i h n in
-      record {
-        ends = omega (arith, ap length m, C.ends);
-        stores = rw (add-one end, e) (ap (sets l end) (sym m) ∙ C.stores);
-        size = simp length-set C.size;
-        room = C.room;
-      }
 
 -- ---- the collected clause is lent on as a part of the literal table, and a list of the same length is put back
 module _ (c l : List ℤ) (start end : ℕ) (e : end ≡ start + length c) (room : start + length c ≤ length l) where

@@ -45,8 +45,10 @@ fn collect(numbers: &[i32], at: usize, literals: &mut [i32], start: usize) -> us
     requires { Collectable numbers.now at start (length literals.old) }
     ensures { (result ≡ start + length (first_clause (drop at numbers.now))) × (literals.new ≡ sets literals.old start (first_clause (drop at numbers.now))) }
 {
+    // behind the last number there is nothing to copy
+    let from = at.min(numbers.len());
     let mut end = start;
-    for &l in numbers.iter().skip(at) {
+    for &l in &numbers[from..] {
         if l == 0 {
             break;
         }
