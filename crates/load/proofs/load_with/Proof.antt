@@ -1,5 +1,6 @@
 -- `load::load_with` meets its contract. Assumes nothing.
 use mathlib.Core.Path.{◌∙◌}
+use borrow.Author.Tests.{not-true, not-false}
 use Rattle.tables.specs.Tables.{Tables, tables}
 use Rattle.tables.specs.Calls.{After}
 use Rattle.window.specs.Window.{Places, places}

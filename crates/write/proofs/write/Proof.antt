@@ -1,5 +1,6 @@
 -- `write::write` meets its contract. What `shape_ok` answers decides between refusal 1 and `write_text`, whose needs follow from the rule (`ready`). Assumes nothing.
 use mathlib.Core.Path.{sym, ◌∙◌}
+use borrow.Author.Tests.{not-true, not-false}
 use borrow.Author.Rules.{rules}
 use Rattle.tables.specs.Tables.{Tables, tables}
 use Rattle.shape.proofs.Reading.{shaped}
