@@ -2,12 +2,12 @@
 use Prim.Native.Nat.{ℕ, suc, ◌+◌, ◌-◌, ◌≤◌, ◌<◌}
 use native.Mathlib.Numerals.{add-one}
 use native.Mathlib.Omega.{arith}
-use mathlib.Core.Path.{◌≡◌, refl, sym, ap, subst, ◌∙◌}
+use mathlib.Core.Path.{◌≡◌, sym, ap, subst, ◌∙◌}
 use mathlib.Core.Bool.{Bool, true, false, ◌||◌}
 use mathlib.Core.List.{List, [], ◌∷◌, ◌++◌}
 use lib.Dec.{eqb}
 use lib.ListN.{length, take, drop, get_or, set, length-append, length-drop, length-replicate}
-use lib.Seq.{take-suc, take_all, length-take-le, drop-cons, get_or-append-add, get_or-drop, set_at, append_snoc}
+use lib.Seq.{take-suc, length-take-le, drop-cons, get_or-append-add, get_or-drop, set_at, append_snoc}
 use lib.IntN.{ℤ, pos, neg_ℤ}
 use Rattle.literal.specs.Literals.{Literal}
 use Rattle.literal.specs.Clauses.{has, distinct, tautology}
@@ -24,9 +24,6 @@ pub record Keeping (p₀ p : List ℤ) (marks : List ℕ) (n : ℕ) (both : Bool
   pub both_is : both ≡ tautology kept
   pub held : p ≡ kept ++ drop n p₀
   pub marks_are : marks ≡ with_mark 1 kept no_marks
-
-pub keeping_none : {p : List ℤ} {marks : List ℕ} → marks ≡ no_marks → Keeping p p marks 0 false 0
-keeping_none blank = record { within = omega arith; kept = []; kept_is = refl; count = refl; both_is = refl; held = refl; marks_are = blank }
 
 module _ {p₀ p : List ℤ} {marks : List ℕ} {n : ℕ} {both : Bool} {i : ℕ} (K : Keeping p₀ p marks n both i) where
   abbrev D : List ℤ
@@ -122,7 +119,3 @@ module _ {p₀ p : List ℤ} {marks : List ℕ} {n : ℕ} {both : Bool} {i : ℕ
           ∙ ap (λ (k : ℕ). (D ++ (x ∷ [])) ++ drop k p₀) (sym (add-one n));
       marks_are = ap (λ (l : List ℕ). set l (mark_of x) 1) K.marks_are ∙ sym (with_mark_snoc 1 D x no_marks);
     }
-
-  -- all is read
-  pub all_kept : length p ≤ i → D ≡ distinct p₀
-  all_kept h = K.kept_is ∙ ap distinct (take_all i p₀ (omega (arith, same_size)))

@@ -20,11 +20,7 @@ use Rattle.stamp.specs.Stamp.{stamp_acyclic, stamp_ordered, stamp_by, stamp_call
 use Rattle.stamp.specs.Asking.{ask_ordered, ask_of}
 use Rattle.stamp.proofs.Asking.{Known, ask_by_lem, fit_known, call_refused, call_fit}
 use Rattle.failed.specs.Failed as failing
-use Rattle.failed.specs.Steps.{Callable}
-use Rattle.failed.proofs.Calling.{granted_callable}
 use Rattle.sweep.specs.Sweep as sweeping
-use Rattle.sweep_visits.specs.Visits.{Sweepable}
-use Rattle.sweep.proofs.Entering.{entered_sweepable}
 use Rattle.settle.specs.Settle.{Standing, between, settle}
 use Rattle.round_order.specs.Order.{order_of}
 use Rattle.run.specs.Run.{follow}
@@ -52,12 +48,6 @@ module _ {w : Standing} (R : Runs w) where
 
   pub runs_formed : Formed w.state.v w.state.n w.state.n false w.tables.clauses w.tables.literals w.tables.variables
   runs_formed = entered_formed runs_entered tt
-
-  pub runs_callable : Callable w.state w.tables.variables w.tables.times w.tables.links
-  runs_callable = granted_callable w.tables w.state runs_granted
-
-  pub runs_sweepable : w.state.fresh ≡ true → Sweepable w.state.n w.tables.clauses w.tables.literals w.tables.times w.tables.links
-  runs_sweepable = entered_sweepable runs_entered tt
 
   -- ---- Stamp in a given order
 
