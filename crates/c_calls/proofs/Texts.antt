@@ -12,7 +12,7 @@ use Rattle.std.specs.Prelude.{Result, Ok, Err}
 use Rattle.state.specs.Answers.{reply_of, result_by}
 use Rattle.state.specs.declared.State.{State}
 use Rattle.state.specs.declared.Answer.{Answer}
-use Rattle.state.specs.declared.Answer.TheVariants.{Refused, Written, Explained}
+use Rattle.state.specs.declared.Answer.TheVariants.{Written, Explained}
 use Rattle.state.specs.declared.Refusal.{Refusal}
 use Rattle.state.specs.declared.Refusal.TheVariants.{Shape, Short}
 use Rattle.stamp_columns.specs.Columns.{columns}
@@ -41,10 +41,10 @@ KeepsOut call = (t : Tables) (st : State) (out : List ℕ) → KeptOut out (call
 -- ---- the calls
 
 -- a text into an output, with an answer that is no refusal
-into_keeps : (answer : ℕ → Answer) → ((n : ℕ) → (reply_of (answer n)).number ≡ 0) → (text out : List ℕ) → KeptOut out (text_into answer text out)
+into_keeps : (answer : ℕ → Answer) → ((n : ℕ) → (reply_of (Ok (answer n))).number ≡ 0) → (text out : List ℕ) → KeptOut out (text_into answer text out)
 into_keeps answer made text out = fits (leb (length text) (length out))
   where
-    fits : (b : Bool) → KeptOut out (elim b as (λ _. AfterWrite) [ true ↦ after_write (answer (length text)) (text ++ drop (length text) out) | false ↦ after_write (Refused (Short (length text))) out ])
+    fits : (b : Bool) → KeptOut out (elim b as (λ _. AfterWrite) [ true ↦ after_write (Ok (answer (length text))) (text ++ drop (length text) out) | false ↦ after_write (Err (Short (length text))) out ])
     fits true = inl (made (length text))
     fits false = inr refl
 
@@ -52,7 +52,7 @@ pub write_keeps : KeepsOut write_call
 unfolding write_call
 write_keeps t st out = by (shape_ok t st)
   where
-    by : (b : Bool) → KeptOut out (elim b as (λ _. AfterWrite) [ true ↦ write_into (write_text t st) out | false ↦ after_write (Refused Shape) out ])
+    by : (b : Bool) → KeptOut out (elim b as (λ _. AfterWrite) [ true ↦ write_into (write_text t st) out | false ↦ after_write (Err Shape) out ])
     by true = into_keeps Written (λ n. refl) (write_text t st) out
     by false = inr refl
 

@@ -344,6 +344,8 @@ pub extern "C" fn unhide_text(text: &[u8], rounds: u16, out: &mut [u8]) -> i64
     ensures value { result ≡ result_of (simplify_text text.now rounds out.old).reply }
     ensures out_after { out.new ≡ (simplify_text text.now rounds out.old).out }
 {
-    let answer = simplify::simplify_text(text, rounds, out);
-    state::result(answer.number(), answer.value())
+    match simplify::simplify_text(text, rounds, out) {
+        Ok(answer) => state::result(0, answer.value()),
+        Err(refusal) => state::result(refusal.number(), 0),
+    }
 }

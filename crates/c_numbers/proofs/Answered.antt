@@ -1,4 +1,5 @@
 -- What a reply leaves in the answer: where the call was made, where it is refused, and where the numbers cannot be read. Assumes nothing.
+use Rattle.std.specs.Prelude.{Err}
 use Prim.Native.Nat.{ℕ, zero, suc, ◌≤◌, ◌<◌}
 use mathlib.Core.Bool.{Bool, true, false}
 use mathlib.Core.Path.{◌≡◌, refl, sym, ap, ◌∙◌}
@@ -8,7 +9,6 @@ use lib.Dec.{leb}
 use lib.IntN.{pos}
 use borrow.Author.Tests.{le-leb, lt-leb}
 use Rattle.state.specs.Answers.{Reply, reply_of, first_value, result_by}
-use Rattle.state.specs.declared.Answer.TheVariants.{Refused}
 use Rattle.state.specs.declared.Refusal.TheVariants.{Shape}
 use Rattle.c_numbers.specs.StateNumbers.{put_front}
 use Rattle.c_numbers.specs.CCalls.{values_of, put_answer_by, put_answer, refuse_unread}
@@ -28,13 +28,13 @@ answer_refused r a v refused long e = one_over v a long ∙ ap (λ (x : ℕ). pu
 
 -- by whether the answer has four places
 abbrev by_length : List ℕ → Bool → List ℕ
-by_length a long = elim long [ true ↦ put_answer (reply_of (Refused Shape)) a | false ↦ a ]
+by_length a long = elim long [ true ↦ put_answer (reply_of (Err Shape)) a | false ↦ a ]
 
 pub short_stays : (a : List ℕ) → length a < 4 → a ≡ refuse_unread a
 unfolding refuse_unread
 short_stays a h = ap (by_length a) (sym (lt-leb 4 (length a) h))
 
-pub long_told : (a : List ℕ) → 4 ≤ length a → put_answer (reply_of (Refused Shape)) a ≡ refuse_unread a
+pub long_told : (a : List ℕ) → 4 ≤ length a → put_answer (reply_of (Err Shape)) a ≡ refuse_unread a
 unfolding refuse_unread
 long_told a h = ap (by_length a) (sym (le-leb 4 (length a) h))
 

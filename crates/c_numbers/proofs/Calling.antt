@@ -6,7 +6,9 @@ use mathlib.Core.List.{List}
 use lib.IntN.{ℤ}
 use Rattle.state.specs.Answers.{reply_of, result_by}
 use Rattle.state.specs.declared.State.{State}
+use Rattle.std.specs.Prelude.{Result}
 use Rattle.state.specs.declared.Answer.{Answer}
+use Rattle.state.specs.declared.Refusal.{Refusal}
 use Rattle.state.specs.declared.Outcome.{Outcome}
 use Rattle.tables.specs.Tables.{Tables}
 use Rattle.tables.specs.Calls.{After, after}
@@ -65,7 +67,7 @@ module _ (call : Tables → State → List ℕ → AfterWrite) (t : Tables) (s a
   unfolding text_c
   unread_text r left unready result answer = (λ i. after_write_c (result i) (answer i) out) ∙ ap text_by_ready (sym unready)
 
-  pub made_text : (st : State) (given : Answer) (r : ℤ) (left out' : List ℕ)
+  pub made_text : (st : State) (given : Result Answer Refusal) (r : ℤ) (left out' : List ℕ)
       → ready s a ≡ true → st ≡ state_of s → after_write given out' ≡ call t st out → r ≡ result_by (reply_of given).number 0 → left ≡ put_answer (reply_of given) a → after_write_c r left out' ≡ text_c call t s a out
   unfolding told_write
   made_text st given r left out' able read made result answer =

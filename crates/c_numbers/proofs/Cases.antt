@@ -1,4 +1,5 @@
 -- Examples of the numbers and of a call, by computation. Assumes nothing.
+use Rattle.std.specs.Prelude.{Ok, Err}
 use Prim.Native.Nat.{ℕ}
 use mathlib.Core.Path.{◌≡◌, refl}
 use mathlib.Core.Bool.{true, false}
@@ -11,7 +12,7 @@ use Rattle.state.specs.declared.State.{State}
 use Rattle.state.specs.declared.Programme.{Programme}
 use Rattle.state.specs.declared.Pass.TheVariants.{Idle, Propagate, Sweep}
 use Rattle.state.specs.declared.Counts.{Counts}
-use Rattle.state.specs.declared.Answer.TheVariants.{Refused, Loaded, Open, Ran, KeptWhole, KeptShort, NotKept, Explained}
+use Rattle.state.specs.declared.Answer.TheVariants.{Loaded, Open, Ran, KeptWhole, KeptShort, NotKept, Explained}
 use Rattle.state.specs.declared.Refusal.TheVariants.{Unsettled, Newcomer, NoClause}
 use Rattle.state.specs.declared.Verdict.TheVariants.{Nothing, Drop, Shorten}
 use Rattle.tables.specs.Tables.{Tables}
@@ -44,20 +45,20 @@ unreadable = (refl, refl, refl, refl, refl, refl, refl, refl)
 abbrev counts : Counts
 counts = record { visits = 7; clauses = 2; literals = 5 }
 
-answers : (put_answer (reply_of (Open counts)) (9 ∷ 9 ∷ 9 ∷ 9 ∷ 9 ∷ []) ≡ 7 ∷ 2 ∷ 5 ∷ 1 ∷ 9 ∷ []) × (put_answer (reply_of (Ran 3)) (9 ∷ 9 ∷ 9 ∷ 9 ∷ []) ≡ 3 ∷ 0 ∷ 0 ∷ 0 ∷ [])
-    × (put_answer (reply_of (Refused (Unsettled 6))) (9 ∷ 9 ∷ 9 ∷ 9 ∷ []) ≡ 6 ∷ 9 ∷ 9 ∷ 9 ∷ []) × (refuse_unread (9 ∷ 9 ∷ 9 ∷ 9 ∷ []) ≡ 0 ∷ 9 ∷ 9 ∷ 9 ∷ []) × (refuse_unread (9 ∷ 9 ∷ 9 ∷ []) ≡ 9 ∷ 9 ∷ 9 ∷ [])
+answers : (put_answer (reply_of (Ok (Open counts))) (9 ∷ 9 ∷ 9 ∷ 9 ∷ 9 ∷ []) ≡ 7 ∷ 2 ∷ 5 ∷ 1 ∷ 9 ∷ []) × (put_answer (reply_of (Ok (Ran 3))) (9 ∷ 9 ∷ 9 ∷ 9 ∷ []) ≡ 3 ∷ 0 ∷ 0 ∷ 0 ∷ [])
+    × (put_answer (reply_of (Err (Unsettled 6))) (9 ∷ 9 ∷ 9 ∷ 9 ∷ []) ≡ 6 ∷ 9 ∷ 9 ∷ 9 ∷ []) × (refuse_unread (9 ∷ 9 ∷ 9 ∷ 9 ∷ []) ≡ 0 ∷ 9 ∷ 9 ∷ 9 ∷ []) × (refuse_unread (9 ∷ 9 ∷ 9 ∷ []) ≡ 9 ∷ 9 ∷ 9 ∷ [])
 unfolding put_answer refuse_unread
 answers = (refl, refl, refl, refl, refl)
 
 -- a learnt clause kept whole with 3 literals, shortened to 2, dropped
-learnt : (put_answer (reply_of (KeptWhole 3)) (9 ∷ 9 ∷ 9 ∷ 9 ∷ 9 ∷ []) ≡ 0 ∷ 3 ∷ 0 ∷ 0 ∷ 9 ∷ []) × (put_answer (reply_of (KeptShort 2)) (9 ∷ 9 ∷ 9 ∷ 9 ∷ []) ≡ 2 ∷ 2 ∷ 0 ∷ 0 ∷ [])
-    × (put_answer (reply_of NotKept) (9 ∷ 9 ∷ 9 ∷ 9 ∷ []) ≡ 1 ∷ 0 ∷ 0 ∷ 0 ∷ [])
+learnt : (put_answer (reply_of (Ok (KeptWhole 3))) (9 ∷ 9 ∷ 9 ∷ 9 ∷ 9 ∷ []) ≡ 0 ∷ 3 ∷ 0 ∷ 0 ∷ 9 ∷ []) × (put_answer (reply_of (Ok (KeptShort 2))) (9 ∷ 9 ∷ 9 ∷ 9 ∷ []) ≡ 2 ∷ 2 ∷ 0 ∷ 0 ∷ [])
+    × (put_answer (reply_of (Ok NotKept)) (9 ∷ 9 ∷ 9 ∷ 9 ∷ []) ≡ 1 ∷ 0 ∷ 0 ∷ 0 ∷ [])
 unfolding put_answer
 learnt = (refl, refl, refl)
 
 -- what explain says of a clause: nothing goes; it is dropped, and its chain has 8 bytes; two literals are taken out of it, and their chains have 14. A number that is no clause's is refused (13)
-explained : (put_answer (reply_of (Explained Nothing 0 0)) (9 ∷ 9 ∷ 9 ∷ 9 ∷ 9 ∷ []) ≡ 0 ∷ 0 ∷ 0 ∷ 0 ∷ 9 ∷ []) × (put_answer (reply_of (Explained Drop 0 8)) (9 ∷ 9 ∷ 9 ∷ 9 ∷ []) ≡ 1 ∷ 0 ∷ 8 ∷ 0 ∷ [])
-    × (put_answer (reply_of (Explained Shorten 2 14)) (9 ∷ 9 ∷ 9 ∷ 9 ∷ []) ≡ 2 ∷ 2 ∷ 14 ∷ 0 ∷ []) × (put_answer (reply_of (Refused NoClause)) (9 ∷ 9 ∷ 9 ∷ 9 ∷ []) ≡ 0 ∷ 9 ∷ 9 ∷ 9 ∷ [])
+explained : (put_answer (reply_of (Ok (Explained Nothing 0 0))) (9 ∷ 9 ∷ 9 ∷ 9 ∷ 9 ∷ []) ≡ 0 ∷ 0 ∷ 0 ∷ 0 ∷ 9 ∷ []) × (put_answer (reply_of (Ok (Explained Drop 0 8))) (9 ∷ 9 ∷ 9 ∷ 9 ∷ []) ≡ 1 ∷ 0 ∷ 8 ∷ 0 ∷ [])
+    × (put_answer (reply_of (Ok (Explained Shorten 2 14))) (9 ∷ 9 ∷ 9 ∷ 9 ∷ []) ≡ 2 ∷ 2 ∷ 14 ∷ 0 ∷ []) × (put_answer (reply_of (Err NoClause)) (9 ∷ 9 ∷ 9 ∷ 9 ∷ []) ≡ 0 ∷ 9 ∷ 9 ∷ 9 ∷ [])
 unfolding put_answer
 explained = (refl, refl, refl, refl)
 

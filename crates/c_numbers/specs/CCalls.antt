@@ -2,10 +2,9 @@
 -- Numbers behind the fourth stay. The result is 0 where the call was made, else the refusal's number, negative. A refused call leaves the state and all tables as they are (law `refused-leaves`).
 -- Refusal 1 with place 0, before anything else is looked at: the state has fewer than 40 numbers, the answer fewer than 4, or the numbers are no state's (`readable`). An answer of fewer than 4 numbers keeps them all, since it cannot hold an answer.
 -- Assumes nothing: these are definitions.
-use Rattle.std.specs.Prelude.{ℕ, zero, suc, Bool, true, false, ◌&&◌, List, [], ◌∷◌, length, get_or, eqb, leb, ℤ}
+use Rattle.std.specs.Prelude.{ℕ, zero, suc, Bool, true, false, ◌&&◌, List, [], ◌∷◌, length, get_or, eqb, leb, ℤ, Err}
 use Rattle.state.specs.Answers.{Reply, reply_of, first_value, result_by}
 use Rattle.state.specs.declared.State.{State}
-use Rattle.state.specs.declared.Answer.TheVariants.{Refused}
 use Rattle.state.specs.declared.Refusal.TheVariants.{Shape}
 use Rattle.tables.specs.Tables.{Tables}
 use Rattle.tables.specs.Calls.{After}
@@ -32,7 +31,7 @@ put_answer r a = put_answer_by r.number r a
 
 -- an answer slice that is too short stays as it is
 unfoldable pub refuse_unread : List ℕ → List ℕ
-refuse_unread a = elim (leb 4 (length a)) [ true ↦ put_answer (reply_of (Refused Shape)) a | false ↦ a ]
+refuse_unread a = elim (leb 4 (length a)) [ true ↦ put_answer (reply_of (Err Shape)) a | false ↦ a ]
 
 -- ---- the calls that change the state
 

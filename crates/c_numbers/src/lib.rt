@@ -160,7 +160,7 @@ fn put_four(answer: &mut [u64], first: u64, second: u64, third: u64, fourth: u64
 // What a call that was made answers: three values of the resumable passes and of explain (the verdict, how many literals it takes out, the length), two of a learnt clause that is kept, one or none of the others. Open alone sets the fourth.
 fn put_values(answer: &mut [u64], a: Answer)
     requires { 4 ≤ length answer.old }
-    ensures { answer.new ≡ put_front (values_of (reply_of a)) answer.old }
+    ensures { answer.new ≡ put_front (values_of (reply_of (Ok a))) answer.old }
 {
     match a {
         Answer::Open(counts) => put_four(
@@ -187,17 +187,20 @@ fn put_values(answer: &mut [u64], a: Answer)
 }
 
 // What is returned: 0, or the refusal's number, negative. A refusal puts its place first, and the other three numbers stay. That the four are there, `ready` or `refuse_unread` has seen.
-pub fn put_answer(answer: &mut [u64], a: Answer) -> i64
+pub fn put_answer(answer: &mut [u64], a: Result<Answer, Refusal>) -> i64
     requires { 4 ≤ length answer.old }
     ensures { (result ≡ result_by (reply_of a).number 0) × (answer.new ≡ put_answer (reply_of a) answer.old) }
 {
-    let number = a.number();
-    if number == 0 {
-        put_values(answer, a);
-        return 0;
+    match a {
+        Ok(made) => {
+            put_values(answer, made);
+            0
+        }
+        Err(refusal) => {
+            answer[0] = refusal.place();
+            state::result(refusal.number(), 0)
+        }
     }
-    answer[0] = a.value();
-    state::result(number, 0)
 }
 
 // Refusal 1 with place 0: the state cannot be read, or the answer has fewer than four places and then stays as it is.
@@ -207,7 +210,7 @@ pub fn refuse_unread(answer: &mut [u64]) -> i64
     if answer.len() < 4 {
         return -1;
     }
-    put_answer(answer, Answer::Refused(Refusal::Shape))
+    put_answer(answer, Err(Refusal::Shape))
 }
 
 // After a call: its answer and, where it was made, the state. Both slices are long enough, as `ready` has seen.
@@ -216,7 +219,8 @@ pub fn finish(state: &mut [u32], answer: &mut [u64], outcome: Outcome) -> i64
     ensures { (t : Tables) → after_c result answer.new state.new t ≡ told (after outcome t) state.old answer.old }
 {
     let a = outcome.answer;
-    if a.number() > 0 {
+    let is_refused = a.is_err();
+    if is_refused {
         return put_answer(answer, a);
     }
     put_state(state, outcome.state);
@@ -244,13 +248,13 @@ pub fn window_at(window: &[u32]) -> Window
 }
 
 // After a call that takes the window: its numbers, where the call was made. Numbers behind the second stay.
-pub fn finish_window(window: &mut [u32], a: Answer, left: Window)
+pub fn finish_window(window: &mut [u32], a: Result<Answer, Refusal>, left: Window)
     requires { 2 ≤ length window.old }
     ensures { window.new ≡ put_window_by (reply_of a).number left window.old }
 {
-    if 0 < a.number() {
-        return;
+    let is_made = a.is_ok();
+    if is_made {
+        window[0] = left.clauses;
+        window[1] = left.literals;
     }
-    window[0] = left.clauses;
-    window[1] = left.literals;
 }

@@ -1,4 +1,5 @@
 -- What the contract of `run` says of the lent records, as the contracts of the other calls say it: after the call the tables with these records are those of the definition; a refusal leaves every record, and any call the later ones. Assumes nothing.
+use Rattle.std.specs.Prelude.{Err}
 use Prim.Native.Nat.{ℕ, ◌*◌}
 use native.Mathlib.Nat.{min-le_left}
 use native.Mathlib.Omega.{arith}
@@ -9,7 +10,6 @@ use lib.ListN.{length, take, drop, length-take}
 use Rattle.state.specs.declared.State.{State}
 use Rattle.state.specs.declared.Outcome.{Outcome}
 use Rattle.state.specs.declared.Refusal.{Refusal}
-use Rattle.state.specs.declared.Answer.TheVariants.{Refused}
 use Rattle.stamp_records.specs.declared.StampRecord.{StampRecord}
 use Rattle.stamp_records.specs.Records.{times_of, links_of, records_in}
 use Rattle.stamp_records.proofs.Over.{length_pairs}
@@ -52,5 +52,5 @@ module _ (n : ℕ) (clauses : List ℕ) (literals variables : List ℤ) (stamps 
 
 -- "A refusal .. changes nothing": the tables and the records are as they were
 pub run_refused : (r : Refusal) (clauses : List ℕ) (literals variables : List ℤ) (stamps : List StampRecord) (st : State)
-    → run_in_records (refuse r st (recorded clauses literals variables stamps)) stamps ≡ after_run (record { answer = Refused r; state = st }) clauses literals variables stamps
-run_refused r clauses literals variables stamps st = ap (after_run (record { answer = Refused r; state = st }) clauses literals variables) (packed_own stamps)
+    → run_in_records (refuse r st (recorded clauses literals variables stamps)) stamps ≡ after_run (record { answer = Err r; state = st }) clauses literals variables stamps
+run_refused r clauses literals variables stamps st = ap (after_run (record { answer = Err r; state = st }) clauses literals variables) (packed_own stamps)

@@ -14,7 +14,6 @@ use Rattle.scc.specs.Groups.{cyclic}
 use Rattle.state.specs.declared.State.{State}
 use Rattle.state.specs.declared.Outcome.{Outcome}
 use Rattle.state.specs.declared.Refusal.{Refusal}
-use Rattle.state.specs.declared.Answer.TheVariants.{Refused}
 use Rattle.stamp_records.specs.declared.StampRecord.{StampRecord}
 use Rattle.stamp_records.specs.Records.{times_of, links_of, records_in}
 use Rattle.stamp_records.proofs.Over.{length_pairs}
@@ -94,8 +93,8 @@ stamp_recorded order clauses literals variables stamps st o stamps' e = λ i. re
     links_are = packed_are.1
 
 -- "A refusal .. changes nothing": the records are as they were
-pub stamp_refused : (r : Refusal) (clauses : List ℕ) (literals variables : List ℤ) (stamps : List StampRecord) (st : State) → in_records (refuse r st (recorded clauses literals variables stamps)) stamps ≡ after_stamp (record { answer = Refused r; state = st }) stamps
-stamp_refused r clauses literals variables stamps st = ap (after_stamp (record { answer = Refused r; state = st })) (packed_own stamps)
+pub stamp_refused : (r : Refusal) (clauses : List ℕ) (literals variables : List ℤ) (stamps : List StampRecord) (st : State) → in_records (refuse r st (recorded clauses literals variables stamps)) stamps ≡ after_stamp (record { answer = Err r; state = st }) stamps
+stamp_refused r clauses literals variables stamps st = ap (after_stamp (record { answer = Err r; state = st })) (packed_own stamps)
 
 -- "extra places stay": so do the records past the 2,048th
 pub stamp_later : (order : List ℤ) (clauses : List ℕ) (literals variables : List ℤ) (stamps : List StampRecord) (st : State)

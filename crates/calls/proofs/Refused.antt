@@ -5,9 +5,8 @@ use mathlib.Core.Bool.{Bool, true, false}
 use mathlib.Core.List.{List}
 use lib.IntN.{ℤ}
 use lib.ListN.{length}
-use Rattle.std.specs.Prelude.{Result}
+use Rattle.std.specs.Prelude.{Result, Err}
 use Rattle.state.specs.declared.State.{State}
-use Rattle.state.specs.declared.Answer.TheVariants.{Refused}
 use Rattle.state.specs.declared.Refusal.{Refusal}
 use Rattle.state.specs.declared.Refusal.TheVariants.{Shape}
 use Rattle.stamp_records.specs.declared.StampRecord.{StampRecord}
@@ -47,9 +46,9 @@ module _ (t : Tables) (st : State) (short : length t.times < 4096) where
       by true = ap (λ (a : After). after_window a (emptied_by a.reply.number w)) (load_short text)
       by false = refl
 
-  pub write_short : (out : List ℕ) → write_call t st out ≡ after_write (Refused Shape) out
+  pub write_short : (out : List ℕ) → write_call t st out ≡ after_write (Err Shape) out
   unfolding write_call
-  write_short out = ap (λ (b : Bool). elim b as (λ y. AfterWrite) [ true ↦ write_into (write_text t st) out | false ↦ after_write (Refused Shape) out ]) (short_shape t short st)
+  write_short out = ap (λ (b : Bool). elim b as (λ y. AfterWrite) [ true ↦ write_into (write_text t st) out | false ↦ after_write (Err Shape) out ]) (short_shape t short st)
 
   pub propagate_short : (n : ℕ) → propagate_call n t st ≡ refuse Shape st t
   unfolding propagate_call
@@ -75,7 +74,7 @@ module _ (t : Tables) (st : State) (short : length t.times < 4096) where
   unfolding learn_call
   learn_short C w = ap (λ (b : Bool). elim b as (λ y. AfterWindow) [ true ↦ learn_ruled (window_ok st.v w) C t st w | false ↦ refuse_with Shape t st w ]) (short_shape t short st)
 
-  pub explain_short : (number : ℕ) (out : List ℕ) → explain_call number t st out ≡ after_write (Refused Shape) out
+  pub explain_short : (number : ℕ) (out : List ℕ) → explain_call number t st out ≡ after_write (Err Shape) out
   unfolding explain_call
   explain_short number out = ap (λ (e : Result (Unit {0}) Refusal). explain_opening e number t st out) (short_opening t short st)
 
@@ -91,10 +90,10 @@ module _ (clauses : List ℕ) (literals variables : List ℤ) (stamps : List Sta
   abbrev t : Tables
   t = recorded clauses literals variables stamps
 
-  pub few_refused : ((text : List ℕ) (w : Places) → load_with text t st w ≡ refuse_with Shape t st w) × ((out : List ℕ) → write_call t st out ≡ after_write (Refused Shape) out) × ((n : ℕ) → propagate_call n t st ≡ refuse Shape st t)
+  pub few_refused : ((text : List ℕ) (w : Places) → load_with text t st w ≡ refuse_with Shape t st w) × ((out : List ℕ) → write_call t st out ≡ after_write (Err Shape) out) × ((n : ℕ) → propagate_call n t st ≡ refuse Shape st t)
       × ((n : ℕ) → merge_call n t st ≡ refuse Shape st t) × ((order : List ℤ) → stamp_call order t st ≡ refuse Shape st t) × (failed_call t st ≡ refuse Shape st t) × ((n : ℕ) → sweep_call n t st ≡ refuse Shape st t)
       × ((C : List ℤ) (w : Places) → learn_call C t st w ≡ refuse_with Shape t st w) × ((n : ℕ) → run_call n t st ≡ refuse Shape st t) × ((codes : List ℕ) → set_call codes t st ≡ refuse Shape st t)
-      × ((number : ℕ) (out : List ℕ) → explain_call number t st out ≡ after_write (Refused Shape) out)
+      × ((number : ℕ) (out : List ℕ) → explain_call number t st out ≡ after_write (Err Shape) out)
   few_refused = (
     load_with_short t st short,
     write_short t st short,

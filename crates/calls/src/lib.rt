@@ -19,7 +19,7 @@ ghost use Rattle.set_programme.specs.SetProgramme.{set_call};
 ghost use Rattle.calls.specs.Calls.{recorded, after_stamp, in_records, after_run, run_in_records};
 
 use stamp_records::StampRecord;
-use state::{Answer, Outcome, State};
+use state::{Answer, Outcome, Refusal, State};
 use window::{Window, Windowed};
 
 // A load. Of the stamps only the number of records counts.
@@ -60,7 +60,7 @@ pub fn write(
     stamps: &[StampRecord],
     st: State,
     out: &mut [u8],
-) -> Answer
+) -> Result<Answer, Refusal>
     ensures { after_write result out.new ≡ write_call (recorded clauses.now literals.now variables.now stamps.now) st out.old }
 {
     let columns = stamp_records::columns_of(stamps);
@@ -84,7 +84,7 @@ pub fn explain(
     st: State,
     number: u32,
     out: &mut [u8],
-) -> Answer
+) -> Result<Answer, Refusal>
     ensures { after_write result out.new ≡ explain_call number (recorded clauses.now literals.now variables.now stamps.now) st out.old }
 {
     let columns = stamp_records::columns_of(stamps);

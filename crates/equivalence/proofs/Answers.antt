@@ -27,7 +27,7 @@ use Rattle.std.specs.Prelude.{Result, Ok, Err}
 use Rattle.dimacs.specs.declared.Header.{Header}
 
 -- a text that is refused
-refusal_returns : (r : Refusal) (out : List ℕ) → OfText r → Returns (length out) (result_of (after_write (answer.Refused r) out).reply)
+refusal_returns : (r : Refusal) (out : List ℕ) → OfText r → Returns (length out) (result_of (after_write (Err r) out).reply)
 refusal_returns r out (grammar at) = returns.grammar
 refusal_returns r out (limit at) = returns.limit
 
@@ -36,7 +36,7 @@ into_returns : (text out : List ℕ) → length text ≤ longest → Returns (le
 into_returns text out h = go (leb (length text) (length out)) refl
   where
     by : Bool → AfterWrite
-    by b = elim b [ true ↦ after_write (answer.Written (length text)) (text ++ drop (length text) out) | false ↦ after_write (answer.Refused (Short (length text))) out ]
+    by b = elim b [ true ↦ after_write (Ok (answer.Written (length text))) (text ++ drop (length text) out) | false ↦ after_write (Err (Short (length text))) out ]
 
     go : (b : Bool) → leb (length text) (length out) ≡ b → Returns (length out) (result_of (by b).reply)
     go true e = wrote (length text) (leb-true (length text) (length out) e) h

@@ -54,11 +54,11 @@ module _ (t : Tables) (L : Long t) (text : List ℕ) (count : ℕ) where
 
   -- ---- a text that is refused
 
-  pub refused_text : (r : Refusal) → judge_text text ≡ Err r → (out : List ℕ) → simplify_in t text count out ≡ after_write (answer.Refused r) out
+  pub refused_text : (r : Refusal) → judge_text text ≡ Err r → (out : List ℕ) → simplify_in t text count out ≡ after_write (Err r) out
   unfolding load_call
   refused_text r e out =
       let loads : loaded ≡ refuse r empty_state t = formula_lent (judge_text text) (text_clauses text) t empty_state L ∙ ap (λ (x : Result Header Refusal). load_by x (text_clauses text) t empty_state) e in
-      sym (refused_load (record { answer = answer.Refused r; state = empty_state }) t loaded count out (sym loads) (λ z. omega (arith, number_bounds r, z)))
+      sym (refused_load (record { answer = Err r; state = empty_state }) t loaded count out (sym loads) (λ z. omega (arith, number_bounds r, z)))
 
   -- ---- a text that is accepted
 

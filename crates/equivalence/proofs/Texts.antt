@@ -66,7 +66,7 @@ into_written : (text out : List ℕ) (k : ℕ) → result_of (write_into text ou
 into_written text out k = go (leb (length text) (length out))
   where
     by : Bool → AfterWrite
-    by b = elim b [ true ↦ after_write (Written (length text)) (text ++ drop (length text) out) | false ↦ after_write (answer.Refused (Short (length text))) out ]
+    by b = elim b [ true ↦ after_write (Ok (Written (length text))) (text ++ drop (length text) out) | false ↦ after_write (Err (Short (length text))) out ]
 
     go : (b : Bool) → result_of (by b).reply ≡ pos k → take k (by b).out ≡ text
     go true e = let size : length text ≡ k = cc in take_at text (drop (length text) out) k size

@@ -8,7 +8,6 @@ use lib.IntN.{ℤ}
 use Rattle.std.specs.Prelude.{Result, Ok, Err}
 use Rattle.state.specs.declared.State.{State}
 use Rattle.state.specs.declared.Refusal.{Refusal}
-use Rattle.state.specs.declared.Answer.TheVariants.{Refused}
 use Rattle.state.specs.declared.Refusal.TheVariants.{Stale, NoClause}
 use Rattle.tables.specs.Tables.{Tables}
 use Rattle.tables.specs.Clauses.{literals_of}
@@ -55,16 +54,16 @@ module _ {clauses : List ℕ} {literals : List ℤ} {times : List ℕ} {links : 
 -- ---- the ways of the call
 
 module _ (number : ℕ) (t : Tables) (st : State) (out : List ℕ) where
-  pub stale_refused : st.fresh ≡ false → after_write (Refused Stale) out ≡ explain_unless_stale st.fresh number t st out
+  pub stale_refused : st.fresh ≡ false → after_write (Err Stale) out ≡ explain_unless_stale st.fresh number t st out
   stale_refused e = ap (λ (b : Bool). explain_unless_stale b number t st out) (sym e)
 
-  pub none_refused : st.fresh ≡ true → stands number st.n t.clauses ≡ false → after_write (Refused NoClause) out ≡ explain_unless_stale st.fresh number t st out
+  pub none_refused : st.fresh ≡ true → stands number st.n t.clauses ≡ false → after_write (Err NoClause) out ≡ explain_unless_stale st.fresh number t st out
   none_refused f e = rw (f, e)
 
   pub clause_told : st.fresh ≡ true → stands number st.n t.clauses ≡ true → explain_literals t.times t.links (literals_of t.clauses t.literals (number - 1)) out ≡ explain_unless_stale st.fresh number t st out
   clause_told f e = rw (f, e)
 
-  pub call_refused : (r : Refusal) → opening_of t st ≡ Err r → after_write (Refused r) out ≡ explain_call number t st out
+  pub call_refused : (r : Refusal) → opening_of t st ≡ Err r → after_write (Err r) out ≡ explain_call number t st out
   unfolding explain_call
   call_refused r e = ap (λ (x : Result (Unit {0}) Refusal). explain_opening x number t st out) (sym e)
 

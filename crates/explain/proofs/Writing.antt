@@ -1,4 +1,5 @@
 -- The chains, measured and written. Assumes nothing.
+use Rattle.std.specs.Prelude.{Ok, Err}
 use Prim.Native.Nat.{ℕ, ◌≤◌, ◌<◌}
 use native.Mathlib.Omega.{arith}
 use mathlib.Core.Path.{◌≡◌, ap, subst, ◌∙◌}
@@ -6,7 +7,7 @@ use mathlib.Core.List.{List, [], ◌++◌}
 use lib.ListN.{length}
 use lib.IntN.{ℤ}
 use Rattle.stamp_columns.specs.Columns.{columns}
-use Rattle.state.specs.declared.Answer.TheVariants.{Refused, Explained}
+use Rattle.state.specs.declared.Answer.TheVariants.{Explained}
 use Rattle.state.specs.declared.Refusal.TheVariants.{Short}
 use Rattle.printing.specs.Printing.{clauses_text}
 use Rattle.printing.specs.Stored.{Stored}
@@ -30,13 +31,13 @@ module _ {f : Found} {xs : List ℤ} (why : Reasons) (S : Says f xs why) (links 
   stored : {at r : ℕ} {o o₁ : List ℕ} → Stored (clauses_text (gathered (chain_at links xs) f.chains 0)) at o o₁ r → Stored (chains_text links why) at o o₁ r
   stored {at} {r} {o} {o₁} s = subst (λ (t : List ℕ). Stored t at o o₁ r) lines s
 
-  pub chains_short_of : {e : List ℕ} {r : ℕ} (out : List ℕ) → Stored (clauses_text (gathered (chain_at links xs) f.chains 0)) 0 [] e r → length (e ++ out) < r → after_write (Refused (Short r)) (e ++ out) ≡ explain_into links why out
+  pub chains_short_of : {e : List ℕ} {r : ℕ} (out : List ℕ) → Stored (clauses_text (gathered (chain_at links xs) f.chains 0)) 0 [] e r → length (e ++ out) < r → after_write (Err (Short r)) (e ++ out) ≡ explain_into links why out
   chains_short_of out s h = too_short (Explained why.verdict why.out) out (stored s) h
 
   pub chains_written : {e o : List ℕ} {n r : ℕ} (out : List ℕ) → Stored (clauses_text (gathered (chain_at links xs) f.chains 0)) 0 [] e n → n ≤ length (e ++ out) → Stored (clauses_text (gathered (chain_at links xs) f.chains 0)) 0 (e ++ out) o r
-      → after_write (Explained f.verdict f.out r) o ≡ explain_into links why out
+      → after_write (Ok (Explained f.verdict f.out r)) o ≡ explain_into links why out
   chains_written {e} {o} {n} {r} out s h t =
-      (λ i. after_write (Explained (S.verdict i) (S.out i) r) o) ∙ fits_out (Explained why.verdict why.out) out (stored s) h (stored t)
+      (λ i. after_write (Ok (Explained (S.verdict i) (S.out i) r)) o) ∙ fits_out (Explained why.verdict why.out) out (stored s) h (stored t)
 
 -- what was found of a clause can be climbed
 pub found_chained : {times : List ℕ} {links C xs : List ℤ} {f : Found} → Clause times links C → Says f xs (reasons_of (columns times links) C) → length xs ≡ 2048 → Chained links xs f.chains

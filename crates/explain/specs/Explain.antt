@@ -3,7 +3,7 @@
 use Rattle.std.specs.Prelude.{ℕ, zero, suc, ◌-◌, Bool, true, false, List, leb, ℤ, Result, Ok, Err}
 use Rattle.stamp_columns.specs.Columns.{columns}
 use Rattle.state.specs.declared.State.{State}
-use Rattle.state.specs.declared.Answer.TheVariants.{Refused, Explained}
+use Rattle.state.specs.declared.Answer.TheVariants.{Explained}
 use Rattle.state.specs.declared.Refusal.{Refusal}
 use Rattle.state.specs.declared.Refusal.TheVariants.{Stale, NoClause}
 use Rattle.tables.specs.Tables.{Tables, standing}
@@ -38,15 +38,15 @@ stands (suc k) n clauses = elim (leb (suc k) n) [ true ↦ stands_by (standing c
 -- 13, after 9
 abbrev pub explain_if : Bool → ℕ → Tables → List ℕ → AfterWrite
 explain_if true number t out = explain_literals t.times t.links (literals_of t.clauses t.literals (number - 1)) out
-explain_if false number t out = after_write (Refused NoClause) out
+explain_if false number t out = after_write (Err NoClause) out
 
 abbrev pub explain_unless_stale : Bool → ℕ → Tables → State → List ℕ → AfterWrite
 explain_unless_stale true number t st out = explain_if (stands number st.n t.clauses) number t out
-explain_unless_stale false number t st out = after_write (Refused Stale) out
+explain_unless_stale false number t st out = after_write (Err Stale) out
 
 -- 1, 4 and 5
 abbrev pub explain_opening : Result (Unit {0}) Refusal → ℕ → Tables → State → List ℕ → AfterWrite
-explain_opening (Err r) number t st out = after_write (Refused r) out
+explain_opening (Err r) number t st out = after_write (Err r) out
 explain_opening (Ok _) number t st out = explain_unless_stale st.fresh number t st out
 
 unfoldable pub explain_call : ℕ → Tables → State → List ℕ → AfterWrite

@@ -249,19 +249,29 @@ fn find(part: &[i32], times: &[u32], links: &[i32], ends: &mut [i32]) -> Found
 // ---- the call
 
 // The chains into the output, or refusal 10 with the length needed. They are measured first, on an empty part of the output, so that a refused call stores nothing.
-fn write_chains(links: &[i32], ends: &[i32], found: Found, out: &mut [u8]) -> Answer
+fn write_chains(
+    links: &[i32],
+    ends: &[i32],
+    found: Found,
+    out: &mut [u8],
+) -> Result<Answer, Refusal>
     requires { Chained links.now ends.now found.chains }
     ensures { (why : Reasons) → Says found ends.now why → after_write result out.new ≡ explain_into links.now why out.old }
 {
     let needed = chains::put_chains(&mut out[..0], links, ends, found.chains);
     if out.len() < needed {
-        return Answer::Refused(Refusal::Short(needed));
+        return Err(Refusal::Short(needed));
     }
     let written = chains::put_chains(out, links, ends, found.chains);
-    Answer::Explained(found.verdict, found.out, written)
+    Ok(Answer::Explained(found.verdict, found.out, written))
 }
 
-fn explain_part(part: &[i32], times: &[u32], links: &[i32], out: &mut [u8]) -> Answer
+fn explain_part(
+    part: &[i32],
+    times: &[u32],
+    links: &[i32],
+    out: &mut [u8],
+) -> Result<Answer, Refusal>
     requires { Clause times.now links.now part.now }
     ensures { after_write result out.new ≡ explain_literals times.now links.now part.now out.old }
 {
@@ -287,15 +297,15 @@ fn unless_stale(
     st: State,
     number: u32,
     out: &mut [u8],
-) -> Answer
+) -> Result<Answer, Refusal>
     requires { Ready clauses.now literals.now times.now links.now st }
     ensures { (variables : List ℤ) → after_write result out.new ≡ explain_unless_stale st.fresh number (lent clauses.now literals.now variables times.now links.now) st out.old }
 {
     if !st.fresh {
-        return Answer::Refused(Refusal::Stale);
+        return Err(Refusal::Stale);
     }
     if !stands(clauses, st.n, number) {
-        return Answer::Refused(Refusal::NoClause);
+        return Err(Refusal::NoClause);
     }
     let k = number as usize - 1;
     let start = visits::part_start(clauses, k);
@@ -313,11 +323,9 @@ pub fn explain(
     st: State,
     number: u32,
     out: &mut [u8],
-) -> Answer
+) -> Result<Answer, Refusal>
     ensures { after_write result out.new ≡ explain_call number (lent clauses.now literals.now variables.now times.now links.now) st out.old }
 {
-    match entry::may_open(clauses, literals, variables, times, links, st) {
-        Err(refusal) => Answer::Refused(refusal),
-        Ok(()) => unless_stale(clauses, literals, times, links, st, number, out),
-    }
+    entry::may_open(clauses, literals, variables, times, links, st)?;
+    unless_stale(clauses, literals, times, links, st, number, out)
 }

@@ -134,7 +134,7 @@ fn failed_fresh(variables: &mut [i32], times: &[u32], links: &[i32], st: State) 
     spread::spread(variables, v);
     let state = state_after(st, tally.opposite);
     Outcome {
-        answer: Answer::Failed(tally.set),
+        answer: Ok(Answer::Failed(tally.set)),
         state,
     }
 }
@@ -149,7 +149,7 @@ pub fn unless_stale(variables: &mut [i32], times: &[u32], links: &[i32], st: Sta
         failed_fresh(variables, times, links, st)
     } else {
         Outcome {
-            answer: Answer::Refused(Refusal::Stale),
+            answer: Err(Refusal::Stale),
             state: st,
         }
     }
@@ -169,7 +169,7 @@ pub fn failed(
 {
     match entry::may_open(clauses, literals, variables, times, links, st) {
         Err(refusal) => Outcome {
-            answer: Answer::Refused(refusal),
+            answer: Err(refusal),
             state: st,
         },
         Ok(()) => unless_stale(variables, times, links, st),

@@ -1,4 +1,5 @@
 -- What is answered of a newcomer, by what was seen. Assumes nothing.
+use Rattle.std.specs.Prelude.{Ok}
 use Prim.Native.Nat.{ℕ}
 use native.Mathlib.Omega.{arith}
 use mathlib.Core.Path.{◌≡◌, refl, sym, ap}
@@ -27,7 +28,7 @@ kept_whole before now e = ap (λ (b : Bool). elim b as (λ x. Answer) [ true ↦
 pub kept_short : (before now : ℕ) → (now ≡ before → ⊥) → KeptShort now ≡ kept_as before now
 kept_short before now n = ap (λ (b : Bool). elim b as (λ x. Answer) [ true ↦ KeptWhole now | false ↦ KeptShort now ]) (sym (ne_eqb now before n))
 
-kept_number : (before now : ℕ) → (reply_of (kept_as before now)).number ≡ 0
+kept_number : (before now : ℕ) → (reply_of (Ok (kept_as before now))).number ≡ 0
 kept_number before now = by (eqb now before)
   where
     by : (b : Bool) → (reply_of (elim b as (λ _. Answer) [ true ↦ KeptWhole now | false ↦ KeptShort now ])).number ≡ 0

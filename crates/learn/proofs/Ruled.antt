@@ -2,6 +2,7 @@
 -- Where it is not refused, the window met its rule and still meets it (`learn_ruled`); where it is, the window is as it was (`learn_refused`).
 -- A newcomer that is kept goes behind the clauses of the window, of which the last 64 stay, and one that is dropped leaves the window as it was (`learn_clauses`).
 -- Assumes nothing.
+use Rattle.std.specs.Prelude.{Ok}
 use Prim.Native.Nat.{ℕ}
 use native.Mathlib.Omega.{arith}
 use mathlib.Core.Path.{◌≡◌, refl, sym, ap, ◌∙◌}
@@ -25,9 +26,9 @@ other_kind differ e = absurd (differ (ap (λ (r : Reply). r.kind) e))
 
 -- what a call says of the newcomer, for the window w that it was handed
 pub record Follows (w : Places) (a : AfterWindow) : Type 0 where
-  pub whole : (n : ℕ) → a.made.reply ≡ reply_of (KeptWhole n) → clauses_of a.window ≡ last_of 64 (clauses_of w ++ (youngest a.window ∷ []))
-  pub shortened : (n : ℕ) → a.made.reply ≡ reply_of (KeptShort n) → clauses_of a.window ≡ last_of 64 (clauses_of w ++ (youngest a.window ∷ []))
-  pub dropped : a.made.reply ≡ reply_of NotKept → a.window ≡ w
+  pub whole : (n : ℕ) → a.made.reply ≡ reply_of (Ok (KeptWhole n)) → clauses_of a.window ≡ last_of 64 (clauses_of w ++ (youngest a.window ∷ []))
+  pub shortened : (n : ℕ) → a.made.reply ≡ reply_of (Ok (KeptShort n)) → clauses_of a.window ≡ last_of 64 (clauses_of w ++ (youngest a.window ∷ []))
+  pub dropped : a.made.reply ≡ reply_of (Ok NotKept) → a.window ≡ w
 
 -- the clauses after one is kept, which is now the youngest
 kept_behind : {v : ℕ} {C : List ℤ} {w : Places} → WindowRule v w → Newcomer v C → clauses_of (keep C w) ≡ last_of 64 (clauses_of w ++ (youngest (keep C w) ∷ []))

@@ -24,7 +24,7 @@ fn refused(refusal: Refusal, st: State, window: Window) -> Windowed
 {
     Windowed {
         outcome: Outcome {
-            answer: Answer::Refused(refusal),
+            answer: Err(refusal),
             state: st,
         },
         window,
@@ -77,7 +77,7 @@ fn keep_record(
     let kept = window::keep(sizes, learnt, window, row, left);
     Windowed {
         outcome: Outcome {
-            answer: kept_as(before, left),
+            answer: Ok(kept_as(before, left)),
             state: st,
         },
         window: kept,
@@ -103,7 +103,7 @@ fn keep_left(
         Visited::Left(n) => keep_record(sizes, learnt, window, row, before, n, st),
         _ => Windowed {
             outcome: Outcome {
-                answer: Answer::NotKept,
+                answer: Ok(Answer::NotKept),
                 state: st,
             },
             window,

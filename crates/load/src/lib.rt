@@ -183,7 +183,7 @@ fn lay(
     literals[p.start..16384].fill(0);
     lay_variables(variables, v);
     Outcome {
-        answer: Answer::Loaded,
+        answer: Ok(Answer::Loaded),
         state: st.loaded(v, n, p.mark),
     }
 }
@@ -203,7 +203,7 @@ fn lay_judged(
 {
     match verdict {
         Err(r) => Outcome {
-            answer: Answer::Refused(r),
+            answer: Err(r),
             state: st,
         },
         Ok(h) => lay(numbers, h.v, h.n, clauses, literals, variables, st),
@@ -247,7 +247,7 @@ fn load_formula(
 {
     if !tables::long_ok(clauses, literals, variables, times, links) {
         return Outcome {
-            answer: Answer::Refused(Refusal::Shape),
+            answer: Err(Refusal::Shape),
             state: st,
         };
     }
@@ -289,8 +289,7 @@ fn empty_window(outcome: Outcome, sizes: &mut [u32], learnt: &mut [i32], window:
     requires { LongWindow (places sizes.old learnt.old window) }
     ensures { (t : Tables) → after_with result t sizes.new learnt.new ≡ emptying (after outcome t) (places sizes.old learnt.old window) }
 {
-    let answer = outcome.answer;
-    if answer.number() > 0 {
+    if outcome.answer.is_err() {
         return Windowed { outcome, window };
     }
     sizes[..64].fill(0);
@@ -324,7 +323,7 @@ fn load_with(
     if !window::long_ok(sizes, learnt) {
         return Windowed {
             outcome: Outcome {
-                answer: Answer::Refused(Refusal::Shape),
+                answer: Err(Refusal::Shape),
                 state: st,
             },
             window,

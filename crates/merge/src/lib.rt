@@ -117,7 +117,7 @@ pub fn merge_open(
             literals: 0,
         };
         return Outcome {
-            answer: Answer::Done(none),
+            answer: Ok(Answer::Done(none)),
             state: st.marked(),
         };
     }
@@ -140,7 +140,7 @@ fn merge_settled(
     let first = visits::first_unsettled(clauses, literals, variables, n);
     if first < n {
         return Outcome {
-            answer: Answer::Refused(Refusal::Unsettled(first as u32 + 1)),
+            answer: Err(Refusal::Unsettled(first as u32 + 1)),
             state: st,
         };
     }
@@ -163,7 +163,7 @@ pub fn merge(
     let own = PassName::Merge;
     match entry::entry_of(clauses, literals, variables, times, links, st, own) {
         Err(refusal) => Outcome {
-            answer: Answer::Refused(refusal),
+            answer: Err(refusal),
             state: st,
         },
         Ok(Entry::Opens) => merge_settled(clauses, literals, variables, st, n as u32),

@@ -1,6 +1,7 @@
 -- CHANGE REQUEST 1: "a shortened one is true under the same assignments as before, among those that satisfy what stands, and a dropped one is true under all of these."
 -- THE LAW: of tables that hold what a list of calls has left (`Held`), what the call of a learnt clause makes of the newcomer is right (`learn_right`), any parts of the tables lent (`lent_right`) and any number of newcomers in a row (`run_right`).
 -- The window is any, refused ones included. Assumes nothing.
+use Rattle.std.specs.Prelude.{Ok}
 use Prim.Native.Nat.{ℕ, ◌<◌}
 use native.Mathlib.Omega.{arith}
 use mathlib.Core.Path.{◌≡◌, refl, sym, ap, subst, ◌∙◌}
@@ -37,10 +38,10 @@ use Rattle.learn.proofs.Cases.{Taken, Short, fate_in, newcomer_fits, learn_ways}
 use Rattle.learn.proofs.Ruled.{other_kind}
 
 -- the literals left, by a reply
-same_left : (m n : ℕ) → reply_of (KeptShort m) ≡ reply_of (KeptShort n) → m ≡ n
+same_left : (m n : ℕ) → reply_of (Ok (KeptShort m)) ≡ reply_of (Ok (KeptShort n)) → m ≡ n
 same_left m n e = ap (λ (r : Reply). get_or r.values 1 0) e
 
-same_kept : (m n : ℕ) → reply_of (KeptWhole m) ≡ reply_of (KeptWhole n) → m ≡ n
+same_kept : (m n : ℕ) → reply_of (Ok (KeptWhole m)) ≡ reply_of (Ok (KeptWhole n)) → m ≡ n
 same_kept m n e = ap (λ (r : Reply). get_or r.values 1 0) e
 
 -- ---- one newcomer

@@ -1,6 +1,6 @@
 -- Document 02, CR 1: "For every run of newcomers under one stamping, a shortened one is true under the same assignments as before, among those that satisfy what stands, and a dropped one is true under all of these."
 -- What a call says of a newcomer; runs of newcomers; lists of demand 3's calls and of learnt clauses. Assumes nothing: these are definitions.
-use Rattle.std.specs.Prelude.{ℕ, ◌<◌, ◌≡◌, true, length, take, drop, ℤ}
+use Rattle.std.specs.Prelude.{ℕ, ◌<◌, ◌≡◌, true, length, take, drop, ℤ, Ok}
 use mathlib.Core.List.{List, [], ◌∷◌, ◌++◌, Sublistᴰ}
 use Rattle.literal.specs.Assignments.{Assignment, some_true}
 use Rattle.state.specs.Answers.{reply_of}
@@ -17,13 +17,13 @@ use Rattle.call_lists.specs.Lists.{Lent, lend, give_back, Step, step_on}
 -- what a call has made of the newcomer C is right for what stands in the tables t with the state st
 pub record Right (t : Tables) (st : State) (C : List ℤ) (a : AfterWindow) : Type 0 where
   -- "a dropped one is true under all of these"
-  pub dropped : a.made.reply ≡ reply_of NotKept → (τ : Assignment) → Stands t st τ → some_true τ C ≡ true
+  pub dropped : a.made.reply ≡ reply_of (Ok NotKept) → (τ : Assignment) → Stands t st τ → some_true τ C ≡ true
   -- "a shortened one is true under the same assignments as before": what is left of it is the youngest in the window
-  pub shortened : (n : ℕ) → a.made.reply ≡ reply_of (KeptShort n) → (τ : Assignment) → Stands t st τ → some_true τ (youngest a.window) ≡ some_true τ C
+  pub shortened : (n : ℕ) → a.made.reply ≡ reply_of (Ok (KeptShort n)) → (τ : Assignment) → Stands t st τ → some_true τ (youngest a.window) ≡ some_true τ C
   -- and it is the newcomer with literals left out
-  pub left_out : (n : ℕ) → a.made.reply ≡ reply_of (KeptShort n) → Sublistᴰ (youngest a.window) C × (length (youngest a.window) ≡ n) × (n < length C)
+  pub left_out : (n : ℕ) → a.made.reply ≡ reply_of (Ok (KeptShort n)) → Sublistᴰ (youngest a.window) C × (length (youngest a.window) ≡ n) × (n < length C)
   -- a newcomer that is kept whole is in the window as it came
-  pub whole : (n : ℕ) → a.made.reply ≡ reply_of (KeptWhole n) → (youngest a.window ≡ C) × (length C ≡ n)
+  pub whole : (n : ℕ) → a.made.reply ≡ reply_of (Ok (KeptWhole n)) → (youngest a.window ≡ C) × (length C ≡ n)
 
 -- ---- a run of newcomers, each judged with the window that the call before has left
 

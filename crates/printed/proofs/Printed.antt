@@ -5,7 +5,9 @@ use mathlib.Core.List.{List}
 use lib.ListN.{length, take, replicate}
 use borrow.Author.Tests.{lt-ltb, le-ltb}
 use Rattle.state.specs.Answers.{reply_of, first_value}
+use Rattle.std.specs.Prelude.{Result}
 use Rattle.state.specs.declared.Answer.{Answer}
+use Rattle.state.specs.declared.Refusal.{Refusal}
 use Rattle.printing.specs.Printing.{refused_line}
 use Rattle.write.specs.Write.{after_write}
 use Rattle.simplify.specs.Texts.{simplify_text, shown, shown_after, unhide_text}
@@ -20,7 +22,7 @@ module _ (input : List ℕ) where
   unfolding unhide_text
   short_printed h = rw (le-ltb 65535 (length input) h, unhide_text)
 
-  module _ (few : length input ≤ 65535) (a : Answer) (out : List ℕ) (is : after_write a out ≡ simplify_text input 1 (replicate 65536 0)) where
+  module _ (few : length input ≤ 65535) (a : Result Answer Refusal) (out : List ℕ) (is : after_write a out ≡ simplify_text input 1 (replicate 65536 0)) where
     shown_is : shown (reply_of a).number (reply_of a).values out ≡ unhide_text input
     shown_is = ap shown_after is ∙ short_printed few
 

@@ -14,10 +14,8 @@ pub fn print_into(input: &[u8], out: &mut [u8]) -> usize
         return printing::put_refusal(out, 3, 65535);
     }
     let answer = simplify::simplify_text(input, 1, out);
-    let number = answer.number();
-    let value = answer.value();
-    if number == 0 {
-        return value as usize;
+    match answer {
+        Ok(answer) => answer.value() as usize,
+        Err(refusal) => printing::put_refusal(out, refusal.number(), refusal.place()),
     }
-    printing::put_refusal(out, number, value)
 }

@@ -190,15 +190,15 @@ fn answer(st: State, fresh: bool, counts: Counts, stand: Stand) -> Outcome
 {
     match stand {
         Stand::Going(k, changed) => Outcome {
-            answer: Answer::Open(counts),
+            answer: Ok(Answer::Open(counts)),
             state: st.opened(Pass::Propagate(k, changed), fresh),
         },
         Stand::Settled => Outcome {
-            answer: Answer::Done(counts),
+            answer: Ok(Answer::Done(counts)),
             state: st.closed(fresh),
         },
         Stand::Contradicted => Outcome {
-            answer: Answer::Done(counts),
+            answer: Ok(Answer::Done(counts)),
             state: st.marked(),
         },
     }
@@ -271,7 +271,7 @@ pub fn propagate(
     let own = PassName::Propagate;
     match entry::entry_of(clauses, literals, variables, times, links, st, own) {
         Err(refusal) => Outcome {
-            answer: Answer::Refused(refusal),
+            answer: Err(refusal),
             state: st,
         },
         Ok(Entry::Opens) => open_pass(clauses, literals, variables, st, n as u32),

@@ -13,7 +13,7 @@ use Rattle.state.specs.declared.State.{State}
 use Rattle.state.specs.declared.Pass.TheVariants.{Idle}
 use Rattle.state.specs.declared.Refusal.{Refusal}
 use Rattle.state.specs.declared.Refusal.TheVariants.{Stale, NoClause, Short}
-use Rattle.state.specs.declared.Answer.TheVariants.{Refused, Explained}
+use Rattle.state.specs.declared.Answer.TheVariants.{Explained}
 use Rattle.tables.specs.Tables.{Tables, standing}
 use Rattle.shape.specs.Shape.{Shape}
 use Rattle.entry.specs.Entry.{opening_of}
@@ -59,12 +59,12 @@ pub record Asked (t : Tables) (st : State) : Type 0 where
 
 module _ (number : ℕ) (t : Tables) (st : State) (out : List ℕ) where
   pub explain_cases : (P : AfterWrite → Type 0)
-      → ((r : Refusal) → opening_of t st ≡ Err r → P (after_write (Refused r) out))
-      → (opening_of t st ≡ Ok tt → st.fresh ≡ false → P (after_write (Refused Stale) out))
-      → (Asked t st → (Named number t st → ⊥) → P (after_write (Refused NoClause) out))
-      → (Asked t st → (N : Named number t st) → length out < length (text_at t N.at) → P (after_write (Refused (Short (length (text_at t N.at)))) out))
+      → ((r : Refusal) → opening_of t st ≡ Err r → P (after_write (Err r) out))
+      → (opening_of t st ≡ Ok tt → st.fresh ≡ false → P (after_write (Err Stale) out))
+      → (Asked t st → (Named number t st → ⊥) → P (after_write (Err NoClause) out))
+      → (Asked t st → (N : Named number t st) → length out < length (text_at t N.at) → P (after_write (Err (Short (length (text_at t N.at)))) out))
       → (Asked t st → (N : Named number t st) → length (text_at t N.at) ≤ length out
-      → P (after_write (Explained (reasons_at t N.at).verdict (reasons_at t N.at).out (length (text_at t N.at))) (text_at t N.at ++ drop (length (text_at t N.at)) out)))
+      → P (after_write (Ok (Explained (reasons_at t N.at).verdict (reasons_at t N.at).out (length (text_at t N.at)))) (text_at t N.at ++ drop (length (text_at t N.at)) out)))
       → P (explain_call number t st out)
   unfolding explain_call
   explain_cases P denied stale none short made = by_opening (opening_of t st) refl
@@ -74,8 +74,8 @@ module _ (number : ℕ) (t : Tables) (st : State) (out : List ℕ) where
         where
           go : (b : Bool) → leb (length (text_at t N.at)) (length out) ≡ b
               → P (elim b as (λ x. AfterWrite) [
-                | true ↦ after_write (Explained (reasons_at t N.at).verdict (reasons_at t N.at).out (length (text_at t N.at))) (text_at t N.at ++ drop (length (text_at t N.at)) out)
-                | false ↦ after_write (Refused (Short (length (text_at t N.at)))) out
+                | true ↦ after_write (Ok (Explained (reasons_at t N.at).verdict (reasons_at t N.at).out (length (text_at t N.at)))) (text_at t N.at ++ drop (length (text_at t N.at)) out)
+                | false ↦ after_write (Err (Short (length (text_at t N.at)))) out
               ])
           go true e = made A N (leb-true _ _ e)
           go false e = short A N (leb-false (length (text_at t N.at)) (length out) e)

@@ -1,5 +1,6 @@
 -- CHANGE REQUEST 7, one call. On any tables with any state, whoever wrote them, for any number and any output: if explain is accepted, its verdict and the literals taken out are those of a Sweep's visit to the clause, the ends of each chain are the two literals that the rule names,
 -- and each chain goes down from the one to the other along the parents (`explain_right`). So on any tables that keep the shape rule the climb ends. Assumes nothing.
+use Rattle.std.specs.Prelude.{Ok}
 use Prim.Native.Nat.{ℕ, ◌≤◌, ◌<◌}
 use native.Mathlib.Omega.{arith}
 use mathlib.Core.Path.{◌≡◌, refl, sym, ap, subst, ◌∙◌}
@@ -153,7 +154,7 @@ module _ {number : ℕ} {t : Tables} {st : State} (out : List ℕ) (A : Asked t 
   -- what is said where these are the reasons
   abbrev Made : Reasons → Type 0
   Made r = length (chains_text t.links r) ≤ length out
-      → ExplainedAs number t st out (after_write (Explained r.verdict r.out (length (chains_text t.links r))) (chains_text t.links r ++ drop (length (chains_text t.links r)) out))
+      → ExplainedAs number t st out (after_write (Ok (Explained r.verdict r.out (length (chains_text t.links r)))) (chains_text t.links r ++ drop (length (chains_text t.links r)) out))
 
   made_nothing : flag ≡ 1 → now ≡ C → Made (reasons Nothing 0 [])
   made_nothing stands same fits = record {

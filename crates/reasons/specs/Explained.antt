@@ -1,7 +1,7 @@
 -- What an accepted call of explain says. Document 02, CR 7: "For a clause number, give what Sweep will do: drop it, take out these literals, or nothing. For a drop and for each literal taken out, show the chain of literals. ..
 -- The verdict, with the number of literals taken out (0 on a drop), is the result; each chain is written as a DIMACS clause line, literals taken out in clause order. A drop or a literal is shown exactly if a Sweep's visit to that clause under these stamps drops it or takes it out."
 -- The tables and the state are of any origin. Assumes nothing: these are definitions.
-use Rattle.std.specs.Prelude.{ℕ, suc, ◌≤◌, ◌<◌, ◌≡◌, ◌↔◌, length, drop, ℤ}
+use Rattle.std.specs.Prelude.{ℕ, suc, ◌≤◌, ◌<◌, ◌≡◌, ◌↔◌, length, drop, ℤ, Ok}
 use mathlib.Core.List.{List, [], ◌∷◌, ◌++◌, Memᴰ}
 use Rattle.state.specs.Answers.{reply_of}
 use Rattle.state.specs.declared.State.{State}
@@ -69,7 +69,7 @@ pub record ExplainedAs (number : ℕ) (t : Tables) (st : State) (out : List ℕ)
   pub count : ℕ
   pub chains : List (List ℤ)
   -- the answer, with the length written; "each chain is written as a DIMACS clause line"; later bytes stay
-  pub reply : a.reply ≡ reply_of (Explained verdict count (length (clauses_text chains)))
+  pub reply : a.reply ≡ reply_of (Ok (Explained verdict count (length (clauses_text chains))))
   pub fits : length (clauses_text chains) ≤ length out
   pub written : a.out ≡ clauses_text chains ++ drop (length (clauses_text chains)) out
   -- the verdict is what a Sweep's visit to the clause does

@@ -9,7 +9,7 @@ ghost use Rattle.std.specs.Prelude.{◌≤◌};
 mod words;
 
 use stamp_records::StampRecord;
-use state::{Answer, Outcome, State};
+use state::{Answer, Outcome, Refusal, State};
 use std::io;
 use window::{Window, Windowed};
 use words::{end_line, print, print_answer, print_number};
@@ -82,7 +82,7 @@ fn explain_lent(
     st: State,
     number: u32,
     out: &mut [u8],
-) -> Answer
+) -> Result<Answer, Refusal>
     requires { lent ≤ 2049 }
 {
     calls::explain(
@@ -160,12 +160,12 @@ fn print_text(rt: &impl Print, out: &[u8], k: usize) -> io::Result<()> {
 }
 
 // The answer of a call that writes text, and behind it the text.
-fn print_written(rt: &impl Print, answer: Answer, out: &[u8]) -> io::Result<()> {
+fn print_written(rt: &impl Print, answer: Result<Answer, Refusal>, out: &[u8]) -> io::Result<()> {
     print_answer(rt, answer)?;
     end_line(rt)?;
     match answer {
-        Answer::Written(k) => print_text(rt, out, k),
-        Answer::Explained(_, _, k) => print_text(rt, out, k),
+        Ok(Answer::Written(k)) => print_text(rt, out, k),
+        Ok(Answer::Explained(_, _, k)) => print_text(rt, out, k),
         _ => Ok(()),
     }
 }

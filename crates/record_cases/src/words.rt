@@ -44,9 +44,15 @@ fn print_explained(rt: &impl Print, verdict: Verdict, out: u32, length: usize) -
 }
 
 // A word for the kind of answer and what comes with it, without the end of the line.
-pub fn print_answer(rt: &impl Print, answer: Answer) -> io::Result<()> {
+pub fn print_answer(rt: &impl Print, answer: Result<Answer, Refusal>) -> io::Result<()> {
     match answer {
-        Answer::Refused(refusal) => print_refusal(rt, refusal),
+        Ok(made) => print_made(rt, made),
+        Err(refusal) => print_refusal(rt, refusal),
+    }
+}
+
+fn print_made(rt: &impl Print, answer: Answer) -> io::Result<()> {
+    match answer {
         Answer::Loaded => print(rt, b"loaded"),
         Answer::Open(counts) => {
             print(rt, b"open")?;

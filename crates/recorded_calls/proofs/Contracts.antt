@@ -1,4 +1,5 @@
 -- A step is what the code of crate `calls` does: the equation of each contract there says that the call leaves what the step's definition says, and a slice of fewer than 2,048 records is refused. A load takes a window too: one that is shorter than stated is refused, and with any other the load leaves what its definition over records says. Assumes nothing.
+use Rattle.std.specs.Prelude.{Err}
 use Prim.Native.Nat.{ℕ, ◌<◌}
 use native.Mathlib.Omega.{arith}
 use mathlib.Core.Path.{◌≡◌, refl, sym, ap, ◌∙◌}
@@ -10,7 +11,7 @@ use Rattle.state.specs.Answers.{reply_of}
 use Rattle.state.specs.declared.State.{State}
 use Rattle.state.specs.declared.Outcome.{Outcome}
 use Rattle.state.specs.declared.Answer.{Answer}
-use Rattle.state.specs.declared.Answer.TheVariants.{Refused, Loaded}
+use Rattle.state.specs.declared.Answer.TheVariants.{Loaded}
 use Rattle.state.specs.declared.Refusal.TheVariants.{Shape}
 use Rattle.stamp_records.specs.declared.StampRecord.{StampRecord}
 use Rattle.stamp_records.specs.Records.{times_of}
@@ -68,7 +69,7 @@ module _ (clauses : List ℕ) (literals variables : List ℤ) (stamps : List Sta
 
 -- "A refusal .. changes nothing"
 abbrev refused_short : State → CallerTables → AfterCall
-refused_short st h = leaving (record { answer = Refused Shape; state = st }) h
+refused_short st h = leaving (record { answer = Err Shape; state = st }) h
 
 -- the contract of `load`, with what the code gives back (r) and what it wrote (primed). The call that the theorems speak of is that of the tables
 module _ (text clauses : List ℕ) (literals variables : List ℤ) (stamps : List StampRecord) (st : State) (w : Places) (r : Windowed) (clauses' : List ℕ) (literals' variables' : List ℤ) (sizes' : List ℕ) (learnt' : List ℤ)

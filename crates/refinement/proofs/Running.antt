@@ -256,7 +256,7 @@ module _ (b : Started) where
     abbrev set : Standing
     set = between (set_call codes loaded.tables loaded.state)
 
-    pub own_set : ((set_call codes loaded.tables loaded.state).reply ≡ reply_of Set) × (set.tables ≡ loaded.tables)
+    pub own_set : ((set_call codes loaded.tables loaded.state).reply ≡ reply_of (Ok Set)) × (set.tables ≡ loaded.tables)
     own_set = ((set_taken codes loaded.tables loaded.state (start_held b).shape R).0, set_tables codes loaded.tables loaded.state)
 
     pub own_run : loaded.state.mark ≡ false → (count : ℕ) → run_call count set.tables set.state ≡ run_reply (run_from codes count 0 set)

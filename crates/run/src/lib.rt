@@ -345,7 +345,7 @@ fn run_entered(
     let number = made.made;
     let state = made.state;
     Outcome {
-        answer: Answer::Ran(number),
+        answer: Ok(Answer::Ran(number)),
         state,
     }
 }
@@ -364,7 +364,7 @@ pub fn run(
 {
     match entry::may_open(clauses, literals, variables, times, links, st) {
         Err(refusal) => Outcome {
-            answer: Answer::Refused(refusal),
+            answer: Err(refusal),
             state: st,
         },
         Ok(()) => run_entered(n as u32, clauses, literals, variables, times, links, st),

@@ -65,9 +65,9 @@ module _ (codes : List ℕ) (t : Tables) (st : State) where
       (λ e q. record { long = S.long; v_limit = S.v_limit; n_limit = S.n_limit; clauses = S.clauses; variables = S.variables; values = S.values; cursor = S.cursor; stamps = S.stamps; programme = made_passes codes ((judge_exact codes).0 q) })
 
   -- THE LAW: codes that keep the rules are set where the shape rule holds, and Run will follow just these
-  pub set_taken : Shape t st → Rules codes → ((set_call codes t st).reply ≡ reply_of Set) × (codes_of (set_call codes t st).state.programme ≡ codes)
+  pub set_taken : Shape t st → Rules codes → ((set_call codes t st).reply ≡ reply_of (Ok Set)) × (codes_of (set_call codes t st).state.programme ≡ codes)
   set_taken S R = by (shape_ok t st) refl
     where
-      by : (b : Bool) → shape_ok t st ≡ b → ((set_call codes t st).reply ≡ reply_of Set) × (codes_of (set_call codes t st).state.programme ≡ codes)
-      by true e = subst (λ (a : After). (a.reply ≡ reply_of Set) × (codes_of a.state.programme ≡ codes)) (set_made e ((judge_exact codes).1 R)) (refl, made_codes codes)
+      by : (b : Bool) → shape_ok t st ≡ b → ((set_call codes t st).reply ≡ reply_of (Ok Set)) × (codes_of (set_call codes t st).state.programme ≡ codes)
+      by true e = subst (λ (a : After). (a.reply ≡ reply_of (Ok Set)) × (codes_of a.state.programme ≡ codes)) (set_made e ((judge_exact codes).1 R)) (refl, made_codes codes)
       by false e = absurd ((shape_exact t st).fails e S)

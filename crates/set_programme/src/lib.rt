@@ -22,19 +22,19 @@ pub fn set_programme(
 {
     if !shape::shape_ok(clauses, literals, variables, times, links, st) {
         return Outcome {
-            answer: Answer::Refused(Refusal::Shape),
+            answer: Err(Refusal::Shape),
             state: st,
         };
     }
     match programmes::judge(codes) {
         Err(index) => Outcome {
-            answer: Answer::Refused(Refusal::Codes(index)),
+            answer: Err(Refusal::Codes(index)),
             state: st,
         },
         Ok(()) => {
             let programme = programmes::programme_of(codes);
             Outcome {
-                answer: Answer::Set,
+                answer: Ok(Answer::Set),
                 state: st.programmed(programme),
             }
         }

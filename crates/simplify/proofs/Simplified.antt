@@ -1,4 +1,5 @@
 -- Load, run and write put together: which way a load goes, and that a length written lies within the output. Assumes nothing.
+use Rattle.std.specs.Prelude.{Result, Ok, Err}
 use Prim.Native.Nat.{ℕ, zero, suc, ◌≤◌}
 use native.Mathlib.Omega.{arith}
 use mathlib.Core.Bool.{Bool, true, false}
@@ -9,9 +10,10 @@ use lib.Dec.{leb}
 use borrow.Author.Tests.{leb-true}
 use Rattle.state.specs.Answers.{reply_of}
 use Rattle.state.specs.declared.State.{State}
+use Rattle.state.specs.declared.Refusal.{Refusal}
 use Rattle.state.specs.declared.Refusal.TheVariants.{Shape, Short}
 use Rattle.state.specs.declared.Answer.{Answer}
-use Rattle.state.specs.declared.Answer.TheVariants.{Refused, Written}
+use Rattle.state.specs.declared.Answer.TheVariants.{Written}
 use Rattle.state.specs.declared.Outcome.{Outcome}
 use Rattle.tables.specs.Tables.{Tables}
 use Rattle.tables.specs.Calls.{After, after}
@@ -45,15 +47,15 @@ unmarked_load b count a e = subst (λ (x : Bool). run_call count a.tables a.stat
 
 -- ---- the length written
 
-into_fits : (b : Bool) (text out : List ℕ) → (b ≡ true → length text ≤ length out) → fits (elim b as (λ x. AfterWrite) [ true ↦ after_write (Written (length text)) (text ++ drop (length text) out) | false ↦ after_write (Refused (Short (length text))) out ]).reply (length out)
+into_fits : (b : Bool) (text out : List ℕ) → (b ≡ true → length text ≤ length out) → fits (elim b as (λ x. AfterWrite) [ true ↦ after_write (Ok (Written (length text))) (text ++ drop (length text) out) | false ↦ after_write (Err (Short (length text))) out ]).reply (length out)
 into_fits true text out short z = short refl
 into_fits false text out short z = absurd (omega (arith, z))
 
-call_fits : (b : Bool) (text out : List ℕ) → fits (elim b as (λ x. AfterWrite) [ true ↦ write_into text out | false ↦ after_write (Refused Shape) out ]).reply (length out)
+call_fits : (b : Bool) (text out : List ℕ) → fits (elim b as (λ x. AfterWrite) [ true ↦ write_into text out | false ↦ after_write (Err Shape) out ]).reply (length out)
 call_fits true text out = into_fits (leb (length text) (length out)) text out (leb-true (length text) (length out))
 call_fits false text out = λ z. absurd (omega (arith, z))
 
 -- what Write answers
-pub write_fits : (a : Answer) (left out : List ℕ) (t : Tables) (st : State) → after_write a left ≡ write_call t st out → fits (reply_of a) (length out)
+pub write_fits : (a : Result Answer Refusal) (left out : List ℕ) (t : Tables) (st : State) → after_write a left ≡ write_call t st out → fits (reply_of a) (length out)
 unfolding write_call
 write_fits a left out t st e = subst (λ (w : AfterWrite). fits w.reply (length out)) (sym e) (call_fits (shape_ok t st) (write_text t st) out)

@@ -8,7 +8,7 @@ ghost use Rattle.tables.specs.Calls.{after};
 ghost use Rattle.write.specs.Write.{after_write};
 ghost use Rattle.simplify.specs.Texts.{run_unless, write_after, simplify_in, simplify_text, fits};
 
-use state::{Answer, Outcome, State};
+use state::{Answer, Outcome, Refusal, State};
 
 // A marked load is not run.
 fn run_loaded(
@@ -40,7 +40,7 @@ fn run_and_write(
     loaded: Outcome,
     rounds: u16,
     out: &mut [u8],
-) -> Answer
+) -> Result<Answer, Refusal>
     ensures out_after { after_write result out.new
         ≡ write_after 0 (run_unless loaded.state.mark rounds (after loaded (lent clauses.old literals.old variables.old times.old links.old))) out.old }
     ensures fits { fits (reply_of result) (length out.old) }
@@ -60,23 +60,20 @@ fn simplify(
     variables: &mut [i32],
     times: &mut [u32],
     links: &mut [i32],
-) -> Answer
+) -> Result<Answer, Refusal>
     ensures out_after { after_write result out.new ≡ simplify_in (lent clauses.old literals.old variables.old times.old links.old) text.now rounds out.old }
     ensures fits { fits (reply_of result) (length out.old) }
 {
     let st = State::empty();
     let loaded = load::load_tables(text, clauses, literals, variables, times, links, st);
-    let answer = loaded.answer;
-    if answer.number() != 0 {
-        return answer;
-    }
+    loaded.answer?;
     run_and_write(
         clauses, literals, variables, times, links, loaded, rounds, out,
     )
 }
 
 // The text simplified in so many rounds, written into the output.
-pub fn simplify_text(text: &[u8], rounds: u16, out: &mut [u8]) -> Answer
+pub fn simplify_text(text: &[u8], rounds: u16, out: &mut [u8]) -> Result<Answer, Refusal>
     ensures out_after { after_write result out.new ≡ simplify_text text.now rounds out.old }
     ensures fits { fits (reply_of result) (length out.old) }
 {

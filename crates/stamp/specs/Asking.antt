@@ -7,7 +7,7 @@ use Rattle.state.specs.States.{closed}
 use Rattle.state.specs.declared.State.{State}
 use Rattle.state.specs.declared.Refusal.{Refusal}
 use Rattle.state.specs.declared.Refusal.TheVariants.{Unsettled, Cyclic, Order}
-use Rattle.state.specs.declared.Answer.TheVariants.{Refused, Stamped}
+use Rattle.state.specs.declared.Answer.TheVariants.{Stamped}
 use Rattle.state.specs.declared.Outcome.{Outcome}
 use Rattle.tables.specs.Tables.{Tables}
 use Rattle.tables.specs.Passes.{first_unsettled}
@@ -58,5 +58,5 @@ written_tables false v σ t = stamped_tables v σ t
 
 -- the answer of the core, by whether the graph is cyclic
 abbrev pub answer_of : Bool → State → Outcome
-answer_of true st = record { answer = Refused Cyclic; state = st }
-answer_of false st = record { answer = Stamped; state = closed true st }
+answer_of true st = record { answer = Err Cyclic; state = st }
+answer_of false st = record { answer = Ok Stamped; state = closed true st }

@@ -119,12 +119,12 @@ fn answer(st: State, cyclic: bool) -> Outcome
 {
     if cyclic {
         return Outcome {
-            answer: Answer::Refused(Refusal::Cyclic),
+            answer: Err(Refusal::Cyclic),
             state: st,
         };
     }
     Outcome {
-        answer: Answer::Stamped,
+        answer: Ok(Answer::Stamped),
         state: st.closed(true),
     }
 }
@@ -170,7 +170,7 @@ pub fn stamp(
 {
     match ask(clauses, literals, variables, times, links, st, order) {
         Err(refusal) => Outcome {
-            answer: Answer::Refused(refusal),
+            answer: Err(refusal),
             state: st,
         },
         Ok(()) => stamp_acyclic(clauses, literals, times, links, st, order),

@@ -4,6 +4,8 @@ use native.Mathlib.Omega.{arith}
 use mathlib.Core.Path.{◌≡◌, refl, sym, ap, ◌∙◌}
 use mathlib.Core.List.{List, [], ◌∷◌}
 use lib.ListN.{get_or}
+use Rattle.std.specs.Prelude.{Result, Ok, Err, true, false}
+use Rattle.std.specs.Result.{is_ok}
 use lib.IntN.{pos, neg_ℤ}
 use Rattle.state.specs.Answers.{refusal_number, refusal_place, verdict_number, Reply, reply, reply_of, result_by}
 use Rattle.state.specs.declared.Refusal.{Refusal}
@@ -12,7 +14,7 @@ use Rattle.state.specs.declared.Refusal.TheVariants.{Shape, Grammar, Limit, Othe
 use Rattle.state.specs.declared.Counts.{Counts}
 use Rattle.state.specs.declared.Verdict.{Verdict}
 use Rattle.state.specs.declared.Verdict.TheVariants.{Nothing, Drop, Shorten}
-use Rattle.state.specs.declared.Answer.TheVariants.{Refused, Loaded, Open, Done, Stamped, Failed, Ran, Written, Set, KeptWhole, KeptShort, NotKept, Explained}
+use Rattle.state.specs.declared.Answer.TheVariants.{Loaded, Open, Done, Stamped, Failed, Ran, Written, Set, KeptWhole, KeptShort, NotKept, Explained}
 
 pub refusal_numbers : (p : ℕ) → refusal_number Shape ∷ refusal_number (Grammar p) ∷ refusal_number (Limit p) ∷ refusal_number OtherPass ∷ refusal_number Marked ∷ refusal_number (Unsettled p)
     ∷ refusal_number Cyclic ∷ refusal_number (Order p) ∷ refusal_number Stale ∷ refusal_number (Short p) ∷ refusal_number Newcomer ∷ refusal_number (Codes p) ∷ refusal_number NoClause ∷ refusal_number (Link p) ∷ []
@@ -25,10 +27,10 @@ pub refusal_places : (p : ℕ) → refusal_place Shape ∷ refusal_place (Gramma
     ≡ 0 ∷ p ∷ p ∷ 0 ∷ 0 ∷ p ∷ 0 ∷ p ∷ 0 ∷ p ∷ 0 ∷ p ∷ 0 ∷ p ∷ []
 refusal_places p = refl
 
-pub replies : (c : Counts) (p : ℕ) → (reply_of (Refused (Order p)) ≡ reply 0 8 (p ∷ [])) × (reply_of Loaded ≡ reply 1 0 []) × (reply_of (Open c) ≡ reply 2 0 (c.visits ∷ c.clauses ∷ c.literals ∷ []))
-    × (reply_of (Done c) ≡ reply 3 0 (c.visits ∷ c.clauses ∷ c.literals ∷ [])) × (reply_of Stamped ≡ reply 4 0 []) × (reply_of (Failed p) ≡ reply 5 0 (p ∷ [])) × (reply_of (Ran p) ≡ reply 6 0 (p ∷ [])) × (reply_of (Written p) ≡ reply 7 0 (p ∷ [])) × (reply_of Set ≡ reply 8 0 [])
-    × (reply_of (KeptWhole p) ≡ reply 9 0 (0 ∷ p ∷ [])) × (reply_of (KeptShort p) ≡ reply 10 0 (2 ∷ p ∷ [])) × (reply_of NotKept ≡ reply 11 0 (1 ∷ 0 ∷ []))
-    × (reply_of (Explained Nothing p p) ≡ reply 12 0 (0 ∷ p ∷ p ∷ [])) × (reply_of (Explained Drop 0 p) ≡ reply 12 0 (1 ∷ 0 ∷ p ∷ [])) × (reply_of (Explained Shorten p 7) ≡ reply 12 0 (2 ∷ p ∷ 7 ∷ []))
+pub replies : (c : Counts) (p : ℕ) → (reply_of (Err (Order p)) ≡ reply 0 8 (p ∷ [])) × (reply_of (Ok Loaded) ≡ reply 1 0 []) × (reply_of (Ok (Open c)) ≡ reply 2 0 (c.visits ∷ c.clauses ∷ c.literals ∷ []))
+    × (reply_of (Ok (Done c)) ≡ reply 3 0 (c.visits ∷ c.clauses ∷ c.literals ∷ [])) × (reply_of (Ok Stamped) ≡ reply 4 0 []) × (reply_of (Ok (Failed p)) ≡ reply 5 0 (p ∷ [])) × (reply_of (Ok (Ran p)) ≡ reply 6 0 (p ∷ [])) × (reply_of (Ok (Written p)) ≡ reply 7 0 (p ∷ [])) × (reply_of (Ok Set) ≡ reply 8 0 [])
+    × (reply_of (Ok (KeptWhole p)) ≡ reply 9 0 (0 ∷ p ∷ [])) × (reply_of (Ok (KeptShort p)) ≡ reply 10 0 (2 ∷ p ∷ [])) × (reply_of (Ok NotKept) ≡ reply 11 0 (1 ∷ 0 ∷ []))
+    × (reply_of (Ok (Explained Nothing p p)) ≡ reply 12 0 (0 ∷ p ∷ p ∷ [])) × (reply_of (Ok (Explained Drop 0 p)) ≡ reply 12 0 (1 ∷ 0 ∷ p ∷ [])) × (reply_of (Ok (Explained Shorten p 7)) ≡ reply 12 0 (2 ∷ p ∷ 7 ∷ []))
 replies c p = (refl, refl, refl, refl, refl, refl, refl, refl, refl, refl, refl, refl, refl, refl, refl)
 
 -- ---- no two answers have the same reply
@@ -64,30 +66,34 @@ verdict_back Nothing = refl
 verdict_back Drop = refl
 verdict_back Shorten = refl
 
--- the answer of a reply
+-- the answer of a reply whose kind is not 0
 abbrev answer_by : Reply → Answer
 answer_by r =
-    get_or (Refused (refusal_by r.number (get_or r.values 0 0)) ∷ Loaded ∷ Open (counts_by r.values) ∷ Done (counts_by r.values) ∷ Stamped ∷ Failed (get_or r.values 0 0) ∷ Ran (get_or r.values 0 0) ∷ Written (get_or r.values 0 0) ∷ Set ∷ KeptWhole (get_or r.values 1 0) ∷ KeptShort (get_or r.values 1 0) ∷ NotKept ∷ Explained (verdict_by (get_or r.values 0 0)) (get_or r.values 1 0) (get_or r.values 2 0) ∷ [])
+    get_or (Loaded ∷ Loaded ∷ Open (counts_by r.values) ∷ Done (counts_by r.values) ∷ Stamped ∷ Failed (get_or r.values 0 0) ∷ Ran (get_or r.values 0 0) ∷ Written (get_or r.values 0 0) ∷ Set ∷ KeptWhole (get_or r.values 1 0) ∷ KeptShort (get_or r.values 1 0) ∷ NotKept ∷ Explained (verdict_by (get_or r.values 0 0)) (get_or r.values 1 0) (get_or r.values 2 0) ∷ [])
     r.kind Loaded
 
-answer_back : (a : Answer) → answer_by (reply_of a) ≡ a
-answer_back (Refused r) = ap Refused (refusal_back r)
-answer_back Loaded = refl
-answer_back (Open c) = refl
-answer_back (Done c) = refl
-answer_back Stamped = refl
-answer_back (Failed set) = refl
-answer_back (Ran rounds) = refl
-answer_back (Written length) = refl
-answer_back Set = refl
-answer_back (KeptWhole left) = refl
-answer_back (KeptShort left) = refl
-answer_back NotKept = refl
-answer_back (Explained verdict out length) = ap (λ (v : Verdict). Explained v out length) (verdict_back verdict)
+-- the answer or the refusal of a reply
+abbrev answer_of : Reply → Result Answer Refusal
+answer_of r = elim r.kind [ zero ↦ Err (refusal_by r.number (get_or r.values 0 0)) | suc _ ↦ Ok (answer_by r) ]
 
--- THE LAW: an answer is known by its reply
-pub reply_tells : (a b : Answer) → reply_of a ≡ reply_of b → a ≡ b
-reply_tells a b e = sym (answer_back a) ∙ ap answer_by e ∙ answer_back b
+answer_back : (a : Result Answer Refusal) → answer_of (reply_of a) ≡ a
+answer_back (Err r) = ap Err (refusal_back r)
+answer_back (Ok Loaded) = refl
+answer_back (Ok (Open c)) = refl
+answer_back (Ok (Done c)) = refl
+answer_back (Ok Stamped) = refl
+answer_back (Ok (Failed set)) = refl
+answer_back (Ok (Ran rounds)) = refl
+answer_back (Ok (Written length)) = refl
+answer_back (Ok Set) = refl
+answer_back (Ok (KeptWhole left)) = refl
+answer_back (Ok (KeptShort left)) = refl
+answer_back (Ok NotKept) = refl
+answer_back (Ok (Explained verdict out length)) = ap (λ (v : Verdict). Ok (Explained v out length)) (verdict_back verdict)
+
+-- THE LAW: an answer or a refusal is known by its reply
+pub reply_tells : (a b : Result Answer Refusal) → reply_of a ≡ reply_of b → a ≡ b
+reply_tells a b e = sym (answer_back a) ∙ ap answer_of e ∙ answer_back b
 
 -- ---- a refusal's number, negative
 
@@ -110,3 +116,27 @@ number_bounds (Link index) = (omega arith, omega arith)
 pub result_negative : (n v : ℕ) → 0 < n → result_by n v ≡ neg_ℤ (pos n)
 result_negative zero v h = absurd (omega arith)
 result_negative (suc k) v h = refl
+
+-- ---- the number of a reply: 0 exactly where nothing is refused
+
+pub number_made : (a : Answer) → (reply_of (Ok a)).number ≡ 0
+number_made Loaded = refl
+number_made (Open c) = refl
+number_made (Done c) = refl
+number_made Stamped = refl
+number_made (Failed set) = refl
+number_made (Ran rounds) = refl
+number_made (Written length) = refl
+number_made Set = refl
+number_made (KeptWhole left) = refl
+number_made (KeptShort left) = refl
+number_made NotKept = refl
+number_made (Explained verdict out length) = refl
+
+pub number_ok : (a : Result Answer Refusal) → is_ok a ≡ true → (reply_of a).number ≡ 0
+number_ok (Ok a) e = number_made a
+number_ok (Err r) e = cc
+
+pub number_err : (a : Result Answer Refusal) → is_ok a ≡ false → 0 < (reply_of a).number
+number_err (Err r) e = (number_bounds r).0
+number_err (Ok a) e = cc

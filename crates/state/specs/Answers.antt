@@ -1,12 +1,12 @@
 -- Document 01: "A refusal returns its number and a place (0 where none is named)"; "Where an answer is an enum, a definition gives this paper's number and values for each case of the enum, and the promises use that definition."
 -- Assumes nothing: these are definitions.
-use Rattle.std.specs.Prelude.{ℕ, zero, suc, List, [], ◌∷◌, ℤ, pos, negsuc}
+use Rattle.std.specs.Prelude.{ℕ, zero, suc, List, [], ◌∷◌, ℤ, pos, negsuc, Result, Ok, Err}
 use Rattle.state.specs.declared.Refusal.{Refusal}
 use Rattle.state.specs.declared.Refusal.TheVariants.{Shape, Grammar, Limit, OtherPass, Marked, Unsettled, Cyclic, Order, Stale, Short, Newcomer, Codes, NoClause, Link}
 use Rattle.state.specs.declared.Verdict.{Verdict}
 use Rattle.state.specs.declared.Verdict.TheVariants.{Nothing, Drop, Shorten}
 use Rattle.state.specs.declared.Answer.{Answer}
-use Rattle.state.specs.declared.Answer.TheVariants.{Refused, Loaded, Open, Done, Stamped, Failed, Ran, Written, Set, KeptWhole, KeptShort, NotKept, Explained}
+use Rattle.state.specs.declared.Answer.TheVariants.{Loaded, Open, Done, Stamped, Failed, Ran, Written, Set, KeptWhole, KeptShort, NotKept, Explained}
 
 -- the number that the documents give a refusal: 1 to 10 document 01, 11, 12, 13 and 15 document 02's CR 1, CR 5, CR 7 and CR 11
 abbrev pub refusal_number : Refusal → ℕ
@@ -58,20 +58,20 @@ abbrev pub reply : ℕ → ℕ → List ℕ → Reply
 reply kind number values = record { kind = kind; number = number; values = values }
 
 -- a refusal gives its place; Open and Done give visits made, clauses gone, literals gone; learn gives what becomes of the newcomer (0 kept whole, 1 dropped, 2 shortened) and the literals left; explain gives the verdict, the literals taken out and the length written; the others give the one number that they answer
-abbrev pub reply_of : Answer → Reply
-reply_of (Refused r) = reply 0 (refusal_number r) (refusal_place r ∷ [])
-reply_of Loaded = reply 1 0 []
-reply_of (Open c) = reply 2 0 (c.visits ∷ c.clauses ∷ c.literals ∷ [])
-reply_of (Done c) = reply 3 0 (c.visits ∷ c.clauses ∷ c.literals ∷ [])
-reply_of Stamped = reply 4 0 []
-reply_of (Failed set) = reply 5 0 (set ∷ [])
-reply_of (Ran rounds) = reply 6 0 (rounds ∷ [])
-reply_of (Written length) = reply 7 0 (length ∷ [])
-reply_of Set = reply 8 0 []
-reply_of (KeptWhole left) = reply 9 0 (0 ∷ left ∷ [])
-reply_of (KeptShort left) = reply 10 0 (2 ∷ left ∷ [])
-reply_of NotKept = reply 11 0 (1 ∷ 0 ∷ [])
-reply_of (Explained verdict out length) = reply 12 0 (verdict_number verdict ∷ out ∷ length ∷ [])
+abbrev pub reply_of : Result Answer Refusal → Reply
+reply_of (Err r) = reply 0 (refusal_number r) (refusal_place r ∷ [])
+reply_of (Ok Loaded) = reply 1 0 []
+reply_of (Ok (Open c)) = reply 2 0 (c.visits ∷ c.clauses ∷ c.literals ∷ [])
+reply_of (Ok (Done c)) = reply 3 0 (c.visits ∷ c.clauses ∷ c.literals ∷ [])
+reply_of (Ok Stamped) = reply 4 0 []
+reply_of (Ok (Failed set)) = reply 5 0 (set ∷ [])
+reply_of (Ok (Ran rounds)) = reply 6 0 (rounds ∷ [])
+reply_of (Ok (Written length)) = reply 7 0 (length ∷ [])
+reply_of (Ok Set) = reply 8 0 []
+reply_of (Ok (KeptWhole left)) = reply 9 0 (0 ∷ left ∷ [])
+reply_of (Ok (KeptShort left)) = reply 10 0 (2 ∷ left ∷ [])
+reply_of (Ok NotKept) = reply 11 0 (1 ∷ 0 ∷ [])
+reply_of (Ok (Explained verdict out length)) = reply 12 0 (verdict_number verdict ∷ out ∷ length ∷ [])
 
 -- the first of the values: a refusal's place, the length written, ..; 0 where there is none
 abbrev pub first_value : List ℕ → ℕ

@@ -1,7 +1,7 @@
 // The types that all calls share: the state that goes with the tables, the refusals, and the answers.
 #![tactic(auto)]
 
-ghost use Rattle.std.specs.Prelude.{◌≡◌, ◌-◌, ◌^◌, ◌≤◌};
+ghost use Rattle.std.specs.Prelude.{◌≡◌, ◌-◌, ◌^◌, ◌<◌, ◌≤◌};
 ghost use Rattle.state.specs.Answers.{refusal_number, refusal_place, verdict_number, reply_of, first_value, result_by};
 ghost use Rattle.state.specs.Programmes.{constant_programme};
 ghost use Rattle.state.specs.States.{state, loaded_state, empty_state, opened, closed, marked, programmed};
@@ -150,7 +150,7 @@ pub enum Refusal {
 
 impl Refusal {
     pub fn number(self) -> u64
-        ensures { result ≡ refusal_number self }
+        ensures { (result ≡ refusal_number self) × (0 < result) × (result ≤ 15) }
     {
         match self {
             Refusal::Shape => 1,
@@ -221,10 +221,9 @@ impl Verdict {
     }
 }
 
-// What the calls answer.
+// What the calls answer where they are not refused.
 #[derive(Clone, Copy)]
 pub enum Answer {
-    Refused(Refusal),
     // load
     Loaded,
     // Propagate, Merge, Sweep: visits are left, or none is
@@ -249,22 +248,11 @@ pub enum Answer {
 }
 
 impl Answer {
-    // The refusal's number, 0 where nothing is refused.
-    pub fn number(self) -> u64
-        ensures { (result ≡ (reply_of self).number) × (result ≤ 15) }
-    {
-        match self {
-            Answer::Refused(refusal) => refusal.number(),
-            _ => 0,
-        }
-    }
-
-    // The first value: a refusal's place, the visits made, the length written, what becomes of a learnt clause, the verdict on a clause; 0 where there is none.
+    // The first value: the visits made, the length written, what becomes of a learnt clause, the verdict on a clause; 0 where there is none.
     pub fn value(self) -> u64
-        ensures { result ≡ first_value (reply_of self).values }
+        ensures { result ≡ first_value (reply_of (Ok self)).values }
     {
         match self {
-            Answer::Refused(refusal) => refusal.place(),
             Answer::Loaded => 0,
             Answer::Open(counts) => counts.visits as u64,
             Answer::Done(counts) => counts.visits as u64,
@@ -281,10 +269,10 @@ impl Answer {
     }
 }
 
-// An answer and the state after it.
+// An answer or a refusal, and the state after it.
 #[derive(Clone, Copy)]
 pub struct Outcome {
-    pub answer: Answer,
+    pub answer: Result<Answer, Refusal>,
     pub state: State,
 }
 

@@ -61,7 +61,7 @@ pub fn sweep_entered(
 {
     if !st.fresh {
         return Outcome {
-            answer: Answer::Refused(Refusal::Stale),
+            answer: Err(Refusal::Stale),
             state: st,
         };
     }
@@ -84,7 +84,7 @@ pub fn sweep(
     let own = PassName::Sweep;
     match entry::entry_of(clauses, literals, variables, times, links, st, own) {
         Err(refusal) => Outcome {
-            answer: Answer::Refused(refusal),
+            answer: Err(refusal),
             state: st,
         },
         Ok(Entry::Opens) => sweep_entered(clauses, literals, times, links, st, 0, n as u32),

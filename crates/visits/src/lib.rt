@@ -223,12 +223,12 @@ pub fn answer_at(
 {
     if k < st.n {
         Outcome {
-            answer: Answer::Open(counts),
+            answer: Ok(Answer::Open(counts)),
             state: st.opened(pass, fresh_open),
         }
     } else {
         Outcome {
-            answer: Answer::Done(counts),
+            answer: Ok(Answer::Done(counts)),
             state: st.closed(fresh_done),
         }
     }

@@ -1,4 +1,5 @@
 -- The whole text from its pieces, and into an output: all of it, or refusal 10. Assumes nothing.
+use Rattle.std.specs.Prelude.{Ok, Err}
 use Prim.Native.Nat.{ℕ, ◌+◌, ◌≤◌, ◌<◌}
 use native.Mathlib.Omega.{arith}
 use mathlib.Core.Path.{◌≡◌, refl, sym, ap, ◌∙◌}
@@ -10,7 +11,6 @@ use lib.IntN.{ℤ}
 use borrow.Author.Tests.{lt-leb, le-leb}
 use Rattle.state.specs.declared.State.{State}
 use Rattle.state.specs.declared.Answer.{Answer}
-use Rattle.state.specs.declared.Answer.TheVariants.{Refused}
 use Rattle.state.specs.declared.Refusal.TheVariants.{Shape, Short}
 use Rattle.tables.specs.Tables.{Tables}
 use Rattle.shape.specs.Decision.{shape_ok}
@@ -107,25 +107,25 @@ module _ (t : Tables) (st : State) (R : Printable t.clauses t.literals t.variabl
 
 -- ---- measured on an empty part of the output, then written
 
-pub too_short : (answer : ℕ → Answer) {text e : List ℕ} {r : ℕ} (out : List ℕ) → Stored text 0 [] e r → length (e ++ out) < r → after_write (Refused (Short r)) (e ++ out) ≡ text_into answer text out
+pub too_short : (answer : ℕ → Answer) {text e : List ℕ} {r : ℕ} (out : List ℕ) → Stored text 0 [] e r → length (e ++ out) < r → after_write (Err (Short r)) (e ++ out) ≡ text_into answer text out
 too_short answer {text} {e} {r} out s h =
     let n : e ≡ [] = s.stored ∙ sets_nil 0 text in
     let k : r ≡ length text = s.next ∙ omega arith in
     let o : e ++ out ≡ out = ap (λ (d : List ℕ). d ++ out) n in
-    rw (lt-leb (length text) (length out) (omega (arith, k, ap length o)), text_into) (λ i. after_write (Refused (Short (k i))) (o i))
+    rw (lt-leb (length text) (length out) (omega (arith, k, ap length o)), text_into) (λ i. after_write (Err (Short (k i))) (o i))
 
-pub fits_out : (answer : ℕ → Answer) {text e o : List ℕ} {n r : ℕ} (out : List ℕ) → Stored text 0 [] e n → n ≤ length (e ++ out) → Stored text 0 (e ++ out) o r → after_write (answer r) o ≡ text_into answer text out
+pub fits_out : (answer : ℕ → Answer) {text e o : List ℕ} {n r : ℕ} (out : List ℕ) → Stored text 0 [] e n → n ≤ length (e ++ out) → Stored text 0 (e ++ out) o r → after_write (Ok (answer r)) o ≡ text_into answer text out
 fits_out answer {text} {e} {o} {n} {r} out s h t =
     let q : e ++ out ≡ out = ap (λ (d : List ℕ). d ++ out) (s.stored ∙ sets_nil 0 text) in
     let k : r ≡ length text = t.next ∙ omega arith in
     let m : length text ≤ length out = omega (arith, s.next, ap length q) in
     let z : 0 + length text ≡ length text = omega arith in
     let p : o ≡ text ++ drop (length text) out = t.stored ∙ ap (λ (d : List ℕ). sets d 0 text) q ∙ sets-eq text out 0 (omega arith) ∙ ap (λ (i : ℕ). text ++ drop i out) z in
-    rw (le-leb (length text) (length out) m, text_into) (λ i. after_write (answer (k i)) (p i))
+    rw (le-leb (length text) (length out) m, text_into) (λ i. after_write (Ok (answer (k i))) (p i))
 
 -- ---- the call
 
-pub call_refused : (t : Tables) (st : State) (out : List ℕ) → shape_ok t st ≡ false → after_write (Refused Shape) out ≡ write_call t st out
+pub call_refused : (t : Tables) (st : State) (out : List ℕ) → shape_ok t st ≡ false → after_write (Err Shape) out ≡ write_call t st out
 unfolding write_call
 call_refused t st out e = rw (e, write_call)
 

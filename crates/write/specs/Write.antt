@@ -1,12 +1,13 @@
 -- Document 01: "Write gives the header with the number of clauses that follow; one unit per value by rising variable; for each v with class c other than v, `v −c` and `−v c` by rising v; then the standing clauses. ..
 -- Under the mark it is `p cnf V 1`, LF, `0`, LF. Later bytes stay." Refusal 1, then 10 with the length needed. Assumes nothing: these are definitions.
-use Rattle.std.specs.Prelude.{ℕ, zero, suc, ◌*◌, Bool, true, false, List, [], ◌∷◌, ◌++◌, length, take, drop, leb, ℤ, pos, neg_ℤ, nat_abs}
+use Rattle.std.specs.Prelude.{ℕ, zero, suc, ◌*◌, Bool, true, false, List, [], ◌∷◌, ◌++◌, length, take, drop, leb, ℤ, pos, neg_ℤ, nat_abs, Result, Ok, Err}
 use Rattle.std.specs.Int.Signed.{non_neg}
 use Rattle.literal.specs.Literals.{eq_z, lit_by}
 use Rattle.state.specs.Answers.{Reply, reply_of}
 use Rattle.state.specs.declared.State.{State}
 use Rattle.state.specs.declared.Answer.{Answer}
-use Rattle.state.specs.declared.Answer.TheVariants.{Refused, Written}
+use Rattle.state.specs.declared.Answer.TheVariants.{Written}
+use Rattle.state.specs.declared.Refusal.{Refusal}
 use Rattle.state.specs.declared.Refusal.TheVariants.{Shape, Short}
 use Rattle.tables.specs.Tables.{Tables}
 use Rattle.shape.specs.Decision.{shape_ok}
@@ -57,15 +58,15 @@ pub record AfterWrite : Type 0 where
   pub reply : Reply
   pub out : List ℕ
 
-abbrev pub after_write : Answer → List ℕ → AfterWrite
+abbrev pub after_write : Result Answer Refusal → List ℕ → AfterWrite
 after_write a out = record { reply = reply_of a; out = out }
 
 -- a text into an output: all of it, with an answer that says its length, and later bytes stay; or refusal 10 with the length needed, and nothing changes
 abbrev pub text_into : (ℕ → Answer) → List ℕ → List ℕ → AfterWrite
 text_into answer text out =
     elim (leb (length text) (length out)) [
-      | true ↦ after_write (answer (length text)) (text ++ drop (length text) out)
-      | false ↦ after_write (Refused (Short (length text))) out
+      | true ↦ after_write (Ok (answer (length text))) (text ++ drop (length text) out)
+      | false ↦ after_write (Err (Short (length text))) out
     ]
 
 abbrev pub write_into : List ℕ → List ℕ → AfterWrite
@@ -73,4 +74,4 @@ write_into text out = text_into Written text out
 
 -- the call
 unfoldable pub write_call : Tables → State → List ℕ → AfterWrite
-write_call t st out = elim (shape_ok t st) [ true ↦ write_into (write_text t st) out | false ↦ after_write (Refused Shape) out ]
+write_call t st out = elim (shape_ok t st) [ true ↦ write_into (write_text t st) out | false ↦ after_write (Err Shape) out ]

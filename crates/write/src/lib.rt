@@ -189,16 +189,17 @@ fn write_text(
     variables: &[i32],
     st: State,
     out: &mut [u8],
-) -> Answer
+) -> Result<Answer, Refusal>
     requires { Printable clauses.now literals.now variables.now st.v st.n }
     ensures { (times : List ℕ) (links : List ℤ) → after_write result out.new ≡ write_into (write_text (lent clauses.now literals.now variables.now times links) st) out.old }
 {
     // measured first, on an empty part of the output, so that a refused call stores nothing
     let needed = put_formula(&mut out[..0], clauses, literals, variables, st);
     if out.len() < needed {
-        return Answer::Refused(Refusal::Short(needed));
+        return Err(Refusal::Short(needed));
     }
-    Answer::Written(put_formula(out, clauses, literals, variables, st))
+    let written = put_formula(out, clauses, literals, variables, st);
+    Ok(Answer::Written(written))
 }
 
 // The call: refusal 1 unless the shape rule holds, then as `write_text`.
@@ -210,11 +211,11 @@ pub fn write(
     links: &[i32],
     st: State,
     out: &mut [u8],
-) -> Answer
+) -> Result<Answer, Refusal>
     ensures { after_write result out.new ≡ write_call (lent clauses.now literals.now variables.now times.now links.now) st out.old }
 {
     if !shape::shape_ok(clauses, literals, variables, times, links, st) {
-        return Answer::Refused(Refusal::Shape);
+        return Err(Refusal::Shape);
     }
     write_text(clauses, literals, variables, st, out)
 }

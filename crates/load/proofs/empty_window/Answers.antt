@@ -1,15 +1,14 @@
-use Rattle.std.proofs.Common.{ℕ, ◌<◌, arith, sym, subst, ◌∙◌, rules, pos}
+-- A call that was made has the number 0 in its reply, and the window is emptied; a refused one leaves it.
+use Rattle.std.proofs.Common.{arith, rules, pos}
+use Rattle.state.proofs.Numbers.{number_ok}
 use Rattle.tables.specs.Calls.{after}
 use Rattle.window.specs.Window.{places}
-use Rattle.load.proofs.Emptying.{window_stays, window_emptied}
+use Rattle.load.proofs.Emptying.{window_emptied}
 use Rattle.load.proofs.Fill.{cleared_front}
 use Rattle.load.proofs.empty_window.Goals as goal
-
-pub returns-then-number-gt0 : goal.returns-then-number-gt0
-returns-then-number-gt0 c = λ t. window_stays (after c.args.outcome t) (places c.args.sizes.now c.args.learnt.now c.args.window) (subst (λ (n : ℕ). 0 < n) c.number.ensures.0 c.if-number-gt0.true)
 
 pub returns : goal.returns
 returns c =
     let sizes = cleared_front 0 c.args.sizes.now 64 (omega (arith, c.requires.sizes)) (c.fill.ensures.after (search rules)) in
     let learnt = cleared_front (pos 0) c.args.learnt.now 4096 (omega (arith, c.requires.learnt)) (c.fill-2.ensures.after (search rules)) in
-    λ t. window_emptied (after c.args.outcome t) (places c.args.sizes.now c.args.learnt.now c.args.window) (sym c.number.ensures.0 ∙ omega (arith, c.if-number-gt0.false)) sizes learnt c.empty.ensures
+    λ t. window_emptied (after c.args.outcome t) (places c.args.sizes.now c.args.learnt.now c.args.window) (number_ok c.args.outcome.answer c.if-is_err.ensures.negation) sizes learnt c.empty.ensures

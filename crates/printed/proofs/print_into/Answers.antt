@@ -1,7 +1,11 @@
 -- A line of two numbers below 2^64 is short, so the output has room for it.
-use Rattle.std.proofs.Common.{arith, ◌≡◌, ℕ, sym, ap, ◌∙◌, length, take}
+use Rattle.std.proofs.Common.{arith, ◌≡◌, ℕ, ap, ◌∙◌, length, take}
 use Rattle.std.proofs.lemmas.List.{length-replicate}
+use Rattle.std.specs.Prelude.{Result, Ok, Err}
+use Rattle.state.specs.declared.Answer.{Answer}
+use Rattle.state.specs.declared.Refusal.{Refusal}
 use Rattle.state.specs.Answers.{reply_of}
+use Rattle.state.proofs.Numbers.{number_made, number_bounds}
 use Rattle.printing.specs.Printing.{refused_line}
 use Rattle.printing.proofs.Storing.{refusal_short, stored_front}
 use Rattle.simplify.specs.Texts.{simplify_text}
@@ -17,18 +21,21 @@ returns-then-is_long c =
     let S = stored_front c.put_refusal.ensures (omega (arith, short, ap length c.requires, length-replicate {A = ℕ} 65536 0)) in
     (omega (arith, S.0, short), S.1 ∙ long_printed c.args.input.now c.if-is_long.true)
 
-pub returns-then-number-eq0 : goal.returns-then-number-eq0
-returns-then-number-eq0 c =
+pub returns-in-Ok : goal.returns-in-Ok
+returns-in-Ok c =
     let t = c.simplify_text-answer in
-    let none : (reply_of t.result).number ≡ 0 = sym c.number-number.ensures.0 ∙ c.if-number-eq0.true in
-    (omega (arith, c.value-value.ensures, t.ensures.fits none, ap length c.requires, length-replicate {A = ℕ} 65536 0), ap (λ (k : ℕ). take k t.new.out) c.value-value.ensures ∙ written_printed c.args.input.now (omega (arith, c.if-is_long.false)) t.result t.new.out (t.ensures.out_after ∙ ap (simplify_text c.args.input.now 1) c.requires) none)
+    let a : Result Answer Refusal = Ok c.in-Ok.answer in
+    let none : (reply_of a).number ≡ 0 = number_made c.in-Ok.answer in
+    (omega (arith, c.value.ensures, c.in-Ok.ensures.fits none, ap length c.requires, length-replicate {A = ℕ} 65536 0), ap (λ (k : ℕ). take k t.new.out) c.value.ensures ∙ written_printed c.args.input.now (omega (arith, c.if-is_long.false)) a t.new.out (c.in-Ok.ensures.out_after ∙ ap (simplify_text c.args.input.now 1) c.requires) none)
 
-pub put_refusal-requires-2 : goal.put_refusal-requires-2
-put_refusal-requires-2 c = omega (arith, refusal_short c.number-number.result c.value-value.result (omega (arith, c.number-number.ensures.1)) (omega (arith, c.value-value.type_inv)))
+pub put_refusal-requires-in-Err : goal.put_refusal-requires-in-Err
+put_refusal-requires-in-Err c = omega (arith, refusal_short c.number.result c.place.result (omega (arith, c.number.ensures)) (omega (arith, c.place.type_inv)))
 
-pub returns : goal.returns
-returns c =
+pub returns-in-Err : goal.returns-in-Err
+returns-in-Err c =
     let t = c.simplify_text-answer in
-    let short = refusal_short c.number-number.result c.value-value.result (omega (arith, c.number-number.ensures.1)) (omega (arith, c.value-value.type_inv)) in
-    let S = stored_front c.put_refusal-2.ensures (omega (arith, short, t.auto.out, ap length c.requires, length-replicate {A = ℕ} 65536 0)) in
-    (omega (arith, S.0, short), S.1 ∙ (λ i. refused_line (c.number-number.ensures.0 i) (c.value-value.ensures i)) ∙ refused_printed c.args.input.now (omega (arith, c.if-is_long.false)) t.result t.new.out (t.ensures.out_after ∙ ap (simplify_text c.args.input.now 1) c.requires) (λ z. c.if-number-eq0.false (c.number-number.ensures.0 ∙ z)))
+    let a : Result Answer Refusal = Err c.in-Err.refusal in
+    let put = c.put_refusal-in-Err in
+    let short = refusal_short c.number.result c.place.result (omega (arith, c.number.ensures)) (omega (arith, c.place.type_inv)) in
+    let S = stored_front put.ensures (omega (arith, short, t.auto.out, ap length c.requires, length-replicate {A = ℕ} 65536 0)) in
+    (omega (arith, S.0, short), S.1 ∙ (λ i. refused_line (c.number.ensures.0 i) (c.place.ensures i)) ∙ refused_printed c.args.input.now (omega (arith, c.if-is_long.false)) a t.new.out (c.in-Err.ensures.out_after ∙ ap (simplify_text c.args.input.now 1) c.requires) (λ z. omega (arith, (number_bounds c.in-Err.refusal).0, z)))

@@ -7,4 +7,4 @@ pub returns-then-out-needed : goal.returns-then-out-needed
 returns-then-out-needed c = λ times links. too_short Written c.args.out.now (c.put_formula-needed.ensures times links) c.if-out-needed.true
 
 pub returns : goal.returns
-returns c = λ times links. fits_out Written c.args.out.now (c.put_formula-needed.ensures times links) c.if-out-needed.false (c.put_formula.ensures times links)
+returns c = λ times links. fits_out Written c.args.out.now (c.put_formula-needed.ensures times links) c.if-out-needed.false (c.put_formula-written.ensures times links)
