@@ -1,5 +1,4 @@
 -- What is answered of a newcomer, by what was seen. Assumes nothing.
-use Rattle.std.specs.Prelude.{Ok}
 use Prim.Native.Nat.{ℕ}
 use native.Mathlib.Omega.{arith}
 use mathlib.Core.Path.{◌≡◌, refl, sym, ap}
@@ -9,7 +8,7 @@ use lib.ListN.{length}
 use lib.Dec.{eqb}
 use lib.IntN.{ℤ}
 use borrow.Author.Tests.{eq-eqb, ne_eqb}
-use Rattle.state.specs.Answers.{reply_of}
+use Rattle.state.proofs.Numbers.{number_made}
 use Rattle.state.specs.declared.State.{State}
 use Rattle.state.specs.declared.Answer.{Answer}
 use Rattle.state.specs.declared.Answer.TheVariants.{KeptWhole, KeptShort, NotKept}
@@ -27,13 +26,6 @@ kept_whole before now e = ap (λ (b : Bool). elim b as (λ x. Answer) [ true ↦
 
 pub kept_short : (before now : ℕ) → (now ≡ before → ⊥) → KeptShort now ≡ kept_as before now
 kept_short before now n = ap (λ (b : Bool). elim b as (λ x. Answer) [ true ↦ KeptWhole now | false ↦ KeptShort now ]) (sym (ne_eqb now before n))
-
-kept_number : (before now : ℕ) → (reply_of (Ok (kept_as before now))).number ≡ 0
-kept_number before now = by (eqb now before)
-  where
-    by : (b : Bool) → (reply_of (elim b as (λ _. Answer) [ true ↦ KeptWhole now | false ↦ KeptShort now ])).number ≡ 0
-    by true = refl
-    by false = refl
 
 -- what was seen, as numbers
 abbrev kind_of : Visited → ℕ
@@ -79,8 +71,8 @@ learn_other t st w C conflict a b = refl
 
 -- a newcomer that is judged is no refusal
 pub judged_number : (t : Tables) (st : State) (w : Places) (C : List ℤ) (f : Fate) → (learn_by f C t st w).made.reply.number ≡ 0
-judged_number t st w C kept = kept_number (length C) (length C)
-judged_number t st w C (left D) = kept_number (length C) (length D)
+judged_number t st w C kept = number_made (kept_as (length C) (length C))
+judged_number t st w C (left D) = number_made (kept_as (length C) (length D))
 judged_number t st w C dropped = refl
 judged_number t st w C (unit l) = refl
 judged_number t st w C conflict = refl
