@@ -184,7 +184,7 @@ linking_none c l heads places none = record {
 }
 
 -- the same for the place itself, with what the code has read
-module _ {n i : ℕ} {c : List ℕ} {l : List ℤ} {heads places : List ℕ} (K : Linkable n c l) (lt : i < n) (R : ChainRoom heads places) (p w : ℕ) (low : start_of c i ≤ p) (high : p < start_of c i + length_of c i) (e : w ≡ variable_at l p) where
+module _ {n i : ℕ} {c : List ℕ} {l : List ℤ} (K : Linkable n c l) (lt : i < n) (p w : ℕ) (low : start_of c i ≤ p) (high : p < start_of c i + length_of c i) (e : w ≡ variable_at l p) where
   at : start_of c i + (p - start_of c i) ≡ p
   at = omega (arith, low)
 
@@ -197,16 +197,16 @@ module _ {n i : ℕ} {c : List ℕ} {l : List ℤ} {heads places : List ℕ} (K 
   pub place_small : Small (get_or l p (pos 0))
   place_small = record { small = omega (arith, ranged.within) }
 
-  pub place_room : (w < length heads) × ((2 * p + 1 < length places) × (p < 16384))
-  place_room =
-      let q : p < 16384 = omega (arith, K.parts.inside i lt, high) in
-      (omega (arith, e, ranged.within, R.variables), (omega (arith, q, R.records), q))
+  pub place_room : (w < 1025) × (p < 16384)
+  place_room = (omega (arith, e, ranged.within), omega (arith, K.parts.inside i lt, high))
 
-  pub linking_step : Linking i (p - start_of c i) c l heads places → (heads' places' : List ℕ) → heads' ≡ set heads w (p + 1) → places' ≡ set (set places (2 * p) (get_or heads w 0)) (2 * p + 1) i
-      → Linking i (p + 1 - start_of c i) c l heads' places'
-  linking_step L heads' places' eh ep =
-      subst (λ (x : ℕ). Linking i x c l heads' places') (let z : p - start_of c i + 1 ≡ p + 1 - start_of c i = omega (arith, low) in z)
-      (subst₂ (λ (x y : List ℕ). Linking i (p - start_of c i + 1) c l x y) (sym eh) (sym ep)
-      (subst (λ (x : ℕ). Linking i (p - start_of c i + 1) c l (set heads x (p + 1)) (set (set places (2 * p) (get_or heads x 0)) (2 * p + 1) i)) (sym e)
-      (subst (λ (x : ℕ). Linking i (p - start_of c i + 1) c l (set heads (variable_at l x) (x + 1)) (set (set places (2 * x) (get_or heads (variable_at l x) 0)) (2 * x + 1) i)) at
-      (linking_more K lt inside R L))))
+  pub linking_step : {heads places : List ℕ} → ChainRoom heads places → Linking i (p - start_of c i) c l heads places → (heads' places' : List ℕ) → heads' ≡ set heads w (p + 1) → places' ≡ set (set places (2 * p) (get_or heads w 0)) (2 * p + 1) i
+      → ChainRoom heads' places' × Linking i (p + 1 - start_of c i) c l heads' places'
+  linking_step {heads} {places} R L heads' places' eh ep = (
+    record { variables = omega (arith, R.variables, ap length eh, length-set heads w (p + 1)); records = omega (arith, R.records, ap length ep, length-set (set places (2 * p) (get_or heads w 0)) (2 * p + 1) i, length-set places (2 * p) (get_or heads w 0)) },
+    subst (λ (x : ℕ). Linking i x c l heads' places') (let z : p - start_of c i + 1 ≡ p + 1 - start_of c i = omega (arith, low) in z)
+        (subst₂ (λ (x y : List ℕ). Linking i (p - start_of c i + 1) c l x y) (sym eh) (sym ep)
+        (subst (λ (x : ℕ). Linking i (p - start_of c i + 1) c l (set heads x (p + 1)) (set (set places (2 * p) (get_or heads x 0)) (2 * p + 1) i)) (sym e)
+        (subst (λ (x : ℕ). Linking i (p - start_of c i + 1) c l (set heads (variable_at l x) (x + 1)) (set (set places (2 * x) (get_or heads (variable_at l x) 0)) (2 * x + 1) i)) at
+        (linking_more K lt inside R L)))),
+  )

@@ -3,7 +3,7 @@ use Prim.Native.Nat.{ℕ, ◌+◌, ◌*◌, ◌/◌, ◌≤◌, ◌<◌}
 use native.Mathlib.Omega.{arith}
 use mathlib.Core.Path.{◌≡◌, refl, sym, ap, subst, ◌∙◌}
 use mathlib.Core.Bool.{Bool, true, false, not, ◌&&◌, ◌||◌, false≢true}
-use mathlib.Core.Logic.{◌⊎◌, inl, inr, ⊎_elim}
+use mathlib.Core.Logic.{inl, inr, ⊎_elim}
 use mathlib.Core.List.{List, [], Memᴰ}
 use lib.ListN.{length, get_or, set, drop, replicate, length-set, length-replicate, get_or-replicate}
 use lib.Seq.{get_or-set_other, get_or-take, get_or-drop}
@@ -156,9 +156,9 @@ module _ {n k : ℕ} {c : List ℕ} {l w : List ℤ} {heads places : List ℕ} {
           covered = cleared;
         }
 
-    pub listed_unit : (pending' blocks' : List Bool) → length pending' ≡ length pending → length blocks' ≡ length blocks → PendingAll x heads places (set pending k false) pending' blocks' → Listed n heads places pending' blocks' c' l' w'
+    pub listed_unit : (pending' blocks' : List Bool) → 4096 ≤ length pending' → 64 ≤ length blocks' → PendingAll x heads places (set pending k false) pending' blocks' → Listed n heads places pending' blocks' c' l' w'
     listed_unit pending' blocks' ef eb A =
-        listed_after R.formed R.below L (leaves solid) pending' blocks' (omega (arith, ef, L.room.0), omega (arith, eb, L.room.1)) A.covered (λ i d e. A.still i (rest i d e))
+        listed_after R.formed R.below L (leaves solid) pending' blocks' (ef, eb) A.covered (λ i d e. A.still i (rest i d e))
         (λ y e q z. A.all L.vs L.walkable q (z ∙ number y e))
       where
         number : (y : ℤ) → fate ≡ unit y → nat_abs y ≡ x

@@ -1,7 +1,7 @@
 -- Visits that are skipped: the visits that are left after them give what all of them give. Assumes nothing.
 use Prim.Native.Nat.{ℕ, zero, suc, ◌+◌, ◌≤◌, ◌<◌}
 use native.Mathlib.Omega.{arith}
-use mathlib.Core.Path.{◌≡◌, refl, sym, ap, ◌∙◌}
+use mathlib.Core.Path.{◌≡◌, refl, sym, ap, subst, ◌∙◌}
 use mathlib.Core.Bool.{Bool, false}
 use mathlib.Core.List.{List}
 use lib.ListN.{length, get_or}
@@ -15,9 +15,10 @@ use Rattle.propagate.specs.Listed.{Listed}
 use Rattle.propagate.proofs.Quiet.{quiet_visits}
 
 -- blocks that are left out
-pub relisted : {n : ℕ} {heads places : List ℕ} {pending blocks : List Bool} {c : List ℕ} {l w : List ℤ} → Listed n heads places pending blocks c l w → (blocks' : List Bool) → length blocks' ≡ length blocks → Covered pending blocks'
-    → Listed n heads places pending blocks' c l w
-relisted L blocks' e T = record { vs = L.vs; walkable = L.walkable; rows = L.rows; occurs = L.occurs; room = (L.room.0, omega (arith, e, L.room.1)); covered = T; quiet = L.quiet }
+pub relisted : {n : ℕ} {heads places : List ℕ} {pending blocks : List Bool} {c : List ℕ} {l w : List ℤ} → Listed n heads places pending blocks c l w → (pending' blocks' : List Bool) → pending' ≡ pending → 64 ≤ length blocks' → Covered pending blocks'
+    → Listed n heads places pending' blocks' c l w
+relisted {n} {heads} {places} {pending} {blocks} {c} {l} {w} L pending' blocks' same e T =
+    subst (λ (x : List Bool). Listed n heads places x blocks' c l w) (sym same) (record { vs = L.vs; walkable = L.walkable; rows = L.rows; occurs = L.occurs; room = (L.room.0, e); covered = T; quiet = L.quiet })
 
 module _ {n room k : ℕ} {c : List ℕ} {l w : List ℤ} (changed : Bool) (R : StandsBefore n k c l w) where
   -- over clauses that are not pending

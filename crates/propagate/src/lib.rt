@@ -16,6 +16,7 @@ ghost use Rattle.tables.specs.Tables.{Tables};
 ghost use Rattle.tables.specs.Lent.{lent, returned};
 
 use entry::{Entry, PassName};
+use occurrences::{Chains, PendingClauses};
 use propagate_visits::{Reach, Stand};
 use state::{Answer, Counts, Outcome, Pass, State};
 use visits::Visited;
@@ -25,24 +26,22 @@ fn visit_pending(
     clauses: &mut [u32],
     literals: &mut [i32],
     variables: &mut [i32],
-    heads: &[u32],
-    places: &[u32],
-    pending: &mut [bool],
-    blocks: &mut [bool],
+    chains: &Chains,
+    pending: &mut PendingClauses,
     n: u32,
     k: u32,
 ) -> Visited
     requires stands_before { StandsBefore n k clauses.old literals.old variables.old }
-    requires listed { Listed n heads.now places.now pending.old blocks.old clauses.old literals.old variables.old }
+    requires listed { Listed n chains.now.heads chains.now.places pending.old.flags pending.old.blocks clauses.old literals.old variables.old }
     ensures by_index { (times : List ℕ) (links : List ℤ) → visit_of result (returned clauses.new literals.new variables.new times links)
         ≡ visit_at (propagate_clause variables.old) k (lent clauses.old literals.old variables.old times links) }
-    ensures listed_2 { (result ≡ Conflict → ⊥) → Listed n heads.now places.now pending.new blocks.new clauses.new literals.new variables.new }
+    ensures listed_2 { (result ≡ Conflict → ⊥) → Listed n chains.now.heads chains.now.places pending.new.flags pending.new.blocks clauses.new literals.new variables.new }
 {
     let at = k as usize;
     let seen = propagate_visits::visit_clause(clauses, literals, variables, at);
-    pending[at] = false;
+    pending.clear(at);
     if let Visited::MadeTrue(w) = seen {
-        occurrences::set_pending(heads, places, w as usize, pending, blocks);
+        pending.set_pending(chains, w as usize);
     }
     seen
 }
@@ -52,30 +51,26 @@ fn skip_or_visit(
     clauses: &mut [u32],
     literals: &mut [i32],
     variables: &mut [i32],
-    heads: &[u32],
-    places: &[u32],
-    pending: &mut [bool],
-    blocks: &mut [bool],
+    chains: &Chains,
+    pending: &mut PendingClauses,
     n: u32,
     room: u32,
     k: u32,
     changed: bool,
 ) -> Reach
     requires stands_before { StandsBefore n k clauses.old literals.old variables.old }
-    requires listed { Listed n heads.now places.now pending.old blocks.old clauses.old literals.old variables.old }
+    requires listed { Listed n chains.now.heads chains.now.places pending.old.flags pending.old.blocks clauses.old literals.old variables.old }
     requires room_nonzero { 0 < room }
     ensures advanced { Advanced n room k changed result clauses.old literals.old variables.old clauses.new literals.new variables.new }
-    ensures listed_2 { (result.stand ≡ Contradicted → ⊥) → Listed n heads.now places.now pending.new blocks.new clauses.new literals.new variables.new }
+    ensures listed_2 { (result.stand ≡ Contradicted → ⊥) → Listed n chains.now.heads chains.now.places pending.new.flags pending.new.blocks clauses.new literals.new variables.new }
 {
     let at = k as usize;
-    let j = occurrences::next_pending(pending, blocks, at);
+    let j = pending.next(at);
     if at < j {
         return propagate_visits::skip(n, room, k, j as u32, changed);
     }
     let size = clauses[3 * at + 1];
-    let seen = visit_pending(
-        clauses, literals, variables, heads, places, pending, blocks, n, k,
-    );
+    let seen = visit_pending(clauses, literals, variables, chains, pending, n, k);
     let stand = propagate_visits::stand_after(n, k, changed, size, seen);
     Reach { visits: 1, stand }
 }
@@ -85,17 +80,15 @@ fn visit_skipping(
     clauses: &mut [u32],
     literals: &mut [i32],
     variables: &mut [i32],
-    heads: &[u32],
-    places: &[u32],
-    pending: &mut [bool],
-    blocks: &mut [bool],
+    chains: &Chains,
+    pending: &mut PendingClauses,
     n: u32,
     steps: u32,
     cursor: u32,
     flag: bool,
 ) -> Reach
     requires stands_before { StandsBefore n cursor clauses.old literals.old variables.old }
-    requires listed { Listed n heads.now places.now pending.old blocks.old clauses.old literals.old variables.old }
+    requires listed { Listed n chains.now.heads chains.now.places pending.old.flags pending.old.blocks clauses.old literals.old variables.old }
     ensures { (times : List ℕ) (links : List ℤ) → reached_as result (returned clauses.new literals.new variables.new times links)
         ≡ propagate_visits n steps 0 (going cursor flag (lent clauses.old literals.old variables.old times links)) }
 {
@@ -105,7 +98,7 @@ fn visit_skipping(
     while visits < steps {
         let room = steps - visits;
         let reach = skip_or_visit(
-            clauses, literals, variables, heads, places, pending, blocks, n, room, k, changed,
+            clauses, literals, variables, chains, pending, n, room, k, changed,
         );
         visits += reach.visits;
         let stand = reach.stand;
@@ -135,19 +128,18 @@ fn visit_listed(
     ensures { (times : List ℕ) (links : List ℤ) → reached_as result (returned clauses.new literals.new variables.new times links)
         ≡ propagate_visits n steps 0 (going cursor flag (lent clauses.old literals.old variables.old times links)) }
 {
-    let mut heads = [0u32; 1025];
-    let mut places = [0u32; 32768];
-    let mut pending = [true; 4096];
-    let mut blocks = [true; 64];
-    occurrences::link(clauses, literals, n, &mut heads, &mut places);
+    let mut chains = Chains {
+        heads: [0; 1025],
+        places: [0; 32768],
+    };
+    chains.link(clauses, literals, n);
+    let mut pending = PendingClauses::all();
     visit_skipping(
         clauses,
         literals,
         variables,
-        &heads,
-        &places,
+        &chains,
         &mut pending,
-        &mut blocks,
         n,
         steps,
         cursor,
