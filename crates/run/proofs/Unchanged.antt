@@ -149,19 +149,15 @@ module _ {w : Standing} (R : Runs w) (w' : Standing) where
     parts_size : length parts ≡ 16384
     parts_size = ap length C.second ∙ length-take-le 16384 t.literals R.shape.long.literals
 
-    rows_size : length rows ≡ 2048
-    rows_size = ap length C.third ∙ length-take-le 2048 t.variables R.shape.long.variables
-
     inside : (i : ℕ) → i < w.state.n → start_of kept i + length_of kept i ≤ 16384
     inside i lt =
         let few = R.shape.n_limit in
         subst (λ (k : List ℕ). start_of k i + length_of k i ≤ 16384) (sym C.first)
         (omega (arith, get_or-take 12288 t.clauses (3 * i) 0 (omega arith), get_or-take 12288 t.clauses (3 * i + 1) 0 (omega arith), R.shape.clauses.parts.inside i lt))
 
-    pub copies_compare : (c' : List ℕ) (l' x' : List ℤ) → length c' ≡ length t.clauses → length l' ≡ length t.literals → length x' ≡ length t.variables → Comparable w.state.v w.state.n kept parts rows c' l' x'
+    pub copies_compare : (c' : List ℕ) (l' x' : List ℤ) → length c' ≡ length t.clauses → length l' ≡ length t.literals → length x' ≡ length t.variables → Comparable w.state.v w.state.n kept parts c' l' x'
     copies_compare c' l' x' ec el ex = record {
       few = R.shape.v_limit;
-      places = record { first = kept_size; second = parts_size; third = rows_size };
       inside = record { number = R.shape.n_limit; records = omega (arith, kept_size); parts = inside; first = omega (arith, parts_size); second = omega (arith, el, R.shape.long.literals) };
       records = omega (arith, ec, R.shape.long.clauses);
       rows = omega (arith, ex, R.shape.long.variables);

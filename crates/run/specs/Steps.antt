@@ -19,15 +19,8 @@ pub record PartsInside (n : ℕ) (clauses : List ℕ) (old new : List ℤ) : Typ
   pub first : 16384 ≤ length old
   pub second : 16384 ≤ length new
 
--- places for the clauses, the literals and the variables as they stood before a round
-pub record Places (clauses : List ℕ) (literals variables : List ℤ) : Type 0 where
-  pub first : length clauses ≡ 12288
-  pub second : length literals ≡ 16384
-  pub third : length variables ≡ 2048
-
--- tables that can be copied into such places
-pub record Saves (clauses : List ℕ) (literals variables : List ℤ) (kept : List ℕ) (parts rows : List ℤ) : Type 0 where
-  pub places : Places kept parts rows
+-- tables that can be copied
+pub record Saves (clauses : List ℕ) (literals variables : List ℤ) : Type 0 where
   pub first : 12288 ≤ length clauses
   pub second : 16384 ≤ length literals
   pub third : 2048 ≤ length variables
@@ -39,9 +32,8 @@ pub record Saved (clauses : List ℕ) (literals variables : List ℤ) (kept : Li
   pub third : rows ≡ take 2048 variables
 
 -- what stood before a round, and tables that can be compared with it: of v variables and n clauses
-pub record Comparable (v n : ℕ) (old : List ℕ) (literals variables : List ℤ) (clauses : List ℕ) (literals' variables' : List ℤ) : Type 0 where
+pub record Comparable (v n : ℕ) (old : List ℕ) (literals : List ℤ) (clauses : List ℕ) (literals' variables' : List ℤ) : Type 0 where
   pub few : v ≤ 1024
-  pub places : Places old literals variables
   pub inside : PartsInside n old literals literals'
   pub records : 12288 ≤ length clauses
   pub rows : 2048 ≤ length variables'

@@ -18,7 +18,7 @@ ghost use Rattle.settle.specs.Settle.{between};
 ghost use Rattle.round_order.specs.Order.{order_of};
 ghost use Rattle.run.specs.Run.{follow, round, unchanged, rounds, run_from, run_reply, run_call};
 ghost use Rattle.settle.specs.Steps.{standing_in};
-ghost use Rattle.run.specs.Steps.{Runs, PartsInside, Places, Saves, Saved, Comparable};
+ghost use Rattle.run.specs.Steps.{Runs, PartsInside, Saves, Saved, Comparable};
 
 use state::{Answer, FAILED, Outcome, Programme, SETTLE, STAMP, SWEEP, State};
 
@@ -38,23 +38,6 @@ pub struct Made {
 
 // ---- what stood before a round
 
-// Copies the clauses, the literals and the variables, as many as the tables state, into places for them.
-fn save(
-    clauses: &[u32],
-    literals: &[i32],
-    variables: &[i32],
-    kept: &mut [u32],
-    parts: &mut [i32],
-    rows: &mut [i32],
-)
-    requires { Saves clauses.now literals.now variables.now kept.old parts.old rows.old }
-    ensures { Saved clauses.now literals.now variables.now kept.new parts.new rows.new }
-{
-    kept.copy_from_slice(&clauses[..kept.len()]);
-    parts.copy_from_slice(&literals[..parts.len()]);
-    rows.copy_from_slice(&variables[..rows.len()]);
-}
-
 // Whether each of n clauses has the same literals in two literal tables.
 fn same_parts(clauses: &[u32], old: &[i32], new: &[i32], n: usize) -> bool
     requires { PartsInside n clauses.now old.now new.now }
@@ -70,27 +53,39 @@ fn same_parts(clauses: &[u32], old: &[i32], new: &[i32], n: usize) -> bool
     true
 }
 
-// Whether no clause, class or value differs from what stood before a round. Clauses whose records are the same have the same parts.
-fn same_tables(
-    v: u32,
-    n: u32,
-    kept: &[u32],
-    parts: &[i32],
-    rows: &[i32],
-    clauses: &[u32],
-    literals: &[i32],
-    variables: &[i32],
-) -> bool
-    requires { Comparable v n kept.now parts.now rows.now clauses.now literals.now variables.now }
-    ensures { (st st' : State) (times times' : List ℕ) (links links' : List ℤ) → st.v ≡ v → st.n ≡ n →
-        result ≡ unchanged (standing_in (lent kept.now parts.now rows.now times links) st)
-        (standing_in (lent clauses.now literals.now variables.now times' links') st') }
-{
-    let records = 3 * n as usize;
-    let places = 2 * v as usize;
-    kept[..records] == clauses[..records]
-        && same_parts(kept, parts, literals, n as usize)
-        && rows[..places] == variables[..places]
+// The clauses, the literals and the variables as they stood before a round, as many as the tables state. The value is large: the
+// rounds of a run share one, and the type is not `Copy`.
+#[derive(Drop)]
+struct Copies {
+    clauses: [u32; 12288],
+    literals: [i32; 16384],
+    variables: [i32; 2048],
+}
+
+impl Copies {
+    // Copies the tables as they stand.
+    fn save(&mut self, clauses: &[u32], literals: &[i32], variables: &[i32])
+        requires { Saves clauses.now literals.now variables.now }
+        ensures { Saved clauses.now literals.now variables.now self.new.clauses self.new.literals self.new.variables }
+    {
+        self.clauses.copy_from_slice(&clauses[..12288]);
+        self.literals.copy_from_slice(&literals[..16384]);
+        self.variables.copy_from_slice(&variables[..2048]);
+    }
+
+    // Whether no clause, class or value differs from the copies. Clauses whose records are the same have the same parts.
+    fn is_same(&self, v: u32, n: u32, clauses: &[u32], literals: &[i32], variables: &[i32]) -> bool
+        requires { Comparable v n self.now.clauses self.now.literals clauses.now literals.now variables.now }
+        ensures { (st st' : State) (times times' : List ℕ) (links links' : List ℤ) → st.v ≡ v → st.n ≡ n →
+            result ≡ unchanged (standing_in (lent self.now.clauses self.now.literals self.now.variables times links) st)
+            (standing_in (lent clauses.now literals.now variables.now times' links') st') }
+    {
+        let records = 3 * n as usize;
+        let places = 2 * v as usize;
+        self.clauses[..records] == clauses[..records]
+            && same_parts(&self.clauses, &self.literals, literals, n as usize)
+            && self.variables[..places] == variables[..places]
+    }
 }
 
 // ---- the codes
@@ -241,7 +236,7 @@ fn round(
     state
 }
 
-// Round k with places for what stood before it: the run stops after it at the mark, or where nothing has changed.
+// Round k with copies of what stood before it: the run stops after it at the mark, or where nothing has changed.
 fn make_round(
     k: u32,
     clauses: &mut [u32],
@@ -251,19 +246,17 @@ fn make_round(
     links: &mut [i32],
     st: State,
     programme: Programme,
-    kept: &mut [u32],
-    parts: &mut [i32],
-    rows: &mut [i32],
+    copies: &mut Copies,
 ) -> Turn
-    requires { Runs (standing_in (handed clauses.old literals.old variables.old times.old links.old) st) × (programme.length ≤ 32) × Places kept.old parts.old rows.old }
+    requires { Runs (standing_in (handed clauses.old literals.old variables.old times.old links.old) st) × (programme.length ≤ 32) }
     ensures { (standing_in (returned clauses.new literals.new variables.new times.new links.new) result.state ≡ round k (codes_of programme) (standing_in (lent clauses.old literals.old variables.old times.old links.old) st))
         × (result.stop ≡ (result.state.mark || unchanged (standing_in (lent clauses.old literals.old variables.old times.old links.old) st) (standing_in (returned clauses.new literals.new variables.new times.new links.new) result.state))) }
 {
-    save(clauses, literals, variables, kept, parts, rows);
+    copies.save(clauses, literals, variables);
     let v = st.v;
     let n = st.n;
     let after = round(k, clauses, literals, variables, times, links, st, programme);
-    let same = same_tables(v, n, kept, parts, rows, clauses, literals, variables);
+    let same = copies.is_same(v, n, clauses, literals, variables);
     Turn {
         state: after,
         stop: after.mark || same,
@@ -280,17 +273,15 @@ fn make_rounds(
     links: &mut [i32],
     st: State,
     programme: Programme,
-    kept: &mut [u32],
-    parts: &mut [i32],
-    rows: &mut [i32],
+    copies: &mut Copies,
 ) -> Made
-    requires { Runs (standing_in (handed clauses.old literals.old variables.old times.old links.old) st) × (programme.length ≤ 32) × Places kept.old parts.old rows.old }
+    requires { Runs (standing_in (handed clauses.old literals.old variables.old times.old links.old) st) × (programme.length ≤ 32) }
     ensures { rounds result.made (standing_in (returned clauses.new literals.new variables.new times.new links.new) result.state) ≡ run_from (codes_of programme) count 0 (standing_in (lent clauses.old literals.old variables.old times.old links.old) st) }
 {
     let mut state = st;
     for k in 0..count {
         let turn = make_round(
-            k, clauses, literals, variables, times, links, state, programme, kept, parts, rows,
+            k, clauses, literals, variables, times, links, state, programme, copies,
         );
         state = turn.state;
         if turn.stop {
@@ -300,7 +291,7 @@ fn make_rounds(
     Made { made: count, state }
 }
 
-// The same with places of its own.
+// The same with copies of its own.
 fn run_rounds(
     count: u32,
     clauses: &mut [u32],
@@ -314,12 +305,21 @@ fn run_rounds(
     requires { Runs (standing_in (handed clauses.old literals.old variables.old times.old links.old) st) × (programme.length ≤ 32) }
     ensures { rounds result.made (standing_in (returned clauses.new literals.new variables.new times.new links.new) result.state) ≡ run_from (codes_of programme) count 0 (standing_in (lent clauses.old literals.old variables.old times.old links.old) st) }
 {
-    let mut kept = [0u32; 12288];
-    let mut parts = [0i32; 16384];
-    let mut rows = [0i32; 2048];
+    let mut copies = Copies {
+        clauses: [0; 12288],
+        literals: [0; 16384],
+        variables: [0; 2048],
+    };
     make_rounds(
-        count, clauses, literals, variables, times, links, st, programme, &mut kept, &mut parts,
-        &mut rows,
+        count,
+        clauses,
+        literals,
+        variables,
+        times,
+        links,
+        st,
+        programme,
+        &mut copies,
     )
 }
 

@@ -6,8 +6,8 @@ use Rattle.run.specs.Run.{unchanged}
 use Rattle.run.proofs.Unchanged.{copies_tell, copies_compare}
 use Rattle.run.proofs.make_round.Goals as goal
 
-pub same_tables-same-requires : goal.same_tables-same-requires
-same_tables-same-requires c =
+pub is_same-same-requires : goal.is_same-same-requires
+is_same-same-requires c =
     let r = c.round-after in
     let left = standing_in (tables r.new.clauses r.new.literals r.new.variables r.new.times r.new.links) r.result in
     copies_compare c.requires.0 left c.save.ensures r.new.clauses r.new.literals r.new.variables r.auto.clauses r.auto.literals r.auto.variables
@@ -19,7 +19,7 @@ returns-else-after c =
     let stood = standing_in (tables a.clauses.now a.literals.now a.variables.now a.times.now a.links.now) a.st in
     let left = standing_in (tables r.new.clauses r.new.literals r.new.variables r.new.times r.new.links) r.result in (
       r.ensures,
-      c.same_tables-same.ensures a.st r.result a.times.now r.new.times a.links.now r.new.links refl refl
+      c.is_same-same.ensures a.st r.result a.times.now r.new.times a.links.now r.new.links refl refl
           ∙ copies_tell c.requires.0 left c.save.ensures
           ∙ ap (λ (b : Bool). b || unchanged stood left) (sym c.if-after.false),
     )

@@ -8,29 +8,26 @@ use Rattle.run.proofs.Rounds.{rounding_none, rounding_stops, rounding_more, roun
 use Rattle.run.proofs.make_rounds.Goals as goal
 
 pub loop-k-init : goal.loop-k-init
-loop-k-init c = (rounding_none (codes_of c.args.programme) c.args.count c.requires.0, c.requires.2)
+loop-k-init c = rounding_none (codes_of c.args.programme) c.args.count c.requires.0
 
 pub make_round-turn-requires : goal.make_round-turn-requires
-make_round-turn-requires c = (c.loop-k.invariant.0.runs, c.requires.1, c.loop-k.invariant.1)
+make_round-turn-requires c = (c.loop-k.invariant.runs, c.requires.1)
 
 pub returns-then-turn : goal.returns-then-turn
 returns-then-turn c =
     let x = c.make_round-turn in
     let left = standing_in (tables x.new.clauses x.new.literals x.new.variables x.new.times x.new.links) x.result.state in
-    rounding_stops c.loop-k.invariant.0 c.loop-k-test.true left x.ensures.0 x.result.stop x.ensures.1 c.if-turn.true
+    rounding_stops c.loop-k.invariant c.loop-k-test.true left x.ensures.0 x.result.stop x.ensures.1 c.if-turn.true
 
 pub loop-k-preserved : goal.loop-k-preserved
 loop-k-preserved c =
     let x = c.make_round-turn in
     let left = standing_in (tables x.new.clauses x.new.literals x.new.variables x.new.times x.new.links) x.result.state in
-    let i = c.loop-k.invariant.1 in (
-      rounding_more c.loop-k.invariant.0 c.loop-k-test.true left x.ensures.0 x.result.stop x.ensures.1 c.if-turn.false
-          (record { clauses = x.auto.clauses; literals = x.auto.literals; variables = x.auto.variables; times = x.auto.times; links = x.auto.links }),
-      record { first = x.auto.kept ∙ i.first; second = x.auto.parts ∙ i.second; third = x.auto.rows ∙ i.third },
-    )
+    rounding_more c.loop-k.invariant c.loop-k-test.true left x.ensures.0 x.result.stop x.ensures.1 c.if-turn.false
+    (record { clauses = x.auto.clauses; literals = x.auto.literals; variables = x.auto.variables; times = x.auto.times; links = x.auto.links })
 
 pub returns : goal.returns
 returns c =
     let l = c.loop-k in
-    let all : c.args.count ≡ l.k = omega (arith, l.invariant.0.within) in
-    ap (λ (m : ℕ). rounds m (standing_in (tables l.clauses l.literals l.variables l.times l.links) l.state)) all ∙ rounding_done l.invariant.0 c.loop-k-test.false
+    let all : c.args.count ≡ l.k = omega (arith, l.invariant.within) in
+    ap (λ (m : ℕ). rounds m (standing_in (tables l.clauses l.literals l.variables l.times l.links) l.state)) all ∙ rounding_done l.invariant c.loop-k-test.false
