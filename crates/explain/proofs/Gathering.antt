@@ -41,9 +41,6 @@ pub record Gathering (es : List ℤ → ℤ → Ends) (C D xs : List ℤ) (n j i
   pub split : left_out C D ≡ out ++ left_out (drop i C) (drop j D)
   pub pairs : (links : List ℤ) → take (2 * n) xs ≡ flat (map (es links) out)
 
-pub gathering_none : (es : List ℤ → ℤ → Ends) (C D xs : List ℤ) → length xs ≡ 2048 → Gathering es C D xs 0 0 0
-gathering_none es C D xs e = record { within = omega arith; few = omega arith; passed = omega arith; room = e; out = []; number = refl; split = refl; pairs = λ links. refl }
-
 module _ {es : List ℤ → ℤ → Ends} {C D xs : List ℤ} {n j i : ℕ} (G : Gathering es C D xs n j i) where
   module _ (lt : i < length C) where
     pub gathering_stays : begins (get_or C i (pos 0)) (drop j D) ≡ true → Gathering es C D xs n (j + 1) (i + 1)

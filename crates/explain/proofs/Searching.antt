@@ -10,7 +10,7 @@ use lib.Seq.{drop-cons, take-suc-set, append_snoc}
 use lib.Dec.{eqb}
 use lib.IntN.{ℤ, pos, neg_ℤ, ◌-ℤ◌}
 use mir.Syntax.{w32}
-use mir.Val.{SFits, of_z, to_z}
+use mir.Val.{of_z, to_z}
 use borrow.Author.Tests.{eq-eqb, ne_eqb}
 use Rattle.std.specs.Prelude.{Option, Some, None, unwrap_or, is_some}
 use Rattle.std.specs.List.{find}
@@ -19,11 +19,11 @@ use Rattle.base.proofs.Booleans.{clash}
 use Rattle.base.specs.Lists.{any, filter}
 use Rattle.base.proofs.Lists.{filter_in, filter_out, any_map, each_mem}
 use Rattle.literal.specs.Literals.{Literal, Small, slot_of}
-use Rattle.literal.proofs.Signed.{back, neg_is, neg_fits, abs_neg}
+use Rattle.literal.proofs.Signed.{back, neg_is, abs_neg}
 use Rattle.clause_slots.proofs.Mapping.{literal_small}
 use Rattle.walk.specs.Walk.{Stamps}
 use Rattle.stamp_columns.specs.Columns.{columns}
-use Rattle.hidden.specs.Hidden.{holds, transitive, unhidden}
+use Rattle.hidden.specs.Hidden.{holds, unhidden}
 use Rattle.clause_slots.specs.Stamped.{Lits}
 use Rattle.chains.specs.Chains.{ends}
 use Rattle.explain.specs.Reasons.{holds_other, first_held, first_holder, long_ends, pair_ends, no_ends, drop_ends, ends_in}
@@ -42,9 +42,6 @@ module _ {z : ℤ} (L : Literal 1024 z) where
 
   pub turned : Literal 1024 (to_z w32 (of_z w32 (pos 0 -ℤ to_z w32 (of_z w32 z))))
   turned = subst (Literal 1024) (sym turned_is) (record { above = omega (arith, abs_neg z, L.above); within = omega (arith, abs_neg z, L.within) })
-
-  pub turned_fits : SFits w32 (pos 0 -ℤ to_z w32 (of_z w32 z))
-  turned_fits = neg_fits (literal_small L)
 
 -- of v variables
 pub literal_of : {v : ℕ} {z : ℤ} → v ≤ 1024 → Literal v z → Literal 1024 z
@@ -149,12 +146,6 @@ long_next σ C a more e = rw (e, long_ends)
 pub long_none : (σ : Stamps) (C : List ℤ) → long_ends σ C [] ≡ None
 unfolding long_ends
 long_none σ C = refl
-
-pub pair_first : (σ : Stamps) (a b : ℤ) → transitive σ (slot_of (neg_ℤ a)) (slot_of b) ≡ true → ends (neg_ℤ a) b ≡ pair_ends σ a b
-pair_first σ a b e = rw (e, pair_ends)
-
-pub pair_second : (σ : Stamps) (a b : ℤ) → transitive σ (slot_of (neg_ℤ a)) (slot_of b) ≡ false → ends (neg_ℤ b) a ≡ pair_ends σ a b
-pair_second σ a b e = rw (e, pair_ends)
 
 pub drop_pair : (σ : Stamps) (C : List ℤ) → length C ≡ 2 → pair_ends σ (get_or C 0 (pos 0)) (get_or C 1 (pos 0)) ≡ drop_ends σ C
 unfolding drop_ends

@@ -28,7 +28,7 @@ use Rattle.stamp_columns.specs.Intervals.{interval_at}
 use Rattle.stamp_columns.specs.Slots.{Slots}
 use Rattle.discovery_order.proofs.Sorting.{slot_at}
 use Rattle.clause_slots.specs.Stamped.{Lits}
-use Rattle.hidden_literals.specs.Sorted.{Searched, Sorted}
+use Rattle.hidden_literals.specs.Sorted.{Searched}
 use Rattle.hidden_literals.specs.Figures.{innermost, inner, outer, outermost, among, kept_by}
 
 -- ---- lines 1 to 4
@@ -121,9 +121,6 @@ module _ {times xs₀ xs : List ℕ} {last : Interval} {n i : ℕ} (N : Narrowin
       stayed = λ links. N.stayed links ∙ sym (inner_goes (columns times links) slot_before (drop i xs₀) (test links ∙ holds)).1 ∙ ap (innermost (columns times links)) (sym from);
     }
 
-pub narrowing_done : {times xs₀ xs : List ℕ} {last : Interval} {n i : ℕ} → Narrowing times xs₀ xs last n i → i ≤ 0 → (n ≤ length xs₀) × ((links : List ℤ) → drop n xs ≡ inner (columns times links) xs₀)
-narrowing_done {times} {xs₀} {xs} {last} {n} {i} N h = (omega (arith, N.room, N.same), λ links. let z : i ≡ 0 = omega arith in rw z at (N.kept links))
-
 -- ---- lines 5 to 8
 
 pub record Widening (times xs₀ xs : List ℕ) (last : Interval) (n i : ℕ) : Type 0 where
@@ -132,9 +129,6 @@ pub record Widening (times xs₀ xs : List ℕ) (last : Interval) (n i : ℕ) : 
   pub same : length xs ≡ length xs₀
   pub ahead : (k : ℕ) → i ≤ k → get_or xs k 0 ≡ get_or xs₀ k 0
   pub split : (links : List ℤ) → outermost (columns times links) xs₀ ≡ take n xs ++ outer (columns times links) last (drop i xs₀)
-
-pub widening_none : (times xs : List ℕ) → Widening times xs xs (interval 0 0) 0 0
-widening_none times xs = record { behind = omega arith; within = omega arith; same = refl; ahead = λ k h. refl; split = λ links. refl }
 
 module _ {times xs₀ xs : List ℕ} {last : Interval} {n i : ℕ} (W : Widening times xs₀ xs last n i) (lt : i < length xs) where
   abbrev slot_here : ℕ
@@ -251,9 +245,6 @@ moving_none slots p = record { compact = start; ahead = λ k h. refl }
 module _ {slots : List ℕ} {p₀ p : List ℤ} {n i : ℕ} (M : Moving slots p₀ p n i) (lt : i < length p) where
   pub moving_literal : Lits p₀ → Literal 1024 (get_or p i (pos 0))
   moving_literal L = subst (Literal 1024) (sym (M.ahead i (omega arith))) (L.each i (omega (arith, M.compact.same, lt)))
-
-  pub moving_searched : {times : List ℕ} → Sorted times slots p₀ → Searched times slots (slot_of (neg_ℤ (get_or p i (pos 0))))
-  moving_searched {times} S = subst (λ (z : ℤ). Searched times slots (slot_of (neg_ℤ z))) (sym (M.ahead i (omega arith))) (S.searched i (omega (arith, M.compact.same, lt)))
 
   pub moving_stays : among (slot_of (neg_ℤ (get_or p i (pos 0)))) slots ≡ true → Moving slots p₀ (set p n (get_or p i (pos 0))) (n + 1) (i + 1)
   moving_stays e = record {

@@ -1,35 +1,20 @@
 -- The rule for two literals, test by test. Assumes nothing.
-use Prim.Native.Nat.{ℕ, ◌+◌, ◌*◌, ◌<◌}
-use native.Mathlib.Omega.{arith}
+use Prim.Native.Nat.{ℕ}
 use mathlib.Core.Path.{◌≡◌, sym, ap, subst, ◌∙◌}
 use mathlib.Core.Bool.{Bool, true, false, not, ◌&&◌, ◌||◌}
 use mathlib.Core.List.{List}
-use lib.ListN.{length}
 use lib.Dec.{eqb}
 use lib.IntN.{ℤ}
 use Rattle.literal.specs.Literals.{twin}
 use Rattle.literal.proofs.Twins.{twin_below}
 use Rattle.walk.specs.Walk.{Stamps}
 use Rattle.walk.specs.Forest.{parent_at}
-use Rattle.stamp_columns.specs.Slots.{Child}
 use Rattle.hidden.specs.Hidden.{holds, transitive, hidden_pair}
 use Rattle.hidden_tautologies.specs.Judged.{Two}
 
--- ---- what has stamps can be read
+-- ---- the complement of what has stamps has stamps
 
 module _ {times : List ℕ} {links : List ℤ} {a b : ℕ} (T : Two times links a b) where
-  pub two_timed : (2 * a + 1 < length times) × (2 * b + 1 < length times)
-  two_timed = (omega (arith, T.one, T.stamped.timed), omega (arith, T.other, T.stamped.timed))
-
-  pub two_child : Child links b
-  two_child = record {
-    room = omega (arith, T.other, T.stamped.linked);
-    parent = let l = T.stamped.fresh.parent_literal b T.other in record { above = l.above; within = omega (arith, l.within, T.stamped.few) };
-  }
-
-  pub two_small : (a < 65536) × (b < 65536)
-  two_small = (omega (arith, T.one, T.stamped.few), omega (arith, T.other, T.stamped.few))
-
   -- the ends of the clause's two edges
   pub two_first : {x : ℕ} → x ≡ twin a → Two times links x b
   two_first e = subst (λ (x : ℕ). Two times links x b) (sym e) (record { vars = T.vars; stamped = T.stamped; one = twin_below T.vars a T.one; other = T.other })

@@ -56,9 +56,6 @@ pub record Scanning (σ : Stamps) (ps ns : List ℕ) (i j : ℕ) : Type 0 where
   pub other : j ≤ length ns
   pub left : scan σ (drop i ps) (drop j ns) ≡ scan σ ps ns
 
-pub scanning_none : {σ : Stamps} {ps ns : List ℕ} → Scanning σ ps ns 0 0
-scanning_none = record { one = omega arith; other = omega arith; left = refl }
-
 module _ {σ : Stamps} {ps ns : List ℕ} {i j : ℕ} (S : Scanning σ ps ns i j) where
   pub scanning_empty : length ps ≤ i → scan σ ps ns ≡ false
   scanning_empty h = sym S.left ∙ scan_empty σ (drop i ps) (drop j ns) (ap length (drop_of_length-le ps h))

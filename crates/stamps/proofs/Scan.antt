@@ -266,9 +266,6 @@ pub record Scanning (v : ℕ) (index : List ℕ) (links : List ℤ) (t : ℕ) (c
   pub within : t ≤ 4 * v
   pub so_far : (times : List ℕ) → Indexed (4 * v) times index → Passed v times links t × Stack v times links t current
 
-pub scanning_begin : (v : ℕ) (index : List ℕ) (links : List ℤ) → Scanning v index links 0 None
-scanning_begin v index links = record { within = omega arith; so_far = λ times I. begin v times links (indexed_times (4 * v) times index I) }
-
 pub scanning_done : (v : ℕ) (index : List ℕ) (links : List ℤ) (t : ℕ) (current : Option (ℤ × ℤ)) → Scanning v index links t current → 4 * v ≤ t
     → (times : List ℕ) → Indexed (4 * v) times index → FreshStamps v times links
 scanning_done v index links t current S h times I = finished v times links (indexed_times (4 * v) times index I) t h (S.so_far times I).0
