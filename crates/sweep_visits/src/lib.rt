@@ -34,7 +34,7 @@ pub fn visit_part(
     Visited::Left(n as u32)
 }
 
-// A visit to clause k. Its part of the literal table is lent on.
+// A visit to clause k. Its part of the literal table is lent on; a dropped clause has none, and its visit changes nothing.
 fn visit_clause(
     clauses: &mut [u32],
     literals: &mut [i32],
@@ -48,22 +48,11 @@ fn visit_clause(
     ensures { (variables : List ℤ) → visit_of result (returned clauses.new literals.new variables times.now links.now)
         ≡ visit_at (sweep_clause (columns times.now links.now)) k (lent clauses.old literals.old variables times.now links.now) }
 {
-    let flag = visits::flag_of(clauses, k);
-    if flag == 0 {
-        return Visited::Kept;
-    }
-    let start = visits::part_start(clauses, k);
-    let end = visits::part_end(clauses, k);
-    let len = end - start;
-    let seen = visit_part(
-        &mut literals[start..end],
-        times,
-        links,
-        &mut slots[..len],
-        &mut twins[..len],
-    );
-    visits::put_record(clauses, k, seen);
-    seen
+    let mut visit = |part: &mut [i32]| {
+        let len = part.len();
+        visit_part(part, times, links, &mut slots[..len], &mut twins[..len])
+    };
+    visits::visit_clause(clauses, literals, k, &mut visit)
 }
 
 // Visits to m clauses from clause k on. The tables keep the shape rule with fresh stamps, as `sweep::sweep_entered` has it, and `sweep_from` makes the room for slots.

@@ -3,26 +3,24 @@ use Prim.Native.Nat.{ℕ, ◌+◌, ◌*◌, ◌-◌, ◌≤◌}
 use native.Mathlib.Omega.{arith}
 use mathlib.Core.Path.{◌≡◌, refl, sym, ap, ◌∙◌}
 use mathlib.Core.List.{List, [], ◌++◌}
-use lib.ListN.{length, take, drop, set, length-drop}
-use lib.Seq.{length-take-le}
+use lib.ListN.{length, take, drop, set}
 use lib.IntN.{ℤ}
 use Rattle.literal.proofs.Zeros.{mid, put_part}
 use Rattle.tables.specs.Tables.{Tables, tables, start_of, length_of, standing}
 use Rattle.tables.specs.Values.{set_true}
 use Rattle.tables.specs.Clauses.{literals_of}
 use Rattle.tables.specs.Fates.{Fate, kept, left, dropped, unit, conflict, visit, shortened, dropped_at}
-use Rattle.visits.specs.Formed.{EachKnown}
 use Rattle.visits.specs.Visited.{Placed, Visitable, visited_as, Part, part_of, part_after, variables_after, record_after, Visit, visit_of, visit_by, visit_at}
 use Rattle.visits.specs.declared.Visited.{Visited}
 use Rattle.visits.specs.declared.Visited.TheVariants.{Kept}
-use Rattle.visits.proofs.Forming.{record_place, part_inside, part_places, part_short, clause_known}
+use Rattle.visits.proofs.Forming.{record_place, part_inside, part_places}
 use Rattle.visits.proofs.Placing.{replaced, put_holding, put_same}
 use Rattle.visits.proofs.Visiting.{fate_dropped, fate_standing, Shrinks, stays, leaves, drops}
 
 -- ---- the visit, and what it leaves
 
 -- a dropped clause is answered as it is
-pub visit_none : (rule : List ℤ → Fate) (k : ℕ) (t : Tables) → standing t.clauses k ≡ 0 → visit_of Kept t ≡ visit_at rule k t
+visit_none : (rule : List ℤ → Fate) (k : ℕ) (t : Tables) → standing t.clauses k ≡ 0 → visit_of Kept t ≡ visit_at rule k t
 unfolding visit_at
 visit_none rule k t e = ap (λ (f : Fate). visit_by k f t) (sym (fate_dropped rule k t e))
 
@@ -62,22 +60,7 @@ module _ {k : ℕ} {c : List ℕ} {start end : ℕ} (L : Bounds k c start end) w
   pub back_is : (l q : List ℤ) → take start l ++ (q ++ drop (end - start) (drop start l)) ≡ replaced (start_of c k) (length_of c k) q l
   back_is l q = (λ i. take (L.starts i) l ++ (q ++ drop (L.ends i - L.starts i) (drop (L.starts i) l))) ∙ put_part (start_of c k) (length_of c k) l q q refl
 
-  -- THE LAW: what the functions of a visit have said of the part, the variables and the record is the visit
-  module _ (l w : List ℤ) (inside : start_of c k + length_of c k ≤ length l) (rule : List ℤ → Fate) (stands : standing c k ≡ 0 → ⊥) (r : Visited) (c' : List ℕ) (q w' : List ℤ) where
-    abbrev p : List ℤ
-    p = take (end - start) (drop start l)
-
-    pub visit_is : part_of r q ≡ part_after (rule p) p → w' ≡ variables_after (rule p) w → c' ≡ record_after k r c → (times : List ℕ) (links : List ℤ)
-        → visit_of r (tables c' (take start l ++ (q ++ drop (end - start) (drop start l))) w' times links) ≡ visit_at rule k (tables c l w times links)
-    unfolding visit_at
-    visit_is part values records times links =
-        (λ i. visit_of r (tables (records i) (back_is l q i) (values i) times links))
-        ∙ ap (λ (x : Part). visit_of x.visited (tables (record_after k x.visited c) (replaced (start_of c k) (length_of c k) x.part l) (variables_after (rule p) w) times links)) part
-        ∙ ap (λ (C : List ℤ). visit_of (part_after (rule C) C).visited (tables (record_after k (part_after (rule C) C).visited c) (replaced (start_of c k) (length_of c k) (part_after (rule C) C).part l) (variables_after (rule C) w) times links)) (lent_is l)
-        ∙ fated k c l w times links inside (rule (literals_of c l k))
-        ∙ ap (λ (f : Fate). visit_by k f (tables c l w times links)) (sym (fate_standing rule k (tables c l w times links) stands))
-
--- the same by the clause itself, with its part put back
+-- THE LAW: what the functions of a visit have said of the part, the variables and the record is the visit
 module _ (k : ℕ) (c : List ℕ) (l w : List ℤ) (inside : start_of c k + length_of c k ≤ length l) (rule : List ℤ → Fate) (stands : standing c k ≡ 0 → ⊥) (r : Visited) (c' : List ℕ) (l' q w' : List ℤ) where
   abbrev now : List ℤ
   now = literals_of c l k
@@ -109,12 +92,3 @@ module _ {k : ℕ} {c : List ℕ} {l w : List ℤ} (R : Visitable k c l w) where
   module _ {start end : ℕ} (L : Bounds k c start end) where
     pub lent_inside : end ≤ length l
     lent_inside = omega (arith, L.ends, visitable_inside)
-
-    pub lent_length : length (take (end - start) (drop start l)) ≡ end - start
-    lent_length = length-take-le (end - start) (drop start l) (omega (arith, length-drop start l, lent_inside))
-
-    pub lent_short : length (take (end - start) (drop start l)) ≤ 16384
-    lent_short = rw (lent_is L l) (part_short R.formed k R.below)
-
-    pub lent_known : EachKnown w (take (end - start) (drop start l))
-    lent_known = rw (lent_is L l) (clause_known R.formed k R.below)
