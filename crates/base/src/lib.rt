@@ -1,11 +1,4 @@
-// Decisions and list functions that every crate's definitions use: definitions and laws, in specs/ and proofs/. The code is what is about no table and no literal.
+// Decisions and list functions that every crate's definitions use: definitions and laws alone, in specs/ and proofs/.
 #![tactic(auto)]
 
-ghost use Rattle.std.specs.Prelude.{◌≡◌, ◌||◌};
-
-// One of two, or both.
-pub fn either(a: bool, b: bool) -> bool
-    ensures { result ≡ (a || b) }
-{
-    a || b
-}
+pub const BASE: u8 = 0;

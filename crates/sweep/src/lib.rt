@@ -28,7 +28,7 @@ fn sweep_from(
     let mut twins = [0u32; 16384];
     let n = st.n;
     let before = visits::count_standing(clauses, n as usize);
-    let m = visits::fewer(steps, n - cursor);
+    let m = steps.min(n - cursor);
     sweep_visits::sweep_visits(
         clauses,
         literals,

@@ -1,7 +1,7 @@
 // Classes and values of literals, and the clauses in the tables: what the passes that visit clauses share.
 #![tactic(auto)]
 
-ghost use Rattle.std.specs.Prelude.{◌≡◌, ◌*◌, ◌-◌, ◌≤◌, min, ℕ, ◌+◌, ◌<◌, ◌++◌, take, drop, length, set, List, ℤ};
+ghost use Rattle.std.specs.Prelude.{◌≡◌, ◌*◌, ◌-◌, ◌≤◌, ℕ, ◌+◌, ◌<◌, ◌++◌, take, drop, length, set, List, ℤ};
 ghost use Rattle.std.specs.Fn.{Takes, CalledAtMut};
 ghost use denote.Ref.{MutBor};
 ghost use Rattle.tables.specs.Values.{class_literal, own_truth, truth, is_true, is_false, set_true};
@@ -190,13 +190,6 @@ pub fn count_standing(clauses: &[u32], n: usize) -> Totals
         clauses: standing,
         literals,
     }
-}
-
-// The smaller of two numbers: the visits that a call makes. That they are at most those left keeps them inside the table.
-pub fn fewer(a: u32, b: u32) -> u32
-    ensures { (result ≡ min a b) × (result ≤ b) }
-{
-    a.min(b)
 }
 
 // What a call answers: the visits made, and what stood before minus what stands after.
