@@ -4,13 +4,14 @@ use native.Mathlib.Nat.{le_of_suc-le-suc, not-suc-le-zero}
 use native.Mathlib.Numerals.{add-one}
 use native.Mathlib.Omega.{arith}
 use mathlib.Core.Path.{◌≡◌, refl, sym, ap, subst, ◌∙◌}
-use mathlib.Core.Bool.{Bool, true, false, ◌&&◌}
+use mathlib.Core.Bool.{Bool, true, false, ◌&&◌, ◌||◌}
 use mathlib.Core.Logic.{◌⊎◌, inl, inr, ⊎_elim}
 use mathlib.Core.List.Memᴰ
 use mathlib.Core.List.{List, [], ◌∷◌, ◌++◌, map, Memᴰ, Sublistᴰ}
 use lib.ListN.{length, get_or, take, drop, replicate, length-replicate}
 use lib.Seq.{drop-cons, drop-length, get_or-take}
 use borrow.Author.Tests.{eq-eqb, ne_eqb}
+use Rattle.std.specs.List.{list_any}
 use Rattle.base.specs.Decide.{same_or}
 use Rattle.base.specs.Lists.{any, filter, absent, numbers}
 use Rattle.base.proofs.Booleans.{clash}
@@ -56,6 +57,17 @@ any_here p x xs e = rw (e, any)
 pub any_next : {A : Type 0} (p : A → Bool) (x : A) (xs : List A) → p x ≡ false → any p (x ∷ xs) ≡ any p xs
 unfolding any
 any_next p x xs e = rw (e, any)
+
+-- ---- the test of some element, as the library names it
+
+pub any_is : {A : Type 0} (p : A → Bool) (xs : List A) → any p xs ≡ list_any p xs
+unfolding any
+any_is p [] = refl
+any_is {A} p (x ∷ xs) = go (any_is p xs) (p x)
+  where
+    go : any p xs ≡ list_any p xs → (b : Bool) → ◌≡◌ {A = Bool} (elim b [ true ↦ true | false ↦ any p xs ]) (b || list_any p xs)
+    go e true = refl
+    go e false = e
 
 -- ---- what a filter leaves
 

@@ -1,20 +1,16 @@
 -- A loop that rewrites a clause's part in place, from the front: what it has still to read is as it was. Assumes nothing.
-use Prim.Native.Nat.{ℕ, ◌+◌, ◌≤◌, ◌<◌}
+use Prim.Native.Nat.{ℕ, ◌+◌, ◌≤◌}
 use native.Mathlib.Omega.{arith}
-use mathlib.Core.Path.{◌≡◌, refl, sym, subst, ◌∙◌}
+use mathlib.Core.Path.{◌≡◌, ◌∙◌}
 use mathlib.Core.List.{List}
 use lib.ListN.{length, get_or, set, length-set}
 use lib.Seq.{get_or-set_other}
 use lib.IntN.{ℤ, pos}
-use Rattle.visits.specs.Formed.{Known, EachKnown}
 
 -- p was p₀ when the loop began, and i is the next place to read
 pub record Ahead (p₀ p : List ℤ) (i : ℕ) : Type 0 where
   pub same : length p ≡ length p₀
   pub ahead : (k : ℕ) → i ≤ k → get_or p k (pos 0) ≡ get_or p₀ k (pos 0)
-
-pub ahead_none : (p : List ℤ) → Ahead p p 0
-ahead_none p = record { same = refl; ahead = λ k h. refl }
 
 module _ {p₀ p : List ℤ} {i : ℕ} (A : Ahead p₀ p i) where
   pub ahead_next : Ahead p₀ p (i + 1)
@@ -26,7 +22,3 @@ module _ {p₀ p : List ℤ} {i : ℕ} (A : Ahead p₀ p i) where
     same = simp length-set A.same;
     ahead = λ k h. get_or-set_other p n k y (pos 0) (λ q. omega (arith, q, h, le)) ∙ A.ahead k (omega arith);
   }
-
-  -- what is read is a literal of the clause
-  pub ahead_known : {w : List ℤ} → i < length p → EachKnown w p₀ → Known w (get_or p i (pos 0))
-  ahead_known {w} lt K = subst (Known w) (sym (A.ahead i (omega arith))) (K.each i (omega (arith, A.same, lt)))

@@ -7,7 +7,6 @@ pub mod MadeTrue
 pub mod Ahead
 pub mod Counting
 pub mod Fitting
-pub mod Searching
 pub mod Entered
 pub mod Visiting
 pub mod Composing

@@ -1,24 +1,13 @@
-use Rattle.std.proofs.Common.{rules, ◌≡◌, refl, sym, ◌∙◌, subst, List, [], ◌∷◌, pos, Bool, true, false}
-use mathlib.Core.Bool.{◌||◌}
+use Rattle.std.proofs.Common.{rules, ◌≡◌, sym, ◌∙◌, subst, pos}
 use Rattle.std.specs.List.{list_any}
-use Rattle.base.specs.Lists.{any}
 use Rattle.std.proofs.lemmas.Iterator.{YieldsList-from_slice}
 use Rattle.std.proofs.lemmas.Iterator.Search.{any_from_yields_List}
 use Rattle.std.proofs.lemmas.Iterator.Adapters.{serves_from_places}
 use Rattle.std.proofs.lemmas.List.{get_or_default}
+use Rattle.base.proofs.Lists.{any_is}
 use Rattle.visits.specs.Formed.{Known}
 use Rattle.tables.specs.Values.{is_true}
 use Rattle.propagate_visits.proofs.any_true.Goals as goal
-
--- the test of some element, as the library names it
-any_is : {A : Type 0} (p : A → Bool) (xs : List A) → any p xs ≡ list_any p xs
-unfolding any
-any_is p [] = refl
-any_is {A} p (x ∷ xs) = go (any_is p xs) (p x)
-  where
-    go : any p xs ≡ list_any p xs → (b : Bool) → ◌≡◌ {A = Bool} (elim b [ true ↦ true | false ↦ any p xs ]) (b || list_any p xs)
-    go e true = refl
-    go e false = e
 
 pub any-requires-clause-callable : goal.any-requires-clause-callable
 any-requires-clause-callable c =

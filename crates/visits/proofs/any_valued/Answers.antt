@@ -1,25 +1,13 @@
 -- `visits::any_valued` meets its contract. Assumes nothing.
-use Rattle.std.proofs.Common.{rules, ◌≡◌, refl, sym, ◌∙◌, subst, List, [], ◌∷◌, ℤ, pos, Bool, true, false}
-use mathlib.Core.Bool.{◌||◌}
+use Rattle.std.proofs.Common.{rules, ◌≡◌, sym, ◌∙◌, subst, List, ℤ, pos}
 use Rattle.std.specs.List.{list_any}
-use Rattle.base.specs.Lists.{any}
 use Rattle.std.proofs.lemmas.Iterator.{YieldsList-from_slice}
 use Rattle.std.proofs.lemmas.Iterator.Search.{any_from_yields_List}
 use Rattle.std.proofs.lemmas.Iterator.Adapters.{serves_from_places}
-use Rattle.base.proofs.Lists.{get_d_any}
+use Rattle.base.proofs.Lists.{any_is, get_d_any}
 use Rattle.visits.specs.Formed.{Known}
 use Rattle.tables.specs.Passes.{valued}
 use Rattle.visits.proofs.any_valued.Goals as goal
-
--- the test of some element, as the library names it
-any_is : {A : Type 0} (p : A → Bool) (xs : List A) → any p xs ≡ list_any p xs
-unfolding any
-any_is p [] = refl
-any_is {A} p (x ∷ xs) = go (any_is p xs) (p x)
-  where
-    go : any p xs ≡ list_any p xs → (b : Bool) → ◌≡◌ {A = Bool} (elim b [ true ↦ true | false ↦ any p xs ]) (b || list_any p xs)
-    go e true = refl
-    go e false = e
 
 pub any-requires-clause-callable : goal.any-requires-clause-callable
 any-requires-clause-callable c =
