@@ -1,5 +1,5 @@
 -- A step is what the code of crate `calls` does: the equation of each contract there says that the call leaves what the step's definition says, and a slice of fewer than 2,048 records is refused. A load takes a window too: one that is shorter than stated is refused, and with any other the load leaves what its definition over records says. Assumes nothing.
-use Rattle.std.specs.Prelude.{Err}
+use Rattle.std.specs.Prelude.{Result, Ok, Err}
 use Prim.Native.Nat.{ℕ, ◌<◌}
 use native.Mathlib.Omega.{arith}
 use mathlib.Core.Path.{◌≡◌, refl, sym, ap, ◌∙◌}
@@ -12,6 +12,7 @@ use Rattle.state.specs.declared.State.{State}
 use Rattle.state.specs.declared.Outcome.{Outcome}
 use Rattle.state.specs.declared.Answer.{Answer}
 use Rattle.state.specs.declared.Answer.TheVariants.{Loaded}
+use Rattle.state.specs.declared.Refusal.{Refusal}
 use Rattle.state.specs.declared.Refusal.TheVariants.{Shape}
 use Rattle.stamp_records.specs.declared.StampRecord.{StampRecord}
 use Rattle.stamp_records.specs.Records.{times_of}
@@ -106,12 +107,12 @@ module _ (text clauses : List ℕ) (literals variables : List ℤ) (stamps : Lis
       go false at = by_window false at
 
   -- so that an accepted load is always the one that the theorems speak of
-  pub load_accepted : r.outcome.answer ≡ Loaded → loaded ≡ load_on_records text given st
+  pub load_accepted : r.outcome.answer ≡ Ok Loaded → loaded ≡ load_on_records text given st
   load_accepted e = go (long_window_ok w) refl
     where
       go : (b : Bool) → long_window_ok w ≡ b → loaded ≡ load_on_records text given st
       go true at = by_window true at
-      go false at = absurd (omega (arith, ap (λ (a : Answer). (reply_of a).number) (sym e) ∙ ap (λ (a : AfterCall). a.reply.number) (by_window false at)))
+      go false at = absurd (omega (arith, ap (λ (a : Result Answer Refusal). (reply_of a).number) (sym e) ∙ ap (λ (a : AfterCall). a.reply.number) (by_window false at)))
 
 -- ---- short slices
 
