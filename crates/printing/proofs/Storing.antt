@@ -52,14 +52,21 @@ pub digits_length : (n : ℕ) → 10 ≤ n → length (digits n) ≡ length (dig
 digits_length n h = ap length (digits_more n h) ∙ length-append (digits (n / 10)) ((48 + n % 10) ∷ [])
 
 -- ---- one piece behind another
-pub wrote_then : {a b : List ℕ} {w v u : Writer} → Wrote a w v → Wrote b v u → Wrote (a ++ b) w u
-wrote_then {a} {b} {w} s t = record {
-  bytes_stored = record {
-    next = omega (arith, s.bytes_stored.next, t.bytes_stored.next, length-append a b);
-    stored = t.bytes_stored.stored ∙ (λ i. sets (s.bytes_stored.stored i) (s.bytes_stored.next i) b) ∙ sym (sets_append w.out.now w.at a b);
-  };
-  same_reference = t.same_reference ∙ s.same_reference;
+pub stored_then : {a b : List ℕ} {at p r : ℕ} {o o₁ o₂ : List ℕ} → Stored a at o o₁ p → Stored b p o₁ o₂ r → Stored (a ++ b) at o o₂ r
+stored_then {a} {b} {at} {p} {r} {o} {o₁} {o₂} s t = record {
+  next = omega (arith, s.next, t.next, length-append a b);
+  stored = t.stored ∙ (λ i. sets (s.stored i) (s.next i) b) ∙ sym (sets_append o at a b);
 }
+
+pub wrote_then : {a b : List ℕ} {w v u : Writer} → Wrote a w v → Wrote b v u → Wrote (a ++ b) w u
+wrote_then s t = record { bytes_stored = stored_then s.bytes_stored t.bytes_stored; same_reference = t.same_reference ∙ s.same_reference }
+
+-- the last digit behind the others
+pub one_digit : {at : ℕ} {o o₁ : List ℕ} (n : ℕ) → n < 10 → o₁ ≡ set o at (48 + n) → Stored (digits n) at o o₁ (at + 1)
+one_digit {at} {o} {o₁} n h e = subst (λ (bytes : List ℕ). Stored bytes at o o₁ (at + 1)) (sym (digits_small n h)) (record { next = refl; stored = e })
+
+pub more_digits : {at p : ℕ} {o o₁ o₂ : List ℕ} (n : ℕ) → 10 ≤ n → Stored (digits (n / 10)) at o o₁ p → o₂ ≡ set o₁ p (48 + n % 10) → Stored (digits n) at o o₂ (p + 1)
+more_digits {at} {p} {o} {o₁} {o₂} n h s e = subst (λ (bytes : List ℕ). Stored bytes at o o₂ (p + 1)) (sym (digits_more n h)) (stored_then s (record { next = refl; stored = e }))
 
 -- equal bytes
 pub wrote_as : {a b : List ℕ} {w v : Writer} → Wrote a w v → b ≡ a → Wrote b w v

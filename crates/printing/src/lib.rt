@@ -1,10 +1,33 @@
 // The text of literals, clauses, the header and a refusal, stored by a writer.
 #![tactic(auto)]
 
-ghost use Rattle.std.specs.Prelude.{◌≡◌, ◌+◌, ◌<◌, ◌^◌, [], ◌∷◌, length};
+ghost use Rattle.std.specs.Prelude.{◌≡◌, ◌+◌, ◌<◌, ◌^◌, [], ◌∷◌, length, set};
 ghost use Rattle.literal.specs.Literals.{Small, EachSmall};
 ghost use Rattle.printing.specs.Printing.{digits, literal_text, clause_text, line_text, header_text, refused_line};
 ghost use Rattle.printing.specs.Stored.{Stored, Wrote};
+
+// Stores a byte, if the output reaches its place.
+fn store(out: &mut [u8], place: usize, b: u8)
+    ensures { out.new ≡ set out.old place b }
+{
+    if place < out.len() {
+        out[place] = b;
+    }
+}
+
+// The decimal digits of n from `at` on, and the place behind them; one call for each digit. The calls hand the place on by value, which is faster than through the writer.
+fn put_digits(out: &mut [u8], at: usize, n: u64) -> usize
+    requires { at + length (digits n) < 2 ^ 63 }
+    ensures { Stored (digits n) at out.old out.new result }
+{
+    if n < 10 {
+        store(out, at, b'0' + n as u8);
+        return at + 1;
+    }
+    let next = put_digits(out, at, n / 10);
+    store(out, next, b'0' + (n % 10) as u8);
+    next + 1
+}
 
 // Where a text is stored: the output, and the place behind what is stored already. Past the end of the output, and on an empty output, it only measures.
 #[derive(Drop)]
@@ -26,22 +49,16 @@ impl<'a> Writer<'a> {
         requires { self.old.at < 2 ^ 63 }
         ensures { Wrote (b ∷ []) self.old self.new }
     {
-        if self.at < self.out.len() {
-            self.out[self.at] = b;
-        }
-        self.at += 1;
+        let at = self.at;
+        store(self.out, at, b);
+        self.at = at + 1;
     }
 
-    // The decimal digits of n; one call for each digit.
     fn put_number(&mut self, n: u64)
         requires { self.old.at + length (digits n) < 2 ^ 63 }
         ensures { Wrote (digits n) self.old self.new }
     {
-        if n < 10 {
-            return self.put_byte(b'0' + n as u8);
-        }
-        self.put_number(n / 10);
-        self.put_byte(b'0' + (n % 10) as u8);
+        self.at = put_digits(self.out, self.at, n);
     }
 
     fn put_literal(&mut self, l: i32)
