@@ -3,7 +3,6 @@ use Prim.Native.Nat.{ℕ}
 use native.Mathlib.Omega.{arith}
 use mathlib.Core.List.{List}
 use lib.IntN.{ℤ}
-use Rattle.hidden_tautologies.specs.Judged.{Judged}
 use Rattle.explain.specs.Asking.{Timed, Clause}
 
 module _ {times : List ℕ} {links C : List ℤ} (K : Clause times links C) where

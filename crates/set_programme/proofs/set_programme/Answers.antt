@@ -1,12 +1,11 @@
 -- `set_programme::set_programme` meets its contract: the call is its definition. Assumes nothing.
-use Rattle.std.proofs.Common.{ℕ, List, sym, ap, ◌∙◌}
-use Rattle.std.specs.Borrow.{Bor}
+use Rattle.std.proofs.Common.{sym, ap, ◌∙◌}
 use Rattle.state.specs.States.{programmed}
 use Rattle.state.specs.declared.State.{State}
 use Rattle.state.specs.declared.Programme.{Programme}
 use Rattle.state.specs.declared.Answer.TheVariants.{Set}
 use Rattle.programmes.proofs.Judging.{judge_exact}
-use Rattle.tables.specs.Tables.{Tables, tables}
+use Rattle.tables.specs.Tables.{tables}
 use Rattle.tables.specs.Calls.{answered}
 use Rattle.set_programme.proofs.Setting.{set_misshapen, set_refused, set_made}
 use Rattle.set_programme.proofs.set_programme.Goals as goal
