@@ -11,7 +11,6 @@ use Rattle.literal.specs.Assignments.{Assignment, Satisfies}
 use Rattle.state.specs.States.{empty_state}
 use Rattle.state.proofs.Numbers.{number_bounds}
 use Rattle.state.specs.declared.Refusal.{Refusal}
-use Rattle.state.specs.declared.Answer.TheVariants as answer
 use Rattle.tables.specs.Tables.{Tables}
 use Rattle.tables.specs.Long.{Long}
 use Rattle.tables.specs.Stands.{Stands}

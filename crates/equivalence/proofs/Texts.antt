@@ -14,7 +14,6 @@ use lib.IntN.{ℤ, pos}
 use Rattle.literal.specs.Assignments.{Assignment, Satisfies}
 use Rattle.state.specs.Answers.{refusal_number, refusal_place, result_by, first_value}
 use Rattle.state.specs.declared.Refusal.TheVariants.{Short}
-use Rattle.state.specs.declared.Answer.TheVariants as answer
 use Rattle.state.specs.declared.Answer.TheVariants.{Written}
 use Rattle.tables.specs.Tables.{Tables}
 use Rattle.tables.specs.Long.{Long}

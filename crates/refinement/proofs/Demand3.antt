@@ -1,7 +1,7 @@
 -- DEMAND 3, over the calls as their users see them. After an accepted load or join and any list of Propagate, Merge, Stamp, Failed and Sweep calls and of calls that set a programme, refused ones included, with any orders, step counts and codes and any parts of the tables lent,
 -- an assignment satisfies what stands exactly if it satisfies the loaded formula (`demand_3`), and every standing clause is the loaded one of its number with literals left out, class literals put in on both sides (`left_out`).
 -- Assumes nothing.
-use Prim.Native.Nat.{ℕ, suc, ◌+◌, ◌*◌, ◌≤◌, ◌<◌}
+use Prim.Native.Nat.{ℕ, suc, ◌*◌, ◌≤◌, ◌<◌}
 use native.Mathlib.Nat.{min-le_left}
 use native.Mathlib.Omega.{arith}
 use mathlib.Core.Path.{◌≡◌, refl, sym, ap, subst, subst₂, ◌∙◌}
@@ -29,7 +29,7 @@ use Rattle.tables.specs.Values.{class_literal}
 use Rattle.tables.specs.Clauses.{literals_of}
 use Rattle.tables.specs.Stands.{Stands}
 use Rattle.tables.specs.Calls.{After, refuse}
-use Rattle.shape.specs.Shape.{Shape, settled_to}
+use Rattle.shape.specs.Shape.{settled_to}
 use Rattle.shape.specs.Decision.{shape_ok}
 use Rattle.entry.specs.declared.PassName.TheVariants as own
 use Rattle.entry.specs.declared.Entry.{Entry}
