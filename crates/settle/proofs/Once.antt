@@ -1,7 +1,7 @@
 -- A Propagate and a Merge, put together from what the calls have shown. Assumes nothing.
 use Prim.Native.Nat.{ℕ}
 use mathlib.Core.Path.{◌≡◌, sym, ap, subst, ◌∙◌}
-use mathlib.Core.Bool.{true, false}
+use mathlib.Core.Bool.{Bool, true, false}
 use mathlib.Core.List.{List, []}
 use lib.Dec.{ltb}
 use lib.IntN.{ℤ}
@@ -56,10 +56,10 @@ module _ (st : State) {c : List ℕ} {l w : List ℤ} (F : Formed st.v st.n st.n
         pub once_variables_again : Variables st.v w₂
         once_variables_again = subst (λ (v : ℕ). Variables v w₂) same (then [] []).formed.vars
 
-        pub once_counted : (before left : ℕ) → before ≡ owns st.v w₁ → left ≡ owns st.v w₂ → (times : List ℕ) (links : List ℤ)
-            → passed (standing_in (tables c₂ l₂ w₂ times links) m) (ltb left before) ≡ both_passes (standing_in (tables c l w times links) st)
-        once_counted before left b a times links =
+        pub once_counted : (before left : ℕ) → before ≡ owns st.v w₁ → left ≡ owns st.v w₂ → {again : Bool} → ltb left before ≡ again → (times : List ℕ) (links : List ℤ)
+            → passed (standing_in (tables c₂ l₂ w₂ times links) m) again ≡ both_passes (standing_in (tables c l w times links) st)
+        once_counted before left b a less times links =
             ap (passed (standing_in (tables c₂ l₂ w₂ times links) m))
-            (ap (λ (x : ℕ). ltb x before) a ∙ ap (ltb (owns st.v w₂)) b ∙ ap (λ (v : ℕ). ltb (owns v w₂) (owns v w₁)) (sym same) ∙ (then times links).found)
+            (sym less ∙ ap (λ (x : ℕ). ltb x before) a ∙ ap (ltb (owns st.v w₂)) b ∙ ap (λ (v : ℕ). ltb (owns v w₂) (owns v w₁)) (sym same) ∙ (then times links).found)
             ∙ sym (merged_goes (standing_in (tables c₂ l₂ w₂ times links) m) (grouped (standing_in (tables c₁ l₁ w₁ times links) p)) h)
             ∙ goes times links

@@ -1,5 +1,7 @@
 -- What the functions of Settle say to each other. Assumes nothing: these are definitions.
 use Rattle.std.specs.Prelude.{Bool, true, false}
+use Rattle.std.specs.declared.ops.ControlFlow.{ControlFlow}
+use Rattle.std.specs.declared.ops.ControlFlow.TheVariants.{Continue, Break}
 use Rattle.state.specs.declared.State.{State}
 use Rattle.tables.specs.Tables.{Tables}
 use Rattle.settle.specs.Settle.{Standing, propagated, merged, grouped}
@@ -14,6 +16,11 @@ pub record Passed : Type 0 where
 
 abbrev pub passed : Standing → Bool → Passed
 passed w again = record { standing = w; again = again }
+
+-- the same by what Settle's step answers beside the tables: it continues if they are to be repeated
+abbrev pub passed_by : Tables → ControlFlow State State → Passed
+passed_by t (Continue st) = passed (standing_in t st) true
+passed_by t (Break st) = passed (standing_in t st) false
 
 -- after a Merge, by whether it found a group
 abbrev pub after_merge : Standing → Bool → Passed

@@ -7,16 +7,10 @@ ghost use Rattle.visits.specs.Formed.{Variables, Formed};
 ghost use Rattle.merge.specs.Steps.{Openable};
 ghost use Rattle.settle.specs.Settle.{propagated, merged, settle};
 ghost use Rattle.settle.specs.Own.{owns};
-ghost use Rattle.settle.specs.Steps.{standing_in, passed, both_passes};
+ghost use Rattle.settle.specs.Steps.{standing_in, passed_by, both_passes};
 
 use state::State;
-
-// The state after a Propagate and a Merge, and whether they are to be repeated.
-#[derive(Clone, Copy)]
-pub struct Step {
-    pub state: State,
-    pub again: bool,
-}
+use std::ops::ControlFlow;
 
 // How many of the variables 1 to v are their own class. A class is a literal, and it is the variable itself exactly if its slot is the first of the variable's two.
 fn count_own(variables: &[i32], v: u32) -> u32
@@ -63,32 +57,32 @@ fn merge_whole(clauses: &mut [u32], literals: &mut [i32], variables: &mut [i32],
     outcome.state
 }
 
-// A Propagate and, unless it sets the mark, a Merge, which has found a group exactly if fewer variables are their own class after it.
-fn settle_once(clauses: &mut [u32], literals: &mut [i32], variables: &mut [i32], st: State) -> Step
+// A Propagate and, unless it sets the mark, a Merge, which has found a group exactly if fewer variables are their own class after it. Continues with the state after them if they are to be repeated, and breaks with it if not.
+fn settle_once(
+    clauses: &mut [u32],
+    literals: &mut [i32],
+    variables: &mut [i32],
+    st: State,
+) -> ControlFlow<State, State>
     requires { Formed st.v st.n st.n false clauses.old literals.old variables.old }
-    ensures { (times : List ℕ) (links : List ℤ) → passed (standing_in (returned clauses.new literals.new variables.new times links) result.state) result.again
+    ensures { (times : List ℕ) (links : List ℤ) → passed_by (returned clauses.new literals.new variables.new times links) result
         ≡ both_passes (standing_in (lent clauses.old literals.old variables.old times links) st) }
 {
     let v = st.v;
     let propagated = propagate_whole(clauses, literals, variables, st);
     if propagated.mark {
-        return Step {
-            state: propagated,
-            again: false,
-        };
+        return ControlFlow::Break(propagated);
     }
     let before = count_own(variables, v);
     let merged = merge_whole(clauses, literals, variables, propagated);
     if merged.mark {
-        return Step {
-            state: merged,
-            again: false,
-        };
+        return ControlFlow::Break(merged);
     }
     let after = count_own(variables, v);
-    Step {
-        state: merged,
-        again: after < before,
+    if after < before {
+        ControlFlow::Continue(merged)
+    } else {
+        ControlFlow::Break(merged)
     }
 }
 
@@ -100,10 +94,9 @@ pub fn settle(clauses: &mut [u32], literals: &mut [i32], variables: &mut [i32], 
 {
     let mut state = st;
     loop {
-        let step = settle_once(clauses, literals, variables, state);
-        state = step.state;
-        if !step.again {
-            return state;
+        match settle_once(clauses, literals, variables, state) {
+            ControlFlow::Continue(next) => state = next,
+            ControlFlow::Break(last) => return last,
         }
     }
 }
