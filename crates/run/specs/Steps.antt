@@ -1,5 +1,8 @@
 -- What the functions of Run say to each other. Assumes nothing: these are definitions.
 use Rattle.std.specs.Prelude.{ℕ, ◌+◌, ◌≤◌, ◌<◌, ◌≡◌, false, List, length, take, ℤ}
+use Rattle.std.specs.declared.ops.ControlFlow.{ControlFlow}
+use Rattle.std.specs.declared.ops.ControlFlow.TheVariants.{Continue, Break}
+use Rattle.state.specs.declared.State.{State}
 use Rattle.state.specs.declared.Pass.TheVariants.{Idle}
 use Rattle.tables.specs.Tables.{start_of, length_of}
 use Rattle.shape.specs.Shape.{Shape}
@@ -37,3 +40,8 @@ pub record Comparable (v n : ℕ) (old : List ℕ) (literals : List ℤ) (clause
   pub inside : PartsInside n old literals literals'
   pub records : 12288 ≤ length clauses
   pub rows : 2048 ≤ length variables'
+
+-- the state that a round leaves, whether the run goes on or stops after it
+abbrev pub state_left : ControlFlow State State → State
+state_left (Continue st) = st
+state_left (Break st) = st

@@ -1,7 +1,8 @@
 // Run: rounds of the passes that the state's programme names.
 #![tactic(auto)]
 
-ghost use Rattle.std.specs.Prelude.{◌≡◌, true, ◌||◌, List, ℕ, ◌+◌, ◌*◌, ◌≤◌, ◌<◌, length, ℤ};
+ghost use Rattle.std.specs.Prelude.{◌≡◌, true, ◌||◌, List, ℕ, ◌+◌, ◌*◌, ◌≤◌, ◌<◌, length, ℤ, is_some};
+ghost use Rattle.std.specs.ControlFlow.{break_value};
 ghost use Rattle.base.specs.Lists.{all_below, same_list};
 ghost use Rattle.literal.specs.Literals.{eq_z};
 ghost use Rattle.state.specs.Programmes.{codes_of};
@@ -18,16 +19,10 @@ ghost use Rattle.settle.specs.Settle.{between};
 ghost use Rattle.round_order.specs.Order.{order_of};
 ghost use Rattle.run.specs.Run.{follow, round, unchanged, rounds, run_from, run_reply, run_call};
 ghost use Rattle.settle.specs.Steps.{standing_in};
-ghost use Rattle.run.specs.Steps.{Runs, PartsInside, Saves, Saved, Comparable};
+ghost use Rattle.run.specs.Steps.{Runs, PartsInside, Saves, Saved, Comparable, state_left};
 
 use state::{Answer, FAILED, Outcome, Programme, SETTLE, STAMP, SWEEP, State};
-
-// What a round leaves, and whether the run stops after it.
-#[derive(Clone, Copy)]
-pub struct Turn {
-    pub state: State,
-    pub stop: bool,
-}
+use std::ops::ControlFlow;
 
 // The rounds made, and the state after them.
 #[derive(Clone, Copy)]
@@ -236,7 +231,7 @@ fn round(
     state
 }
 
-// Round k with copies of what stood before it: the run stops after it at the mark, or where nothing has changed.
+// Round k with copies of what stood before it: the run stops after it at the mark, or where nothing has changed. Breaks with the state that the round leaves if the run stops, and continues with it if not.
 fn make_round(
     k: u32,
     clauses: &mut [u32],
@@ -247,19 +242,20 @@ fn make_round(
     st: State,
     programme: Programme,
     copies: &mut Copies,
-) -> Turn
+) -> ControlFlow<State, State>
     requires { Runs (standing_in (handed clauses.old literals.old variables.old times.old links.old) st) × (programme.length ≤ 32) }
-    ensures { (standing_in (returned clauses.new literals.new variables.new times.new links.new) result.state ≡ round k (codes_of programme) (standing_in (lent clauses.old literals.old variables.old times.old links.old) st))
-        × (result.stop ≡ (result.state.mark || unchanged (standing_in (lent clauses.old literals.old variables.old times.old links.old) st) (standing_in (returned clauses.new literals.new variables.new times.new links.new) result.state))) }
+    ensures { (standing_in (returned clauses.new literals.new variables.new times.new links.new) (state_left result) ≡ round k (codes_of programme) (standing_in (lent clauses.old literals.old variables.old times.old links.old) st))
+        × (is_some (break_value result) ≡ ((state_left result).mark || unchanged (standing_in (lent clauses.old literals.old variables.old times.old links.old) st) (standing_in (returned clauses.new literals.new variables.new times.new links.new) (state_left result)))) }
 {
     copies.save(clauses, literals, variables);
     let v = st.v;
     let n = st.n;
     let after = round(k, clauses, literals, variables, times, links, st, programme);
     let same = copies.is_same(v, n, clauses, literals, variables);
-    Turn {
-        state: after,
-        stop: after.mark || same,
+    if after.mark || same {
+        ControlFlow::Break(after)
+    } else {
+        ControlFlow::Continue(after)
     }
 }
 
@@ -280,12 +276,14 @@ fn make_rounds(
 {
     let mut state = st;
     for k in 0..count {
-        let turn = make_round(
+        match make_round(
             k, clauses, literals, variables, times, links, state, programme, copies,
-        );
-        state = turn.state;
-        if turn.stop {
-            return Made { made: k + 1, state };
+        ) {
+            ControlFlow::Continue(next) => state = next,
+            ControlFlow::Break(last) => return Made {
+                made: k + 1,
+                state: last,
+            },
         }
     }
     Made { made: count, state }

@@ -1,5 +1,5 @@
 -- One round more is made, or the run stops. Assumes nothing.
-use Rattle.std.proofs.Common.{ℕ, ◌≡◌, arith, ap, ◌∙◌}
+use Rattle.std.proofs.Common.{ℕ, ◌≡◌, true, false, arith, refl, ap, ◌∙◌}
 use Rattle.state.specs.Programmes.{codes_of}
 use Rattle.tables.specs.Tables.{tables}
 use Rattle.settle.specs.Steps.{standing_in}
@@ -10,20 +10,22 @@ use Rattle.run.proofs.make_rounds.Goals as goal
 pub loop-k-init : goal.loop-k-init
 loop-k-init c = rounding_none (codes_of c.args.programme) c.args.count c.requires.0
 
-pub make_round-turn-requires : goal.make_round-turn-requires
-make_round-turn-requires c = (c.loop-k.invariant.runs, c.requires.1)
+pub make_round-requires : goal.make_round-requires
+make_round-requires c = (c.loop-k.invariant.runs, c.requires.1)
 
-pub returns-then-turn : goal.returns-then-turn
-returns-then-turn c =
-    let x = c.make_round-turn in
-    let left = standing_in (tables x.new.clauses x.new.literals x.new.variables x.new.times x.new.links) x.result.state in
-    rounding_stops c.loop-k.invariant c.loop-k-test.true left x.ensures.0 x.result.stop x.ensures.1 c.if-turn.true
+pub returns-in-Break : goal.returns-in-Break
+returns-in-Break c =
+    let x = c.make_round in
+    let arm = c.in-Break in
+    let left = standing_in (tables x.new.clauses x.new.literals x.new.variables x.new.times x.new.links) arm.last in
+    rounding_stops c.loop-k.invariant c.loop-k-test.true left arm.ensures.0 true arm.ensures.1 refl
 
 pub loop-k-preserved : goal.loop-k-preserved
 loop-k-preserved c =
-    let x = c.make_round-turn in
-    let left = standing_in (tables x.new.clauses x.new.literals x.new.variables x.new.times x.new.links) x.result.state in
-    rounding_more c.loop-k.invariant c.loop-k-test.true left x.ensures.0 x.result.stop x.ensures.1 c.if-turn.false
+    let x = c.make_round in
+    let arm = c.in-Continue in
+    let left = standing_in (tables x.new.clauses x.new.literals x.new.variables x.new.times x.new.links) arm.next in
+    rounding_more c.loop-k.invariant c.loop-k-test.true left arm.ensures.0 false arm.ensures.1 refl
     (record { clauses = x.auto.clauses; literals = x.auto.literals; variables = x.auto.variables; times = x.auto.times; links = x.auto.links })
 
 pub returns : goal.returns
