@@ -24,6 +24,8 @@ use Rattle.join.proofs.Within.{join_within}
 use Rattle.load.specs.Load.{accept, load_by, load_formula, laid, filled, clause_records, literal_places, variable_records}
 use Rattle.load.specs.Laid.{cleared, Layable, LayableBy, either_verdict, either_clauses, LaidBy}
 use Rattle.load.specs.declared.Progress.{Progress}
+use Rattle.load.specs.declared.Source.{Source}
+use Rattle.load.specs.declared.Source.TheVariants.{Text, Joined}
 use Rattle.std.specs.Prelude.{Result, Ok, Err}
 use Rattle.dimacs.specs.declared.Header.{Header}
 use Rattle.state.specs.declared.Refusal.{Refusal}
@@ -122,10 +124,10 @@ module _ {verdict : Result Header Refusal} {cs : List (List ℤ)} {r : Result He
       by (Err q) e = ap (λ (y : Result Header Refusal). load_by y cs t st) (sym e ∙ J.is)
       by (Ok h) e = ap (λ (ds : List (List ℤ)). accept h.v h.n ds t) (J.kept h.v h.n h.body e) ∙ ap (λ (y : Result Header Refusal). load_by y cs t st) (sym e ∙ J.is)
 
--- a left text alone, or a join
-pub either_within : (joined : Bool) (left right links : List ℕ) (v n body : ℕ) → either_verdict joined left right links ≡ fitting v n body → (v ≤ 1024) × ((n ≤ 4096) × Within v n 16384 (either_clauses joined left right links))
-either_within true left right links = join_within left right links
-either_within false left right links = text_within left
+-- a text, or a join
+pub either_within : (source : Source) (v n body : ℕ) → either_verdict source ≡ fitting v n body → (v ≤ 1024) × ((n ≤ 4096) × Within v n 16384 (either_clauses source))
+either_within (Text text) = text_within text.now
+either_within (Joined left right links) = join_within left.now right.now links.now
 
 pub long_agrees : (t : Tables) {b : Bool} → Decides b (Long t) → b ≡ long_ok t
 unfolding long_ok

@@ -11,6 +11,8 @@ use Rattle.join.specs.Join.{judge_join, join_clauses}
 use Rattle.load.specs.Load.{clause_records, literal_places, any_empty}
 use Rattle.load.specs.declared.Written.{Written}
 use Rattle.load.specs.declared.Progress.{Progress}
+use Rattle.load.specs.declared.Source.{Source}
+use Rattle.load.specs.declared.Source.TheVariants.{Text, Joined}
 
 -- ---- one clause
 
@@ -58,12 +60,14 @@ pub record Layable (n : ℕ) (numbers : List ℤ) (clauses literals : ℕ) : Typ
   pub clause_room : 12288 ≤ clauses
   pub literal_room : 16384 ≤ literals
 
--- the verdict and the clauses of a left text alone, or of a join
-abbrev pub either_verdict : Bool → List ℕ → List ℕ → List ℕ → Result Header Refusal
-either_verdict joined left right links = elim joined [ true ↦ judge_join left right links | false ↦ judge_text left ]
+-- the verdict and the clauses of a text, or of a join
+abbrev pub either_verdict : Source → Result Header Refusal
+either_verdict (Text text) = judge_text text.now
+either_verdict (Joined left right links) = judge_join left.now right.now links.now
 
-abbrev pub either_clauses : Bool → List ℕ → List ℕ → List ℕ → List (List ℤ)
-either_clauses joined left right links = elim joined [ true ↦ join_clauses left right links | false ↦ text_clauses left ]
+abbrev pub either_clauses : Source → List (List ℤ)
+either_clauses (Text text) = text_clauses text.now
+either_clauses (Joined left right links) = join_clauses left.now right.now links.now
 
 -- the clauses of a formula that this verdict lets in
 pub record LayableBy (verdict : Result Header Refusal) (numbers : List ℤ) (clauses literals : ℕ) : Type 0 where

@@ -40,6 +40,17 @@ struct Progress {
     mark: bool,
 }
 
+// What is loaded: a text, or two that are joined by the links in `pairs`, two numbers for each, a left variable and a right one.
+#[derive(Clone, Copy)]
+enum Source<'a> {
+    Text(&'a [u8]),
+    Joined {
+        left: &'a [u8],
+        right: &'a [u8],
+        pairs: &'a [u32],
+    },
+}
+
 // Copies the clause whose numbers begin at `at` into the literal table from `start` on, as it is written. Where it ends there.
 fn collect(numbers: &[i32], at: usize, literals: &mut [i32], start: usize) -> usize
     requires { Collectable numbers.now at start (length literals.old) }
@@ -210,31 +221,22 @@ fn lay_judged(
     }
 }
 
-// The judgement of the left text alone, or of the join of both, and the clauses of a formula that fits in `numbers`.
-fn judge(
-    left: &[u8],
-    right: &[u8],
-    pairs: &[u32],
-    joined: bool,
-    numbers: &mut [i32],
-) -> Result<Header, Refusal>
+// The judgement of the text, or of the join of both, and the clauses of a formula that fits in `numbers`.
+fn judge(source: Source<'_>, numbers: &mut [i32]) -> Result<Header, Refusal>
     requires { 20480 ≤ length numbers.old }
-    ensures { Judged (either_verdict joined left.now right.now pairs.now) (either_clauses joined left.now right.now pairs.now) result numbers.new }
+    ensures { Judged (either_verdict source.entry) (either_clauses source.entry) result numbers.new }
 {
-    if joined {
-        return join::judge_join(left, right, pairs, numbers);
+    match source {
+        Source::Text(text) => dimacs::judge_text(text, numbers),
+        Source::Joined { left, right, pairs } => join::judge_join(left, right, pairs, numbers),
     }
-    dimacs::judge_text(left, numbers)
 }
 
-// A load of the left text alone, or of the join of both, or a refusal, which changes nothing. The stamp records (`times`, `links`) stay in
+// A load of the text, or of the join of both, or a refusal, which changes nothing. The stamp records (`times`, `links`) stay in
 // both cases: here only their lengths are tested. The calls go through this one function: it is large and has two callers, so that the
 // compiler keeps it apart, and its array is not on the stack beneath a run behind a load.
 fn load_formula(
-    left: &[u8],
-    right: &[u8],
-    pairs: &[u32],
-    joined: bool,
+    source: Source<'_>,
     clauses: &mut [u32],
     literals: &mut [i32],
     variables: &mut [i32],
@@ -243,7 +245,7 @@ fn load_formula(
     st: State,
 ) -> Outcome
     ensures { after result (returned clauses.new literals.new variables.new times.now links.now)
-        ≡ load_formula (either_verdict joined left.now right.now pairs.now) (either_clauses joined left.now right.now pairs.now) (lent clauses.old literals.old variables.old times.now links.now) st }
+        ≡ load_formula (either_verdict source.entry) (either_clauses source.entry) (lent clauses.old literals.old variables.old times.now links.now) st }
 {
     if !tables::long_ok(clauses, literals, variables, times, links) {
         return Outcome {
@@ -253,7 +255,7 @@ fn load_formula(
     }
     // a formula that fits has at most 16,384 literals and 4,096 clause ends
     let mut numbers = [0i32; 20480];
-    let verdict = judge(left, right, pairs, joined, &mut numbers);
+    let verdict = judge(source, &mut numbers);
     lay_judged(verdict, &numbers, clauses, literals, variables, st)
 }
 
@@ -271,10 +273,7 @@ pub fn load_tables(
         ≡ load_call text.now (lent clauses.old literals.old variables.old times.now links.now) st }
 {
     load_formula(
-        text,
-        &[],
-        &[],
-        false,
+        Source::Text(text),
         clauses,
         literals,
         variables,
@@ -302,10 +301,7 @@ fn empty_window(outcome: Outcome, sizes: &mut [u32], learnt: &mut [i32], window:
 
 // The formula into the tables, and a window that is long enough emptied, whatever it holds; or neither.
 fn load_with(
-    left: &[u8],
-    right: &[u8],
-    pairs: &[u32],
-    joined: bool,
+    source: Source<'_>,
     clauses: &mut [u32],
     literals: &mut [i32],
     variables: &mut [i32],
@@ -317,7 +313,7 @@ fn load_with(
     window: Window,
 ) -> Windowed
     ensures { after_with result (returned clauses.new literals.new variables.new times.now links.now) sizes.new learnt.new
-        ≡ with_window (load_formula (either_verdict joined left.now right.now pairs.now) (either_clauses joined left.now right.now pairs.now) (lent clauses.old literals.old variables.old times.now links.now) st)
+        ≡ with_window (load_formula (either_verdict source.entry) (either_clauses source.entry) (lent clauses.old literals.old variables.old times.now links.now) st)
         (lent clauses.old literals.old variables.old times.now links.now) st (places sizes.old learnt.old window) }
 {
     if !window::long_ok(sizes, learnt) {
@@ -329,9 +325,7 @@ fn load_with(
             window,
         };
     }
-    let outcome = load_formula(
-        left, right, pairs, joined, clauses, literals, variables, times, links, st,
-    );
+    let outcome = load_formula(source, clauses, literals, variables, times, links, st);
     empty_window(outcome, sizes, learnt, window)
 }
 
@@ -352,10 +346,7 @@ pub fn load(
         ≡ load_with text.now (lent clauses.old literals.old variables.old times.now links.now) st (places sizes.old learnt.old window) }
 {
     load_with(
-        text,
-        &[],
-        &[],
-        false,
+        Source::Text(text),
         clauses,
         literals,
         variables,
@@ -387,7 +378,15 @@ pub fn join(
         ≡ join_with left.now right.now pairs.now (lent clauses.old literals.old variables.old times.now links.now) st (places sizes.old learnt.old window) }
 {
     load_with(
-        left, right, pairs, true, clauses, literals, variables, times, links, st, sizes, learnt,
+        Source::Joined { left, right, pairs },
+        clauses,
+        literals,
+        variables,
+        times,
+        links,
+        st,
+        sizes,
+        learnt,
         window,
     )
 }

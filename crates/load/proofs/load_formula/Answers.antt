@@ -7,17 +7,17 @@ use Rattle.load.proofs.load_formula.Goals as goal
 
 pub returns-then-not-long_ok : goal.returns-then-not-long_ok
 returns-then-not-long_ok c = let a = c.args in
-    formula_short (either_verdict a.joined a.left.now a.right.now a.pairs.now) (either_clauses a.joined a.left.now a.right.now a.pairs.now)
+    formula_short (either_verdict a.source) (either_clauses a.source)
     (tables a.clauses.now a.literals.now a.variables.now a.times.now a.links.now) a.st c.long_ok.ensures c.if-not-long_ok.true
 
 pub lay_judged-requires : goal.lay_judged-requires
 lay_judged-requires c = let a = c.args in
     let rooms = long_rooms (tables a.clauses.now a.literals.now a.variables.now a.times.now a.links.now) c.long_ok.ensures c.if-not-long_ok.false in
-    (judged_layable c.judge-verdict.ensures (either_within a.joined a.left.now a.right.now a.pairs.now) _ _ rooms.0 rooms.1.0, rooms.1.1)
+    (judged_layable c.judge-verdict.ensures (either_within a.source) _ _ rooms.0 rooms.1.0, rooms.1.1)
 
 pub returns : goal.returns
 returns c = let a = c.args in
     c.lay_judged.ensures a.times.now a.links.now
     ∙ judged_loads c.judge-verdict.ensures (tables a.clauses.now a.literals.now a.variables.now a.times.now a.links.now) a.st
-    ∙ formula_long (either_verdict a.joined a.left.now a.right.now a.pairs.now) (either_clauses a.joined a.left.now a.right.now a.pairs.now)
+    ∙ formula_long (either_verdict a.source) (either_clauses a.source)
     (tables a.clauses.now a.literals.now a.variables.now a.times.now a.links.now) a.st c.long_ok.ensures c.if-not-long_ok.false
