@@ -75,13 +75,13 @@ pub record Both (v n w m : ℕ) (links numbering : List ℕ) (numbers others : L
   pub sized : size ≡ size_in m others
 
 -- by what the links, the right variables' numbers and the sizes were found to be
-pub both_are : {v n w m : ℕ} {links numbering numbering' : List ℕ} {numbers others : List ℤ} {bad last end size : ℕ} → Kept v n numbers → Kept w m others
-    → (bad ≡ first_bad v w links) × (pair_count links ≤ bad → LinksPut links numbering) → pair_count links ≤ bad
+pub both_are : {v n w m : ℕ} {links numbering numbering' : List ℕ} {numbers others : List ℤ} {last end size : ℕ} → Kept v n numbers → Kept w m others
+    → (first_bad v w links ≡ pair_count links) × LinksPut links numbering
     → ((ls : List ℕ) → LinksPut ls numbering → (last ≡ joined_variables v w ls) × Numbered v w ls numbering')
     → end ≡ size_in n numbers → size ≡ size_in m others → Both v n w m links numbering' numbers others end size × (last ≡ joined_variables v w links)
-both_are {v} {n} {w} {m} {links} L R told past numbered ends sized =
-    let r = numbered links (told.1 past) in
-    (record { lefts = L; rights = R; linked = links_right v w links (omega (arith, told.0, past)); numbered = r.1; ends = ends; sized = sized }, r.0)
+both_are {v} {n} {w} {m} {links} L R told numbered ends sized =
+    let r = numbered links told.1 in
+    (record { lefts = L; rights = R; linked = links_right v w links (omega (arith, told.0)); numbered = r.1; ends = ends; sized = sized }, r.0)
 
 module _ {v n w m : ℕ} {links numbering : List ℕ} {numbers others : List ℤ} {end size : ℕ} (B : Both v n w m links numbering numbers others end size) where
   abbrev cs : List (List ℤ)

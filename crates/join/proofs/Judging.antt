@@ -1,5 +1,5 @@
 -- The judgement of a join by its tests: the left text, the right text, the links, the limits. Assumes nothing.
-use Prim.Native.Nat.{ℕ, ◌+◌, ◌/◌, ◌%◌, ◌≤◌, min}
+use Prim.Native.Nat.{ℕ, ◌+◌, ◌≤◌}
 use native.Mathlib.Omega.{arith}
 use mathlib.Core.Path.{◌≡◌, refl, sym, ap, subst, ◌∙◌}
 use mathlib.Core.Bool.{Bool, true, false}
@@ -19,10 +19,6 @@ use Rattle.join.specs.FunctionContracts.{Kept, both_in, with_right}
 use Rattle.std.specs.Prelude.{Result, Ok, Err}
 use Rattle.dimacs.specs.declared.Header.{Header}
 use Rattle.dimacs.specs.Header.{fitting}
-
--- the number of pairs, as the code finds it
-pub pairs_are : (l : ℕ) → l / 2 + min 1 (l % 2) ≡ (l + 1) / 2
-pairs_are l = omega arith
 
 -- of clauses that are refused nothing is kept
 pub judged_refused : {verdict : Result Header Refusal} (cs : List (List ℤ)) (ns : List ℤ) {q : Refusal} → verdict ≡ Err q → Judged verdict cs (Err q) ns

@@ -78,10 +78,6 @@ module _ {v w : ℕ} {links numbering : List ℕ} {lefts rights : List Bool} {i 
   pub stops_right : bad_side v (left_of links) i ≡ false → bad_side w (right_of links) i ≡ true → i ≡ first_bad v w links
   stops_right p e = stops (ap (λ (b : Bool). b || bad_side w (right_of links) i) p ∙ e)
 
-  -- no numbers are promised for links that are refused
-  pub short : pair_count links ≤ i → LinksPut links numbering
-  short h = absurd (omega (arith, h, lt))
-
   module _ (few : v ≤ 1024) (some : w ≤ 1024) (p : bad_side v (left_of links) i ≡ false) (q : bad_side w (right_of links) i ≡ false) where
     left_in : (0 < left_of links i) × (left_of links i ≤ v)
     left_in = inside v (left_of links i) (or_left (outside v (left_of links i)) (any_below i (λ j. eqb (left_of links j) (left_of links i))) p)
@@ -120,8 +116,8 @@ module _ {v w : ℕ} {links numbering : List ℕ} {lefts rights : List Bool} {i 
     pub linking_more : {l r : ℕ} → l ≡ left_of links i → r ≡ right_of links i → Linking v w links (set numbering r l) (set lefts l true) (set rights r true) (i + 1)
     linking_more el er = rw (el, er, add-one i) more
 
-pub linked_all : {v w : ℕ} {links numbering : List ℕ} {lefts rights : List Bool} {i : ℕ} → Linking v w links numbering lefts rights i → length links ≤ 2 * i → (i ≡ first_bad v w links) × LinksPut links numbering
+pub linked_all : {v w : ℕ} {links numbering : List ℕ} {lefts rights : List Bool} {i : ℕ} → Linking v w links numbering lefts rights i → length links ≤ 2 * i → (first_bad v w links ≡ pair_count links) × LinksPut links numbering
 unfolding first
 linked_all {v} {w} {links} {numbering} {lefts} {rights} {i} L over =
     let e : i ≡ pair_count links = omega (arith, L.within, over) in
-    (sym (ap (λ (n : ℕ). first (bad_link v w links) n i) (let z : pair_count links - i ≡ 0 = omega arith in z)) ∙ L.left, record { room = L.room; is = λ x h. L.numbering_is x h ∙ ap (λ (k : ℕ). link_in links k x) e })
+    (sym L.left ∙ ap (λ (n : ℕ). first (bad_link v w links) n i) (let z : pair_count links - i ≡ 0 = omega arith in z) ∙ e, record { room = L.room; is = λ x h. L.numbering_is x h ∙ ap (λ (k : ℕ). link_in links k x) e })

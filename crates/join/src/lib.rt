@@ -3,7 +3,7 @@
 // is linear in the texts and the links.
 #![tactic(auto)]
 
-ghost use Rattle.std.specs.Prelude.{◌≡◌, false, ◌&&◌, ◌||◌, List, map, ℕ, ◌+◌, ◌*◌, ◌≤◌, ◌<◌, length, take, get_or, leb, nat_abs};
+ghost use Rattle.std.specs.Prelude.{◌≡◌, false, ◌&&◌, ◌||◌, List, map, ℕ, ◌+◌, ◌*◌, ◌≤◌, ◌<◌, length, take, get_or, leb, nat_abs, MatchResult};
 ghost use Rattle.std.proofs.lemmas.List.Edits.{sets};
 ghost use Rattle.literal.specs.Ranged.{total};
 ghost use Rattle.dimacs.specs.Numbers.{clauses_in, Judged};
@@ -31,26 +31,26 @@ fn bad_side(x: u32, v: u32, used: &[bool]) -> bool
     x == 0 || v < x || used[x as usize]
 }
 
-// Refusal 15: the first pair with a variable out of range or used before on its side; the number of pairs if there is none, and then each
-// linked right variable has its left one in `numbering`.
-fn link(pairs: &[u32], v: u32, w: u32, numbering: &mut [u32]) -> usize
+// Refusal 15: the first pair with a variable out of range or used before on its side. If there is none, each linked right variable has
+// its left one in `numbering`.
+fn link(pairs: &[u32], v: u32, w: u32, numbering: &mut [u32]) -> Result<(), usize>
     requires { (v ≤ 1024) × ((w ≤ 1024) × Unnumbered numbering.old) }
-    ensures { (result ≡ first_bad v w pairs.now) × (pair_count pairs.now ≤ result → LinksPut pairs.now numbering.new) }
+    ensures { MatchResult result (λ _. (first_bad v w pairs.now ≡ pair_count pairs.now) × LinksPut pairs.now numbering.new)
+        (λ i. (i ≡ first_bad v w pairs.now) × (i < pair_count pairs.now)) }
 {
     let mut lefts = [false; 1025];
     let mut rights = [false; 1025];
-    let count = pairs.len().div_ceil(2);
-    for i in 0..count {
+    for i in 0..pairs.len().div_ceil(2) {
         let l = number_at(pairs, 2 * i);
         let r = number_at(pairs, 2 * i + 1);
         if bad_side(l, v, &lefts) || bad_side(r, w, &rights) {
-            return i;
+            return Err(i);
         }
         lefts[l as usize] = true;
         rights[r as usize] = true;
         numbering[r as usize] = l;
     }
-    count
+    Ok(())
 }
 
 // The right variables that are not linked get the numbers after the left's, in their order; how many variables the join then has.
@@ -128,8 +128,7 @@ fn judge_linked(
         (both_in v n pairs.now m numbers.old others.now) result numbers.new }
 {
     let mut numbering = [0u32; 1025];
-    let bad = link(pairs, v, w, &mut numbering);
-    if bad < pairs.len().div_ceil(2) {
+    if let Err(bad) = link(pairs, v, w, &mut numbering) {
         return Err(Refusal::Link(bad));
     }
     let all = number_rest(&mut numbering, v, w);
