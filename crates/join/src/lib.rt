@@ -128,9 +128,7 @@ fn judge_linked(
         (both_in v n pairs.now m numbers.old others.now) result numbers.new }
 {
     let mut numbering = [0u32; 1025];
-    if let Err(bad) = link(pairs, v, w, &mut numbering) {
-        return Err(Refusal::Link(bad));
-    }
+    link(pairs, v, w, &mut numbering).map_err(Refusal::Link)?;
     let all = number_rest(&mut numbering, v, w);
     let end = size_in(numbers, n as usize);
     let size = size_in(others, m as usize);
