@@ -1,13 +1,14 @@
 -- The loop over the links: the pairs so far are good, their variables are marked, and each right one has its left one in the table of numbers. Assumes nothing.
-use Prim.Native.Nat.{ℕ, suc, ◌+◌, ◌*◌, ◌-◌, ◌≤◌, ◌<◌}
+use Prim.Native.Nat.{ℕ, zero, suc, ◌+◌, ◌*◌, ◌-◌, ◌≤◌, ◌<◌, min}
 use native.Mathlib.Omega.{arith}
 use native.Mathlib.Numerals.{add-one}
 use mathlib.Core.Path.{◌≡◌, refl, sym, ap, ◌∙◌}
 use mathlib.Core.Bool.{Bool, true, false, ◌||◌}
 use mathlib.Core.Logic.{◌⊎◌, inl, inr}
-use mathlib.Core.List.{List}
-use lib.ListN.{length, get_or, set, replicate, length-replicate, length-set}
-use lib.Seq.{get_or-set_same, get_or-set_other}
+use mathlib.Core.List.{List, [], ◌∷◌, ◌++◌}
+use lib.ListN.{length, get_or, set, drop, replicate, length-replicate, length-set, length-drop, length-append}
+use lib.Seq.{get_or-set_same, get_or-set_other, drop_at, drop-drop}
+use Rattle.std.proofs.lemmas.List.{get_or-drop, get_or_past}
 use lib.Dec.{eqb}
 use borrow.Author.Tests.{eq-eqb, ne_eqb}
 use Rattle.base.specs.Decide.{same_or}
@@ -35,6 +36,42 @@ used_more {side} {marks} {i} U low = record { size = length-set marks (side i) t
     by : (x : ℕ) → x < 1025 → (side i ≡ x) ⊎ (side i ≡ x → ⊥) → get_or (set marks (side i) true) x false ≡ elim (eqb (side i) x) [ true ↦ true | false ↦ any_below i (λ j. eqb (side j) x) ]
     by x h (inl e) = ap (λ (k : ℕ). get_or (set marks (side i) true) k false) (sym e) ∙ get_or-set_same marks (side i) true false (omega (arith, low, U.size)) ∙ sym (rw (eq-eqb (side i) x e))
     by x h (inr n) = get_or-set_other marks (side i) x true false (λ e. n (sym e)) ∙ U.is x h ∙ sym (rw (ne_eqb (side i) x n))
+
+-- ---- the pieces of two numbers, the last of which may be shorter
+
+get_or_front : (p r : List ℕ) (k : ℕ) → (length p ≤ k → length r ≡ 0) → get_or (p ++ r) k 0 ≡ get_or p k 0
+get_or_front [] r k h = get_or_past r k 0 (omega (arith, h (omega arith)))
+get_or_front (x ∷ p) r zero h = refl
+get_or_front (x ∷ p) r (suc k) h = get_or_front p r k (λ q. h (omega arith))
+
+pub record Piece (links : List ℕ) (i : ℕ) (pair rest : List ℕ) : Type 0 where
+  pub is : drop (2 * i) links ≡ pair ++ rest
+  pub size : length pair ≡ min 2 (length (drop (2 * i) links))
+  pub some : 0 < length (drop (2 * i) links)
+
+-- what is left of the pieces, as the loop goes on
+pub piece_is : {links pair rest left : List ℕ} {i size : ℕ} → left ≡ drop (2 * i) links → size ≡ 2 → left ≡ pair ++ rest → length pair ≡ min size (length left) → 0 < length left → Piece links i pair rest
+piece_is is two cut many some = record { is = sym is ∙ cut; size = omega (arith, many, two, ap length is); some = omega (arith, some, ap length is) }
+
+module _ {links : List ℕ} {i : ℕ} {pair rest : List ℕ} (P : Piece links i pair rest) where
+  pub more_pairs : 2 * i < length links
+  more_pairs = omega (arith, P.some, length-drop (2 * i) links)
+
+  place_is : (k : ℕ) → k < 2 → get_or pair k 0 ≡ get_or links (2 * i + k) 0
+  place_is k h =
+      sym (get_or_front pair rest k (λ q. omega (arith, q, h, P.size, ap length P.is, length-append pair rest))) ∙ ap (λ (l : List ℕ). get_or l k 0) (sym P.is) ∙ get_or-drop (2 * i) links k 0
+
+  pub left_is : get_or pair 0 0 ≡ left_of links i
+  left_is = place_is 0 (omega arith) ∙ ap (λ (k : ℕ). get_or links k 0) (let e : 2 * i + 0 ≡ 2 * i = omega arith in e)
+
+  pub right_is : get_or pair 1 0 ≡ right_of links i
+  right_is = place_is 1 (omega arith)
+
+  pub next_piece : 2 * (i + 1) ≤ length links → rest ≡ drop (2 * (i + 1)) links
+  next_piece h =
+      let two : length pair ≡ 2 = omega (arith, P.size, length-drop (2 * i) links, h) in
+      let q : 2 * i + 2 ≡ 2 * (i + 1) = omega arith in
+      sym (drop_at pair rest 2 two) ∙ ap (drop 2) (sym P.is) ∙ drop-drop 2 (2 * i) links ∙ ap (λ (k : ℕ). drop k links) q
 
 -- ---- the loop
 

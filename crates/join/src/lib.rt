@@ -40,9 +40,9 @@ fn link(pairs: &[u32], v: u32, w: u32, numbering: &mut [u32]) -> Result<(), usiz
 {
     let mut lefts = [false; 1025];
     let mut rights = [false; 1025];
-    for i in 0..pairs.len().div_ceil(2) {
-        let l = number_at(pairs, 2 * i);
-        let r = number_at(pairs, 2 * i + 1);
+    for (i, pair) in pairs.chunks(2).enumerate() {
+        let l = number_at(pair, 0);
+        let r = number_at(pair, 1);
         if bad_side(l, v, &lefts) || bad_side(r, w, &rights) {
             return Err(i);
         }
