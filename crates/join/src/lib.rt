@@ -16,13 +16,6 @@ ghost use Rattle.join.specs.FunctionContracts.{Unnumbered, LinksPut, Numbered, n
 use dimacs::Header;
 use state::Refusal;
 
-// A number of the table of links, 0 behind its end.
-fn number_at(pairs: &[u32], i: usize) -> u32
-    ensures { result ≡ get_or pairs.now i 0 }
-{
-    pairs.get(i).copied().unwrap_or(0)
-}
-
 // Whether x is none of the variables 1 to v, or used before.
 fn bad_side(x: u32, v: u32, used: &[bool]) -> bool
     requires { (v ≤ 1024) × (length used.now ≡ 1025) }
@@ -41,8 +34,9 @@ fn link(pairs: &[u32], v: u32, w: u32, numbering: &mut [u32]) -> Result<(), usiz
     let mut lefts = [false; 1025];
     let mut rights = [false; 1025];
     for (i, pair) in pairs.chunks(2).enumerate() {
-        let l = number_at(pair, 0);
-        let r = number_at(pair, 1);
+        let l = pair[0];
+        // a number left over is a pair without a right variable
+        let r = pair.get(1).copied().unwrap_or(0);
         if bad_side(l, v, &lefts) || bad_side(r, w, &rights) {
             return Err(i);
         }
