@@ -19,6 +19,9 @@ ghost use Rattle.simplify.specs.Texts.{simplify_text, result_of};
 ghost use Rattle.c_numbers.specs.CCalls.{after_c, call_c, after_write_c, text_c};
 ghost use Rattle.c_numbers.specs.WindowCalls.{after_load_c, load_c, after_learn_c, learn_c};
 
+use state::State;
+use window::Window;
+
 // ---- the calls
 
 // A text is read into the tables, and the window is emptied. The state before it counts for nothing but must be readable, as forty zeros are.
@@ -39,18 +42,10 @@ pub extern "C" fn unhide_load(
     ensures { after_load_c (after_c result answer.new state.new (returned clauses.new literals.new variables.new times.now links.now)) sizes.new learnt.new window.new
         ≡ load_c (load_with text.now) (lent clauses.old literals.old variables.old times.now links.now) state.old answer.old sizes.old learnt.old window.old }
 {
-    if !c_numbers::ready_with(state, answer, window) {
-        return c_numbers::refuse_unread(answer);
-    }
-    let st = c_numbers::state_at(state);
-    let w = c_numbers::window_at(window);
-    let made = load::load(
+    let mut make = |st: State, w: Window| load::load(
         text, clauses, literals, variables, times, links, st, sizes, learnt, w,
     );
-    let outcome = made.outcome;
-    let a = outcome.answer;
-    c_numbers::finish_window(window, a, made.window);
-    c_numbers::finish(state, answer, outcome)
+    c_numbers::call_with(state, answer, window, &mut make)
 }
 
 // Two texts are joined into the tables by the pairs of a link table, and the window is emptied; else as a load.
@@ -73,18 +68,10 @@ pub extern "C" fn unhide_join(
     ensures { after_load_c (after_c result answer.new state.new (returned clauses.new literals.new variables.new times.now links.now)) sizes.new learnt.new window.new
         ≡ load_c (join_with left.now right.now pairs.now) (lent clauses.old literals.old variables.old times.now links.now) state.old answer.old sizes.old learnt.old window.old }
 {
-    if !c_numbers::ready_with(state, answer, window) {
-        return c_numbers::refuse_unread(answer);
-    }
-    let st = c_numbers::state_at(state);
-    let w = c_numbers::window_at(window);
-    let made = load::join(
+    let mut make = |st: State, w: Window| load::join(
         left, right, pairs, clauses, literals, variables, times, links, st, sizes, learnt, w,
     );
-    let outcome = made.outcome;
-    let a = outcome.answer;
-    c_numbers::finish_window(window, a, made.window);
-    c_numbers::finish(state, answer, outcome)
+    c_numbers::call_with(state, answer, window, &mut make)
 }
 
 // Unit propagation, n clauses at a time.
@@ -102,12 +89,10 @@ pub extern "C" fn unhide_propagate(
     ensures { after_c result answer.new state.new (returned clauses.new literals.new variables.new times.now links.now)
         ≡ call_c (propagate_call n) (lent clauses.old literals.old variables.old times.now links.now) state.old answer.old }
 {
-    if !c_numbers::ready(state, answer) {
-        return c_numbers::refuse_unread(answer);
-    }
-    let st = c_numbers::state_at(state);
-    let outcome = propagate::propagate(clauses, literals, variables, times, links, st, n);
-    c_numbers::finish(state, answer, outcome)
+    let mut make = |st: State| propagate::propagate(
+        clauses, literals, variables, times, links, st, n,
+    );
+    c_numbers::call(state, answer, &mut make)
 }
 
 // Equivalent literals become one, n clauses at a time.
@@ -125,12 +110,8 @@ pub extern "C" fn unhide_merge(
     ensures { after_c result answer.new state.new (returned clauses.new literals.new variables.new times.now links.now)
         ≡ call_c (merge_call n) (lent clauses.old literals.old variables.old times.now links.now) state.old answer.old }
 {
-    if !c_numbers::ready(state, answer) {
-        return c_numbers::refuse_unread(answer);
-    }
-    let st = c_numbers::state_at(state);
-    let outcome = merge::merge(clauses, literals, variables, times, links, st, n);
-    c_numbers::finish(state, answer, outcome)
+    let mut make = |st: State| merge::merge(clauses, literals, variables, times, links, st, n);
+    c_numbers::call(state, answer, &mut make)
 }
 
 // Time stamps of all literals, in the order given.
@@ -148,12 +129,8 @@ pub extern "C" fn unhide_stamp(
     ensures { after_c result answer.new state.new (returned clauses.now literals.now variables.now times.new links.new)
         ≡ call_c (stamp_call order.now) (lent clauses.now literals.now variables.now times.old links.old) state.old answer.old }
 {
-    if !c_numbers::ready(state, answer) {
-        return c_numbers::refuse_unread(answer);
-    }
-    let st = c_numbers::state_at(state);
-    let outcome = stamp::stamp(clauses, literals, variables, times, links, st, order);
-    c_numbers::finish(state, answer, outcome)
+    let mut make = |st: State| stamp::stamp(clauses, literals, variables, times, links, st, order);
+    c_numbers::call(state, answer, &mut make)
 }
 
 // The complements of failed literals are set.
@@ -170,12 +147,8 @@ pub extern "C" fn unhide_failed(
     ensures { after_c result answer.new state.new (returned clauses.now literals.now variables.new times.now links.now)
         ≡ call_c failed_call (lent clauses.now literals.now variables.old times.now links.now) state.old answer.old }
 {
-    if !c_numbers::ready(state, answer) {
-        return c_numbers::refuse_unread(answer);
-    }
-    let st = c_numbers::state_at(state);
-    let outcome = failed::failed(clauses, literals, variables, times, links, st);
-    c_numbers::finish(state, answer, outcome)
+    let mut make = |st: State| failed::failed(clauses, literals, variables, times, links, st);
+    c_numbers::call(state, answer, &mut make)
 }
 
 // Hidden tautologies are dropped and hidden literals removed, n clauses at a time.
@@ -193,12 +166,8 @@ pub extern "C" fn unhide_sweep(
     ensures { after_c result answer.new state.new (returned clauses.new literals.new variables.now times.now links.now)
         ≡ call_c (sweep_call n) (lent clauses.old literals.old variables.now times.now links.now) state.old answer.old }
 {
-    if !c_numbers::ready(state, answer) {
-        return c_numbers::refuse_unread(answer);
-    }
-    let st = c_numbers::state_at(state);
-    let outcome = sweep::sweep(clauses, literals, variables, times, links, st, n);
-    c_numbers::finish(state, answer, outcome)
+    let mut make = |st: State| sweep::sweep(clauses, literals, variables, times, links, st, n);
+    c_numbers::call(state, answer, &mut make)
 }
 
 // A learnt clause is judged, and kept in the window or dropped.
@@ -248,12 +217,8 @@ pub extern "C" fn unhide_run(
     ensures { after_c result answer.new state.new (returned clauses.new literals.new variables.new times.new links.new)
         ≡ call_c (run_call count) (lent clauses.old literals.old variables.old times.old links.old) state.old answer.old }
 {
-    if !c_numbers::ready(state, answer) {
-        return c_numbers::refuse_unread(answer);
-    }
-    let st = c_numbers::state_at(state);
-    let outcome = run::run(clauses, literals, variables, times, links, st, count);
-    c_numbers::finish(state, answer, outcome)
+    let mut make = |st: State| run::run(clauses, literals, variables, times, links, st, count);
+    c_numbers::call(state, answer, &mut make)
 }
 
 // The programme that Run follows is replaced.
@@ -271,14 +236,10 @@ pub extern "C" fn unhide_set_programme(
     ensures { after_c result answer.new state.new (returned clauses.now literals.now variables.now times.now links.now)
         ≡ call_c (set_call codes.now) (lent clauses.now literals.now variables.now times.now links.now) state.old answer.old }
 {
-    if !c_numbers::ready(state, answer) {
-        return c_numbers::refuse_unread(answer);
-    }
-    let st = c_numbers::state_at(state);
-    let outcome = set_programme::set_programme(
+    let mut make = |st: State| set_programme::set_programme(
         clauses, literals, variables, times, links, st, codes,
     );
-    c_numbers::finish(state, answer, outcome)
+    c_numbers::call(state, answer, &mut make)
 }
 
 // What stands, written as text.
@@ -296,12 +257,8 @@ pub extern "C" fn unhide_write(
     ensures { after_write_c result answer.new out.new
         ≡ text_c write_call (lent clauses.now literals.now variables.now times.now links.now) state.now answer.old out.old }
 {
-    if !c_numbers::ready(state, answer) {
-        return c_numbers::refuse_unread(answer);
-    }
-    let st = c_numbers::state_at(state);
-    let a = write::write(clauses, literals, variables, times, links, st, out);
-    c_numbers::put_answer(answer, a)
+    let mut make = |st: State| write::write(clauses, literals, variables, times, links, st, out);
+    c_numbers::call_text(state, answer, &mut make)
 }
 
 // What a Sweep would do to the clause of this number, with the chains that show it written as text.
@@ -320,12 +277,10 @@ pub extern "C" fn unhide_explain(
     ensures { after_write_c result answer.new out.new
         ≡ text_c (explain_call number) (lent clauses.now literals.now variables.now times.now links.now) state.now answer.old out.old }
 {
-    if !c_numbers::ready(state, answer) {
-        return c_numbers::refuse_unread(answer);
-    }
-    let st = c_numbers::state_at(state);
-    let a = explain::explain(clauses, literals, variables, times, links, st, number, out);
-    c_numbers::put_answer(answer, a)
+    let mut make = |st: State| explain::explain(
+        clauses, literals, variables, times, links, st, number, out,
+    );
+    c_numbers::call_text(state, answer, &mut make)
 }
 
 // How the intervals of two literals of so many variables lie, by the times as they stand. The viewer asks between any two calls: no state is read, and nothing changes.

@@ -53,6 +53,15 @@ module _ (call : Tables → State → After) (t : Tables) (s a : List ℕ) where
   made_call st o r r' left s' t' able read made result finished =
       ap (λ (z : ℤ). after_c z left s' t') result ∙ finished t' ∙ ap (λ (m : After). told m s a) (made ∙ ap (call t) read) ∙ sym (called able)
 
+  -- what `call` says of its result, its slices and the tables is what the call for C says; r is the number that the function returns, r' the one that `call` gave it
+  pub given_call : (r r' : ℤ) (left s' : List ℕ) (t' : Tables) → r ≡ r' → (ready s a ≡ false → (r' ≡ result_by 1 0) × (left ≡ refuse_unread a) × (s' ≡ s) × (t' ≡ t))
+      → (ready s a ≡ true → (o : Outcome) × (after o t' ≡ call t (state_of s)) × ((u : Tables) → after_c r' left s' u ≡ told (after o u) s a)) → after_c r left s' t' ≡ call_c call t s a
+  given_call r r' left s' t' result unread made = by (ready s a) refl
+    where
+      by : (b : Bool) → ready s a ≡ b → after_c r left s' t' ≡ call_c call t s a
+      by true able = let it = made able in made_call (state_of s) it.0 r r' left s' t' able refl it.1 result it.2
+      by false unready = let it = unread unready in (λ i. after_c r left (it.2 i) (it.3 i)) ∙ unread_call r left unready (result ∙ it.0) it.1
+
 -- ---- a call that writes text
 
 module _ (call : Tables → State → List ℕ → AfterWrite) (t : Tables) (s a out : List ℕ) where
@@ -72,3 +81,12 @@ module _ (call : Tables → State → List ℕ → AfterWrite) (t : Tables) (s a
   unfolding told_write
   made_text st given r left out' able read made result answer =
       (λ i. after_write_c (result i) (answer i) out') ∙ ap (λ (m : AfterWrite). told_write m a) (made ∙ ap (λ (x : State). call t x out) read) ∙ sym (called_text able)
+
+  -- what `call_text` says is what the call for C says
+  pub given_text : (r r' : ℤ) (left out' : List ℕ) → r ≡ r' → (ready s a ≡ false → (r' ≡ result_by 1 0) × (left ≡ refuse_unread a) × (out' ≡ out))
+      → (ready s a ≡ true → (given : Result Answer Refusal) × (after_write given out' ≡ call t (state_of s) out) × (r' ≡ result_by (reply_of given).number 0) × (left ≡ put_answer (reply_of given) a)) → after_write_c r left out' ≡ text_c call t s a out
+  given_text r r' left out' result unread made = by (ready s a) refl
+    where
+      by : (b : Bool) → ready s a ≡ b → after_write_c r left out' ≡ text_c call t s a out
+      by true able = let it = made able in made_text (state_of s) it.0 r left out' able refl it.1 (result ∙ it.2) it.3
+      by false unready = let it = unread unready in ap (λ (l : List ℕ). after_write_c r left l) it.2 ∙ unread_text r left unready (result ∙ it.0) it.1

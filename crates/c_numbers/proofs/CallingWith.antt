@@ -1,7 +1,7 @@
 -- The ways of a call for C that takes the window: the numbers cannot be read, or the call is made on them. Assumes nothing.
 use Prim.Native.Nat.{ℕ}
 use mathlib.Core.Bool.{Bool, true, false}
-use mathlib.Core.Path.{◌≡◌, sym, ap, ◌∙◌}
+use mathlib.Core.Path.{◌≡◌, refl, sym, ap, ◌∙◌}
 use mathlib.Core.List.{List}
 use lib.IntN.{ℤ}
 use Rattle.state.specs.Answers.{reply_of, result_by}
@@ -64,3 +64,14 @@ module _ (call : Tables → State → Places → AfterWindow) (t : Tables) (s a 
     unfolding told_learn
     made_learn r left result answer =
         (λ i. after_learn_c (result i) (answer i) sizes' learnt' (put i)) ∙ ap (λ (m : AfterWindow). told_learn m a w) (made ∙ on_given st window read read-window) ∙ sym (called_learn able)
+
+  -- what `call_with` says is what a load for C says
+  pub given_load : (r r' : ℤ) (left s' : List ℕ) (t' : Tables) (sizes' : List ℕ) (learnt' : List ℤ) (w' : List ℕ) → r ≡ r'
+      → (ready_with s a w ≡ false → (r' ≡ result_by 1 0) × (left ≡ refuse_unread a) × (s' ≡ s) × (w' ≡ w) × (t' ≡ t) × (sizes' ≡ sizes) × (learnt' ≡ learnt))
+      → (ready_with s a w ≡ true → (o : Windowed) × (after_with o t' sizes' learnt' ≡ on_read) × (w' ≡ put_window_by (reply_of o.outcome.answer).number o.window w) × ((u : Tables) → after_c r' left s' u ≡ told (after o.outcome u) s a))
+      → after_load_c (after_c r left s' t') sizes' learnt' w' ≡ load_c call t s a sizes learnt w
+  given_load r r' left s' t' sizes' learnt' w' result unread made = by (ready_with s a w) refl
+    where
+      by : (b : Bool) → ready_with s a w ≡ b → after_load_c (after_c r left s' t') sizes' learnt' w' ≡ load_c call t s a sizes learnt w
+      by true able = let it = made able in made_load (state_of s) (window_at w) it.0 t' sizes' learnt' w' able refl refl it.1 it.2 r r' left s' result it.3
+      by false unready = let it = unread unready in (λ i. after_load_c (after_c r left (it.2 i) (it.4 i)) (it.5 i) (it.6 i) (it.3 i)) ∙ unread_load r left unready (result ∙ it.0) it.1

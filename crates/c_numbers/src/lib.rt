@@ -1,7 +1,8 @@
 // The state and the answer as numbers, for C, which has no type for either: it lends forty numbers for the one and four for the other, and two for the window.
 #![tactic(auto)]
 
-ghost use Rattle.std.specs.Prelude.{◌≡◌, ◌≤◌, [], ◌∷◌, length};
+ghost use Rattle.std.specs.Prelude.{◌≡◌, ◌≤◌, [], ◌∷◌, length, Result, true, false};
+ghost use Rattle.std.specs.Fn.{Takes, Called};
 ghost use Rattle.state.specs.Answers.{reply_of, result_by};
 ghost use Rattle.tables.specs.Tables.{Tables};
 ghost use Rattle.tables.specs.Calls.{after};
@@ -10,7 +11,7 @@ ghost use Rattle.c_numbers.specs.CCalls.{ready, values_of, put_answer, refuse_un
 ghost use Rattle.c_numbers.specs.WindowCalls.{window_at, put_window_by, ready_with};
 
 use state::{Answer, Outcome, Pass, Programme, Refusal, State};
-use window::Window;
+use window::{Window, Windowed};
 
 // ---- the state's numbers
 
@@ -227,6 +228,40 @@ pub fn finish(state: &mut [u32], answer: &mut [u64], outcome: Outcome) -> i64
     put_answer(answer, a)
 }
 
+// A call on the state that the numbers are: `make` makes it. Where they cannot be read, nothing is called.
+pub fn call<F: FnMut(State) -> Outcome>(state: &mut [u32], answer: &mut [u64], make: &mut F) -> i64
+    requires { ready state.old answer.old ≡ true → Takes F.FnMut make.old (state_of state.old, tt) }
+    ensures unread { ready state.old answer.old ≡ false → (result ≡ result_by 1 0) × (answer.new ≡ refuse_unread answer.old) × (state.new ≡ state.old) × (make.new ≡ make.old) }
+    ensures made { ready state.old answer.old ≡ true → (o : Outcome) × Called F.FnMut make.old (state_of state.old, tt) o make.new
+        × ((t : Tables) → after_c result answer.new state.new t ≡ told (after o t) state.old answer.old) }
+{
+    if !ready(state, answer) {
+        return refuse_unread(answer);
+    }
+    let st = state_at(state);
+    let outcome = make(st);
+    finish(state, answer, outcome)
+}
+
+// A call that writes text: it leaves the state.
+pub fn call_text<F: FnMut(State) -> Result<Answer, Refusal>>(
+    state: &[u32],
+    answer: &mut [u64],
+    make: &mut F,
+) -> i64
+    requires { ready state.now answer.old ≡ true → Takes F.FnMut make.old (state_of state.now, tt) }
+    ensures unread { ready state.now answer.old ≡ false → (result ≡ result_by 1 0) × (answer.new ≡ refuse_unread answer.old) × (make.new ≡ make.old) }
+    ensures made { ready state.now answer.old ≡ true → (a : Result Answer Refusal) × Called F.FnMut make.old (state_of state.now, tt) a make.new
+        × (result ≡ result_by (reply_of a).number 0) × (answer.new ≡ put_answer (reply_of a) answer.old) }
+{
+    if !ready(state, answer) {
+        return refuse_unread(answer);
+    }
+    let st = state_at(state);
+    let a = make(st);
+    put_answer(answer, a)
+}
+
 // ---- the window's numbers
 
 // What a call that takes the window asks of all numbers before it looks at anything else.
@@ -257,4 +292,28 @@ pub fn finish_window(window: &mut [u32], a: Result<Answer, Refusal>, left: Windo
         window[0] = left.clauses;
         window[1] = left.literals;
     }
+}
+
+// A call on the state and the window that the numbers are, as `call`.
+pub fn call_with<F: FnMut(State, Window) -> Windowed>(
+    state: &mut [u32],
+    answer: &mut [u64],
+    window: &mut [u32],
+    make: &mut F,
+) -> i64
+    requires { ready_with state.old answer.old window.old ≡ true → Takes F.FnMut make.old (state_of state.old, (window_at window.old, tt)) }
+    ensures unread { ready_with state.old answer.old window.old ≡ false → (result ≡ result_by 1 0) × (answer.new ≡ refuse_unread answer.old) × (state.new ≡ state.old) × (window.new ≡ window.old) × (make.new ≡ make.old) }
+    ensures made { ready_with state.old answer.old window.old ≡ true → (o : Windowed) × Called F.FnMut make.old (state_of state.old, (window_at window.old, tt)) o make.new
+        × (window.new ≡ put_window_by (reply_of o.outcome.answer).number o.window window.old)
+        × ((t : Tables) → after_c result answer.new state.new t ≡ told (after o.outcome t) state.old answer.old) }
+{
+    if !ready_with(state, answer, window) {
+        return refuse_unread(answer);
+    }
+    let st = state_at(state);
+    let w = window_at(window);
+    let made = make(st, w);
+    let outcome = made.outcome;
+    finish_window(window, outcome.answer, made.window);
+    finish(state, answer, outcome)
 }
