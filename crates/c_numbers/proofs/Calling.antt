@@ -43,24 +43,15 @@ module _ (call : Tables → State → After) (t : Tables) (s a : List ℕ) where
   unfolding call_c
   called able = ap by_ready able
 
-  pub unread_call : (r : ℤ) (left : List ℕ) → ready s a ≡ false → r ≡ result_by 1 0 → left ≡ refuse_unread a → after_c r left s t ≡ call_c call t s a
-  unfolding call_c
-  unread_call r left unready result answer = (λ i. after_c (result i) (answer i) s t) ∙ ap by_ready (sym unready)
-
-  -- r is the number that the function returns, r' the one that `finish` gave it
-  pub made_call : (st : State) (o : Outcome) (r r' : ℤ) (left s' : List ℕ) (t' : Tables)
-      → ready s a ≡ true → st ≡ state_of s → after o t' ≡ call t st → r ≡ r' → ((u : Tables) → after_c r' left s' u ≡ told (after o u) s a) → after_c r left s' t' ≡ call_c call t s a
-  made_call st o r r' left s' t' able read made result finished =
-      ap (λ (z : ℤ). after_c z left s' t') result ∙ finished t' ∙ ap (λ (m : After). told m s a) (made ∙ ap (call t) read) ∙ sym (called able)
-
-  -- what `call` says of its result, its slices and the tables is what the call for C says; r is the number that the function returns, r' the one that `call` gave it
+  -- what `call` says of its result, its slices and the tables is what the call for C says. r is the number that the function returns, r' the one that `call` gave it; t' is what the call left of the tables
   pub given_call : (r r' : ℤ) (left s' : List ℕ) (t' : Tables) → r ≡ r' → (ready s a ≡ false → (r' ≡ result_by 1 0) × (left ≡ refuse_unread a) × (s' ≡ s) × (t' ≡ t))
       → (ready s a ≡ true → (o : Outcome) × (after o t' ≡ call t (state_of s)) × ((u : Tables) → after_c r' left s' u ≡ told (after o u) s a)) → after_c r left s' t' ≡ call_c call t s a
-  given_call r r' left s' t' result unread made = by (ready s a) refl
+  unfolding call_c
+  given_call r r' left s' t' result unread made = ap (λ (z : ℤ). after_c z left s' t') result ∙ by (ready s a) refl
     where
-      by : (b : Bool) → ready s a ≡ b → after_c r left s' t' ≡ call_c call t s a
-      by true able = let it = made able in made_call (state_of s) it.0 r r' left s' t' able refl it.1 result it.2
-      by false unready = let it = unread unready in (λ i. after_c r left (it.2 i) (it.3 i)) ∙ unread_call r left unready (result ∙ it.0) it.1
+      by : (b : Bool) → ready s a ≡ b → after_c r' left s' t' ≡ by_ready (ready s a)
+      by true able = let it = made able in it.2 t' ∙ ap (λ (m : After). told m s a) it.1 ∙ ap by_ready (sym able)
+      by false unready = let it = unread unready in (λ i. after_c (it.0 i) (it.1 i) (it.2 i) (it.3 i)) ∙ ap by_ready (sym unready)
 
 -- ---- a call that writes text
 
@@ -72,21 +63,12 @@ module _ (call : Tables → State → List ℕ → AfterWrite) (t : Tables) (s a
   unfolding text_c
   called_text able = ap text_by_ready able
 
-  pub unread_text : (r : ℤ) (left : List ℕ) → ready s a ≡ false → r ≡ result_by 1 0 → left ≡ refuse_unread a → after_write_c r left out ≡ text_c call t s a out
-  unfolding text_c
-  unread_text r left unready result answer = (λ i. after_write_c (result i) (answer i) out) ∙ ap text_by_ready (sym unready)
-
-  pub made_text : (st : State) (given : Result Answer Refusal) (r : ℤ) (left out' : List ℕ)
-      → ready s a ≡ true → st ≡ state_of s → after_write given out' ≡ call t st out → r ≡ result_by (reply_of given).number 0 → left ≡ put_answer (reply_of given) a → after_write_c r left out' ≡ text_c call t s a out
-  unfolding told_write
-  made_text st given r left out' able read made result answer =
-      (λ i. after_write_c (result i) (answer i) out') ∙ ap (λ (m : AfterWrite). told_write m a) (made ∙ ap (λ (x : State). call t x out) read) ∙ sym (called_text able)
-
   -- what `call_text` says is what the call for C says
   pub given_text : (r r' : ℤ) (left out' : List ℕ) → r ≡ r' → (ready s a ≡ false → (r' ≡ result_by 1 0) × (left ≡ refuse_unread a) × (out' ≡ out))
       → (ready s a ≡ true → (given : Result Answer Refusal) × (after_write given out' ≡ call t (state_of s) out) × (r' ≡ result_by (reply_of given).number 0) × (left ≡ put_answer (reply_of given) a)) → after_write_c r left out' ≡ text_c call t s a out
-  given_text r r' left out' result unread made = by (ready s a) refl
+  unfolding text_c told_write
+  given_text r r' left out' result unread made = ap (λ (z : ℤ). after_write_c z left out') result ∙ by (ready s a) refl
     where
-      by : (b : Bool) → ready s a ≡ b → after_write_c r left out' ≡ text_c call t s a out
-      by true able = let it = made able in made_text (state_of s) it.0 r left out' able refl it.1 (result ∙ it.2) it.3
-      by false unready = let it = unread unready in ap (λ (l : List ℕ). after_write_c r left l) it.2 ∙ unread_text r left unready (result ∙ it.0) it.1
+      by : (b : Bool) → ready s a ≡ b → after_write_c r' left out' ≡ text_by_ready (ready s a)
+      by true able = let it = made able in (λ i. after_write_c (it.2 i) (it.3 i) out') ∙ ap (λ (m : AfterWrite). told_write m a) it.1 ∙ ap text_by_ready (sym able)
+      by false unready = let it = unread unready in (λ i. after_write_c (it.0 i) (it.1 i) (it.2 i)) ∙ ap text_by_ready (sym unready)

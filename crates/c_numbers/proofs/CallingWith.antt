@@ -34,9 +34,17 @@ module _ (call : Tables → State → Places → AfterWindow) (t : Tables) (s a 
   unfolding load_c
   called_load able = ap load_by_ready able
 
-  pub unread_load : (r : ℤ) (left : List ℕ) → ready_with s a w ≡ false → r ≡ result_by 1 0 → left ≡ refuse_unread a → after_load_c (after_c r left s t) sizes learnt w ≡ load_c call t s a sizes learnt w
-  unfolding load_c
-  unread_load r left unready result answer = (λ i. after_load_c (after_c (result i) (answer i) s t) sizes learnt w) ∙ ap load_by_ready (sym unready)
+  -- what `call_with` says is what a load for C says. r is the number that the function returns, r' the one that `call_with` gave it; t', sizes' and learnt' are what the call left of the tables
+  pub given_load : (r r' : ℤ) (left s' : List ℕ) (t' : Tables) (sizes' : List ℕ) (learnt' : List ℤ) (w' : List ℕ) → r ≡ r'
+      → (ready_with s a w ≡ false → (r' ≡ result_by 1 0) × (left ≡ refuse_unread a) × (s' ≡ s) × (w' ≡ w) × (t' ≡ t) × (sizes' ≡ sizes) × (learnt' ≡ learnt))
+      → (ready_with s a w ≡ true → (o : Windowed) × (after_with o t' sizes' learnt' ≡ on_read) × (w' ≡ put_window_by (reply_of o.outcome.answer).number o.window w) × ((u : Tables) → after_c r' left s' u ≡ told (after o.outcome u) s a))
+      → after_load_c (after_c r left s' t') sizes' learnt' w' ≡ load_c call t s a sizes learnt w
+  unfolding load_c told_load
+  given_load r r' left s' t' sizes' learnt' w' result unread made = ap (λ (z : ℤ). after_load_c (after_c z left s' t') sizes' learnt' w') result ∙ by (ready_with s a w) refl
+    where
+      by : (b : Bool) → ready_with s a w ≡ b → after_load_c (after_c r' left s' t') sizes' learnt' w' ≡ load_by_ready (ready_with s a w)
+      by true able = let it = made able in (λ i. after_load_c (it.3 t' i) sizes' learnt' (it.2 i)) ∙ ap (λ (m : AfterWindow). told_load m s a w) it.1 ∙ ap load_by_ready (sym able)
+      by false unready = let it = unread unready in (λ i. after_load_c (after_c (it.0 i) (it.1 i) (it.2 i) (it.4 i)) (it.5 i) (it.6 i) (it.3 i)) ∙ ap load_by_ready (sym unready)
 
   -- ---- a learnt clause
 
@@ -54,24 +62,7 @@ module _ (call : Tables → State → Places → AfterWindow) (t : Tables) (s a 
   -- ---- a call that is made: o is what it gives back; t', sizes', learnt' and w' are the tables and the window's numbers as it leaves them
   module _ (st : State) (window : Window) (o : Windowed) (t' : Tables) (sizes' : List ℕ) (learnt' : List ℤ) (w' : List ℕ) (able : ready_with s a w ≡ true)
       (read : st ≡ state_of s) (read-window : window ≡ window_at w) (made : after_with o t' sizes' learnt' ≡ call t st (places sizes learnt window)) (put : w' ≡ put_window_by (reply_of o.outcome.answer).number o.window w) where
-    -- r is the number that the function returns, r' the one that `finish` gave it
-    pub made_load : (r r' : ℤ) (left s' : List ℕ) → r ≡ r' → ((u : Tables) → after_c r' left s' u ≡ told (after o.outcome u) s a) → after_load_c (after_c r left s' t') sizes' learnt' w' ≡ load_c call t s a sizes learnt w
-    unfolding told_load
-    made_load r r' left s' result finished =
-        ap (λ (z : ℤ). after_load_c (after_c z left s' t') sizes' learnt' w') result ∙ (λ i. after_load_c (finished t' i) sizes' learnt' (put i)) ∙ ap (λ (m : AfterWindow). told_load m s a w) (made ∙ on_given st window read read-window) ∙ sym (called_load able)
-
     pub made_learn : (r : ℤ) (left : List ℕ) → r ≡ result_by (reply_of o.outcome.answer).number 0 → left ≡ put_answer (reply_of o.outcome.answer) a → after_learn_c r left sizes' learnt' w' ≡ learn_c call t s a sizes learnt w
     unfolding told_learn
     made_learn r left result answer =
         (λ i. after_learn_c (result i) (answer i) sizes' learnt' (put i)) ∙ ap (λ (m : AfterWindow). told_learn m a w) (made ∙ on_given st window read read-window) ∙ sym (called_learn able)
-
-  -- what `call_with` says is what a load for C says
-  pub given_load : (r r' : ℤ) (left s' : List ℕ) (t' : Tables) (sizes' : List ℕ) (learnt' : List ℤ) (w' : List ℕ) → r ≡ r'
-      → (ready_with s a w ≡ false → (r' ≡ result_by 1 0) × (left ≡ refuse_unread a) × (s' ≡ s) × (w' ≡ w) × (t' ≡ t) × (sizes' ≡ sizes) × (learnt' ≡ learnt))
-      → (ready_with s a w ≡ true → (o : Windowed) × (after_with o t' sizes' learnt' ≡ on_read) × (w' ≡ put_window_by (reply_of o.outcome.answer).number o.window w) × ((u : Tables) → after_c r' left s' u ≡ told (after o.outcome u) s a))
-      → after_load_c (after_c r left s' t') sizes' learnt' w' ≡ load_c call t s a sizes learnt w
-  given_load r r' left s' t' sizes' learnt' w' result unread made = by (ready_with s a w) refl
-    where
-      by : (b : Bool) → ready_with s a w ≡ b → after_load_c (after_c r left s' t') sizes' learnt' w' ≡ load_c call t s a sizes learnt w
-      by true able = let it = made able in made_load (state_of s) (window_at w) it.0 t' sizes' learnt' w' able refl refl it.1 it.2 r r' left s' result it.3
-      by false unready = let it = unread unready in (λ i. after_load_c (after_c r left (it.2 i) (it.4 i)) (it.5 i) (it.6 i) (it.3 i)) ∙ unread_load r left unready (result ∙ it.0) it.1
