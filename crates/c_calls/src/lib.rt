@@ -1,4 +1,4 @@
-// The calls for C. Each function reads the state from its numbers (crate c_numbers), makes the call of the same name, and puts the state and the answer into theirs; the last two have no state.
+// The calls for C. Each function lends the call of the same name to crate c_numbers, which reads the state from its numbers, makes the call, and puts the state and the answer into theirs; unhide_learn, which leaves the state, takes these steps itself; the last two have no state.
 #![tactic(auto)]
 
 ghost use Rattle.std.specs.Prelude.{◌≡◌};

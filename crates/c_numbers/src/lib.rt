@@ -228,7 +228,9 @@ fn finish(state: &mut [u32], answer: &mut [u64], outcome: Outcome) -> i64
     put_answer(answer, a)
 }
 
-// A call on the state that the numbers are: `make` makes it. Where they cannot be read, nothing is called.
+// ---- a call
+
+// A call on the state that the numbers are: `make` makes it, and its answer and its state are put into theirs. Where they cannot be read, nothing is called.
 pub fn call<F: FnMut(State) -> Outcome>(state: &mut [u32], answer: &mut [u64], make: &mut F) -> i64
     requires { ready state.old answer.old ≡ true → Takes F.FnMut make.old (state_of state.old, tt) }
     ensures unread { ready state.old answer.old ≡ false → (result ≡ result_by 1 0) × (answer.new ≡ refuse_unread answer.old) × (state.new ≡ state.old) × (make.new ≡ make.old) }
@@ -243,7 +245,7 @@ pub fn call<F: FnMut(State) -> Outcome>(state: &mut [u32], answer: &mut [u64], m
     finish(state, answer, outcome)
 }
 
-// A call that writes text: it leaves the state.
+// A call that writes text, as `call`: the state is lent to it for reading only.
 pub fn call_text<F: FnMut(State) -> Result<Answer, Refusal>>(
     state: &[u32],
     answer: &mut [u64],
@@ -294,7 +296,7 @@ pub fn finish_window(window: &mut [u32], a: Result<Answer, Refusal>, left: Windo
     }
 }
 
-// A call on the state and the window that the numbers are, as `call`.
+// A call on the state and the window that the numbers are, as `call`: what it leaves of the window is put into its numbers too.
 pub fn call_with<F: FnMut(State, Window) -> Windowed>(
     state: &mut [u32],
     answer: &mut [u64],

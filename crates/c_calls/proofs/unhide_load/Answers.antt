@@ -1,3 +1,4 @@
+-- The numbers cannot be read, or the call is made on them.
 use Rattle.std.proofs.Common.{rules}
 use mir.Syntax.{w64}
 use mir.Facts.{to_z-of_z}

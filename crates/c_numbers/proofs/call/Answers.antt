@@ -1,3 +1,4 @@
+-- Numbers that can be read are long enough.
 use Rattle.std.proofs.Common.{sym, ◌∙◌}
 use Rattle.c_numbers.proofs.Reading.{ready_long}
 use Rattle.c_numbers.proofs.call.Goals as goal
