@@ -12,7 +12,7 @@ use Rattle.state.specs.declared.State.{State}
 use Rattle.programmes.specs.Rules.{Passing}
 use Rattle.state.specs.declared.Pass.TheVariants.{Merge}
 use Rattle.state.specs.declared.Refusal.{Refusal}
-use Rattle.tables.specs.Tables.{Tables, tables}
+use Rattle.tables.specs.Tables.{Tables}
 use Rattle.tables.specs.Fates.{visits}
 use Rattle.tables.specs.Passes.{first_unsettled}
 use Rattle.tables.specs.Calls.{After}

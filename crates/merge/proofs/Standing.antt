@@ -19,7 +19,7 @@ use Rattle.state.specs.declared.State.{State}
 use Rattle.state.specs.declared.Pass.{Pass}
 use Rattle.state.specs.declared.Pass.TheVariants.{Idle, Merge}
 use Rattle.state.specs.declared.Refusal.{Refusal}
-use Rattle.tables.specs.Tables.{Tables, length_of, standing, class_of, value_of, tables}
+use Rattle.tables.specs.Tables.{Tables, length_of, standing, class_of, value_of}
 use Rattle.tables.specs.Values.{class_literal}
 use Rattle.tables.specs.Clauses.{literals_of}
 use Rattle.tables.specs.Fates.{Fate, left, dropped, store, visit, visits, shortened, dropped_at}

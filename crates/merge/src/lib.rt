@@ -137,8 +137,7 @@ fn merge_settled(
         ≡ merge_settled steps (lent clauses.old literals.old variables.old times links) st }
 {
     let n = st.n as usize;
-    let first = visits::first_unsettled(clauses, literals, variables, n);
-    if first < n {
+    if let Some(first) = visits::first_unsettled(clauses, literals, variables, n) {
         return Outcome {
             answer: Err(Refusal::Unsettled(first as u32 + 1)),
             state: st,

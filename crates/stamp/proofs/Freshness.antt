@@ -4,7 +4,7 @@
 --     stamps_stamped  the stamps of any clauses are a forest of their implication graph, with every slot entered
 --     entries_below   every parent and every start in the columns is a slot
 -- Assumes nothing.
-use Prim.Native.Nat.{ℕ, zero, suc, ◌+◌, ◌*◌, ◌/◌, ◌-◌, ◌≤◌, ◌<◌}
+use Prim.Native.Nat.{ℕ, zero, suc, ◌+◌, ◌*◌, ◌/◌, ◌≤◌, ◌<◌}
 use native.Mathlib.Omega.{arith}
 use mathlib.Core.Path.{◌≡◌, refl, sym, ap, ◌∙◌}
 use mathlib.Core.Bool.{Bool}
@@ -17,7 +17,7 @@ use Rattle.base.specs.Lists.{absent, filter, interleave}
 use Rattle.base.proofs.Lists.{get_d_any, mem_filter}
 use Rattle.literal.specs.Literals.{slot_of, lit_at}
 use Rattle.stamps.specs.Fresh.{discovery_in, finish_in, parent_in, start_in, Times, FreshStamps}
-use Rattle.stamps.proofs.Local.{Around, Under, Entered, Left, fresh_from}
+use Rattle.stamps.proofs.Local.{Around, Entered, Left, fresh_from}
 use Rattle.walk.specs.Walk.{Stamps, edges, start_walk, stamp_all, Lists}
 use Rattle.walk.specs.Forest.{discovery_at, finish_at, parent_at, start_at, Holds, Parted, Forest, Top}
 use Rattle.walk.proofs.Run.{Less, less_trans, edges_less, enters_less}

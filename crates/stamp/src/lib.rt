@@ -54,8 +54,7 @@ pub fn ask_ordered(
         return Err(Refusal::Order(wrong));
     }
     let n = st.n as usize;
-    let unsettled = visits::first_unsettled(clauses, literals, variables, n);
-    if unsettled < n {
+    if let Some(unsettled) = visits::first_unsettled(clauses, literals, variables, n) {
         return Err(Refusal::Unsettled(unsettled as u32 + 1));
     }
     Ok(())

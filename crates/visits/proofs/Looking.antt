@@ -4,17 +4,12 @@ use native.Mathlib.Numerals.{add-one}
 use native.Mathlib.Omega.{arith}
 use mathlib.Core.Path.{◌≡◌, sym, ap, ◌∙◌}
 use mathlib.Core.Bool.{Bool, true, false, ◌&&◌, ◌||◌}
-use mathlib.Core.List.{List}
-use lib.IntN.{ℤ}
 use lib.Dec.{eqb}
 use borrow.Author.Tests.{eq-eqb, ne_eqb}
 use Rattle.base.specs.Lists.{any, first}
 use Rattle.tables.specs.Tables.{Tables, length_of, standing}
 use Rattle.tables.specs.Clauses.{literals_of}
 use Rattle.tables.specs.Passes.{valued, unsettled, first_unsettled}
-use Rattle.visits.specs.Formed.{Formed}
-use Rattle.visits.proofs.Forming.{record_place, part_inside, clause_known}
-use Rattle.visits.specs.Settled.{Asked}
 
 -- ---- one clause
 
@@ -59,7 +54,3 @@ module _ (t : Tables) (n i : ℕ) (lt : i < n) (F : FoundFrom t n i) where
 pub found_end : (t : Tables) (n i : ℕ) → i ≤ n → n ≤ i → FoundFrom t n i → n ≡ first_unsettled t n
 unfolding first
 found_end t n i a b F = let e : n ≡ i = omega arith in e ∙ sym (ap (λ (m : ℕ). first (unsettled t) m i) (let z : n - i ≡ 0 = omega arith in z)) ∙ F
-
--- formed tables can be looked at
-pub formed_asked : {v n s : ℕ} {mark : Bool} {c : List ℕ} {l w : List ℤ} → Formed v n s mark c l w → (i : ℕ) → i < n → Asked i c l w
-formed_asked F i lt = record { placed = record { record_in = record_place F i lt; within = F.rule.parts.inside i lt }; inside = part_inside F i lt; known = clause_known F i lt }

@@ -1,7 +1,7 @@
 // Classes and values of literals, and the clauses in the tables: what the passes that visit clauses share.
 #![tactic(auto)]
 
-ghost use Rattle.std.specs.Prelude.{◌≡◌, ◌*◌, ◌-◌, ◌≤◌, ℕ, ◌+◌, ◌<◌, ◌++◌, take, drop, length, set, List, ℤ};
+ghost use Rattle.std.specs.Prelude.{◌≡◌, ◌*◌, ◌-◌, ◌≤◌, ℕ, ◌+◌, ◌<◌, ◌++◌, take, drop, length, set, List, ℤ, MatchOption};
 ghost use Rattle.std.specs.Fn.{Takes, CalledAtMut};
 ghost use denote.Ref.{MutBor};
 ghost use Rattle.tables.specs.Values.{class_literal, own_truth, truth, is_true, is_false, set_true};
@@ -258,15 +258,20 @@ fn is_unsettled(clauses: &[u32], literals: &[i32], variables: &[i32], i: usize) 
     flag_of(clauses, i) == 1 && (size == 1 || any_valued(part, variables))
 }
 
-// The first such clause of n, counted from 0; n if there is none. The clauses lie in the tables by the shape rule.
-pub fn first_unsettled(clauses: &[u32], literals: &[i32], variables: &[i32], n: usize) -> usize
+// The first such clause of n, counted from 0, if there is one. The clauses lie in the tables by the shape rule.
+pub fn first_unsettled(
+    clauses: &[u32],
+    literals: &[i32],
+    variables: &[i32],
+    n: usize,
+) -> Option<usize>
     requires { ((i : ℕ) → i < n → Asked i clauses.now literals.now variables.now) × (n ≤ 4096) }
-    ensures { (times : List ℕ) (links : List ℤ) → result ≡ first_unsettled (lent clauses.now literals.now variables.now times links) n }
+    ensures { (times : List ℕ) (links : List ℤ) → MatchOption result (first_unsettled (lent clauses.now literals.now variables.now times links) n ≡ n) (λ i. (i ≡ first_unsettled (lent clauses.now literals.now variables.now times links) n) × (i < n)) }
 {
     for i in 0..n {
         if is_unsettled(clauses, literals, variables, i) {
-            return i;
+            return Some(i);
         }
     }
-    n
+    None
 }

@@ -10,7 +10,7 @@ loop-i-init c times links = found_none (tables c.args.clauses.now c.args.literal
 pub returns-then-is_unsettled : goal.returns-then-is_unsettled
 returns-then-is_unsettled c times links =
     let a = c.args in
-    found_here (tables a.clauses.now a.literals.now a.variables.now times links) a.n c.loop-i.i c.loop-i-test.true (c.loop-i.invariant times links) (sym c.if-is_unsettled.true ∙ c.is_unsettled.ensures times links)
+    (found_here (tables a.clauses.now a.literals.now a.variables.now times links) a.n c.loop-i.i c.loop-i-test.true (c.loop-i.invariant times links) (sym c.if-is_unsettled.true ∙ c.is_unsettled.ensures times links), c.loop-i-test.true)
 
 pub loop-i-preserved : goal.loop-i-preserved
 loop-i-preserved c times links =
@@ -20,4 +20,4 @@ loop-i-preserved c times links =
 pub returns : goal.returns
 returns c times links =
     let a = c.args in
-    found_end (tables a.clauses.now a.literals.now a.variables.now times links) a.n c.loop-i.i (omega arith) c.loop-i-test.false (c.loop-i.invariant times links)
+    sym (found_end (tables a.clauses.now a.literals.now a.variables.now times links) a.n c.loop-i.i (omega arith) c.loop-i-test.false (c.loop-i.invariant times links))
