@@ -11,11 +11,11 @@ pub fn print_into(input: &[u8], out: &mut [u8]) -> usize
 {
     let is_long = 65535 < input.len();
     if is_long {
-        return printing::put_refusal(out, 3, 65535);
+        return printing::put_refusal(out, 0, 3, 65535);
     }
     let answer = simplify::simplify_text(input, 1, out);
     match answer {
         Ok(answer) => answer.value() as usize,
-        Err(refusal) => printing::put_refusal(out, refusal.number(), refusal.place()),
+        Err(refusal) => printing::put_refusal(out, 0, refusal.number(), refusal.place()),
     }
 }

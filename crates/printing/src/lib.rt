@@ -114,12 +114,12 @@ impl<'a> Writer<'a> {
     }
 }
 
-// The line `refused NUMBER PLACE`, from the front of the output on; how long it is.
-pub fn put_refusal(out: &mut [u8], number: u64, place: u64) -> usize
-    requires { length (refused_line number place) < 2 ^ 63 }
-    ensures { Stored (refused_line number place) 0 out.old out.new result }
+// The line `refused NUMBER PLACE`, from a place of the output on; the place behind it.
+pub fn put_refusal(out: &mut [u8], at: usize, number: u64, place: u64) -> usize
+    requires { at + length (refused_line number place) < 2 ^ 63 }
+    ensures { Stored (refused_line number place) at out.old out.new result }
 {
-    let mut writer = Writer::new(out);
+    let mut writer = Writer { out, at };
     writer.put_line(b"refused ", number, place);
     writer.at
 }
