@@ -38,7 +38,7 @@ fn readable(state: &[u32]) -> bool
 }
 
 // What a call asks of the numbers before it looks at anything else.
-fn ready(state: &[u32], answer: &[u64]) -> bool
+pub fn ready(state: &[u32], answer: &[u64]) -> bool
     ensures { result ≡ ready state.now answer.now }
 {
     answer.len() >= 4 && readable(state)
@@ -215,7 +215,7 @@ pub fn refuse_unread(answer: &mut [u64]) -> i64
 }
 
 // After a call: its answer and, where it was made, the state. Both slices are long enough, as `ready` has seen.
-fn finish(state: &mut [u32], answer: &mut [u64], outcome: Outcome) -> i64
+pub fn finish(state: &mut [u32], answer: &mut [u64], outcome: Outcome) -> i64
     requires { (40 ≤ length state.old) × (4 ≤ length answer.old) }
     ensures { (t : Tables) → after_c result answer.new state.new t ≡ told (after outcome t) state.old answer.old }
 {
