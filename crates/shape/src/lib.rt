@@ -22,8 +22,7 @@ fn row_ok(start: u32, len: u32, flag: u32, floor: u32, end: u32) -> bool
 {
     flag <= 1
         && floor <= start
-        && start <= 16384
-        && len <= 16384 - start
+        && start as usize + len as usize <= 16384
         && (len == 0 || (flag != 0 && end <= start))
 }
 
@@ -93,7 +92,10 @@ pub fn literals_ok(
 fn empty_ok(flag: u32, len: usize, mark: bool) -> bool
     ensures { Decides result (flag ≡ 1 → len ≡ 0 → mark ≡ true) }
 {
-    mark || len != 0 || flag != 1
+    match (len, flag) {
+        (0, 1) => mark,
+        _ => true,
+    }
 }
 
 // The clauses whose records are right, with an empty table of where each variable stood last.
