@@ -1,5 +1,5 @@
 -- `propagate_visits::visit_clause` meets its contract. Assumes nothing.
-use Rattle.std.proofs.Common.{◌≡◌, ◌≤◌, inl, inr, arith, rules, subst, sym, length}
+use Rattle.std.proofs.Common.{◌≡◌, ◌≤◌, inl, inr, arith, rules, subst, sym, length, List, ℤ}
 use Rattle.base.specs.Decide.{zero_or}
 use Rattle.tables.specs.Tables.{standing}
 use Rattle.tables.specs.Clauses.{literals_of}
@@ -17,6 +17,10 @@ visit_clause-requires-clause-callable c = λ p is.
     let short : length p.now ≤ 16384 = rw is (part_short R.formed c.args.k R.below) in
     search rules
 
+-- what is said of the clause that is shown holds of the clause
+values_as : (w shown now : List ℤ) {after : List ℤ} → shown ≡ now → after ≡ variables_after (propagate_clause w shown) w → after ≡ variables_after (propagate_clause w now) w
+values_as w shown now {after} same e = subst (λ (l : List ℤ). after ≡ variables_after (propagate_clause w l) w) same e
+
 pub returns : goal.returns
 returns c =
     let a = c.args in
@@ -32,7 +36,7 @@ returns c =
           let at = it.1 in
           let said : part_of v.result at.left.now ≡ part_after (propagate_clause w at.shown.now) at.shown.now = search rules in
           let part : part_of v.result it.0 ≡ part_after (propagate_clause w now) now = cc in
-          let shown : v.new.visit.0.now ≡ variables_after (propagate_clause w at.shown.now) w = search rules in
-          let values : v.new.visit.0.now ≡ variables_after (propagate_clause w now) w = cc in
-          visited_is a.k a.clauses.now a.literals.now w (visitable_inside c.requires) (propagate_clause w) (λ e. omega (arith, e, h)) v.result v.new.clauses v.new.literals it.0 _ part (search rules) it.2 it.3
+          let same : at.shown.now ≡ now = cc in
+          visited_is a.k a.clauses.now a.literals.now w (visitable_inside c.requires) (propagate_clause w) (λ e. omega (arith, e, h)) v.result v.new.clauses v.new.literals it.0 _ part
+          (values_as w at.shown.now now same (search rules)) it.2 it.3
     ]
