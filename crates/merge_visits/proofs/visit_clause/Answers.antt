@@ -5,7 +5,6 @@ use Rattle.tables.specs.Tables.{standing}
 use Rattle.tables.specs.Clauses.{literals_of}
 use Rattle.visits.specs.Formed.{EachKnown}
 use Rattle.visits.specs.Visited.{part_of, part_after}
-use Rattle.repeats.specs.Marks.{no_marks}
 use Rattle.visits.proofs.Forming.{clause_known, part_short}
 use Rattle.visits.proofs.Composing.{visited_gone, shrinks_variables, visited_is, visitable_inside}
 use Rattle.merge_visits.specs.Clause.{merge_clause}
@@ -35,8 +34,7 @@ returns c =
           let it = v.ensures.seen (λ e. omega (arith, e, h)) in
           let at = it.1 in
           let said : part_of v.result at.left.now ≡ part_after (merge_clause w at.shown.now) at.shown.now = search rules in
-          let part : part_of v.result it.0 ≡ part_after (merge_clause w now) now = cc in
-          let marks : v.new.visit.1.now ≡ no_marks = search rules in (
+          let part : part_of v.result it.0 ≡ part_after (merge_clause w now) now = cc in (
             visited_is a.k a.clauses.now a.literals.now w (visitable_inside c.requires.0) (merge_clause w) (λ e. omega (arith, e, h)) v.result v.new.clauses v.new.literals it.0 w part (shrinks_variables w (merge_shrinks w _)) it.2 it.3,
             search rules,
           )
