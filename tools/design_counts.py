@@ -32,10 +32,21 @@ def items(keyword):
 
 
 def functions():
-    """Functions, each with the names and types of its parameters, its contract and its body."""
+    """Functions, each with the names and types of its parameters and its body."""
+    head = re.compile(r"^( *)(?:pub )?(?:extern \"C\" )?fn (\w+)")
     for name, text in files.items():
-        for m in re.finditer(r"^( *)(?:pub )?(?:extern \"C\" )?fn (\w+)(<[^(]*>)?\((.*?)\)(?: -> [^\n]*?)?(?:\n((?:    .*?\n)*?))?\1\{\n(.*?)^\1\}", text, re.M | re.S):
-            yield name, m.group(2), m.group(4), m.group(5) or "", m.group(6)
+        rows = text.split("\n")
+        for at, row in enumerate(rows):
+            m = head.match(row)
+            if not m:
+                continue
+            end = next((k for k in range(at, len(rows)) if rows[k] == m.group(1) + "}"), None)
+            begin = next((k for k in range(at, len(rows)) if rows[k].rstrip().endswith("{") and not re.match(r"\s*(requires|ensures)\b", rows[k])), None)
+            if end is None or begin is None or end < begin:
+                continue
+            signature = " ".join(re.split(r"\n\s*(?:requires|ensures)\b", "\n".join(rows[at:begin + 1]))[0].split("\n"))
+            parameters = re.search(r"\((.*)\)", re.sub(r"fn \w+<[^(]*>+\(", "fn (", signature))
+            yield name, m.group(2), parameters.group(1) if parameters else "", "\n".join(rows[begin + 1:end])
 
 
 def result_shaped():
@@ -76,7 +87,7 @@ GROUPS = [
 def together():
     for group in GROUPS:
         found = []
-        for name, fn, parameters, contract, body in functions():
+        for name, fn, parameters, body in functions():
             names = re.findall(r"(\w+):", parameters)
             if all(g in names for g in group):
                 found.append(f"{name}: {fn}")
