@@ -116,18 +116,17 @@ fn clauses_by(
         let start = clauses[3 * i] as usize;
         let len = clauses[3 * i + 1] as usize;
         let flag = clauses[3 * i + 2];
-        if !empty_ok(flag, len, mark)
-            || !literals_ok(
-                literals,
-                variables,
-                start,
-                len,
-                v,
-                i < settled,
-                i as u32 + 1,
-                last,
-            )
-        {
+        let literals_hold = literals_ok(
+            literals,
+            variables,
+            start,
+            len,
+            v,
+            i < settled,
+            i as u32 + 1,
+            last,
+        );
+        if !literals_hold || !empty_ok(flag, len, mark) {
             return false;
         }
     }
